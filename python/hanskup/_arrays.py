@@ -102,7 +102,8 @@ class Arrays:
 
     @cached_property
     def vertex_neighbor_vertices(self) -> tuple[np.ndarray, np.ndarray]:
-        """(n + 1,) and (k,): the points that share a simplex with point i are indices[indptr[i]:indptr[i + 1]], ascending.
+        """(n + 1,) and (k,): the points that share a simplex with point i, ascending, are
+        indices[indptr[i]:indptr[i + 1]].
 
         A point that fell together with an earlier one, or that went, has none.
         """

@@ -94,7 +94,8 @@ class Replies(unittest.TestCase):
             told = [line.lower() for line in text.read_text().splitlines()]
             told = told[2:2 + int(told[1].split()[1])]
             mesh = _library.Edited(np.array(points))
-            replies = [getattr(mesh, names[edit[0]])(*np.array(edit[1:], int).reshape(-1, 3).tolist()) for edit in edits]
+            replies = [getattr(mesh, names[edit[0]])(*np.array(edit[1:], int).reshape(-1, 3).tolist())
+                       for edit in edits]
             self.assertEqual(replies, told[len(points):], path.name)
             rows = {word: [list(map(int, row)) for row in rows] for word, _, rows in sections(text)}
             self.assertEqual(mesh.rows().points.tolist(), rows['points'])

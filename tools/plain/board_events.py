@@ -94,7 +94,8 @@ def share(grid, b, history):
 def opening(grid, parts, allowance, history):
     count = grid**3
     first = dict(first=0, parts=parts, left=allowance, seen=len(history), since=len(history), held=[None] * count)
-    return dict(grid=grid, parts=parts, most=len(history) + allowance, opening=history, ticket=len(history), words=[0] * count,
+    return dict(grid=grid, parts=parts, most=len(history) + allowance, opening=history, ticket=len(history),
+                words=[0] * count,
                 homes=[share(grid, b, history) for b in range(count)], views=[first] + [None] * (parts - 1))
 
 
@@ -103,7 +104,8 @@ def check_good(board, history):
     live = [v for v in board['views'] if v]
     assert len(board['words']) == len(board['homes']) == count and len(board['views']) == board['parts']
     assert all(v is None or v['first'] == n for n, v in enumerate(board['views']))
-    assert all(e['number'] == i and e['reply'] == reply_to(replay(history[:i]), e['edit']) for i, e in enumerate(history))
+    assert all(e['number'] == i and e['reply'] == reply_to(replay(history[:i]), e['edit'])
+               for i, e in enumerate(history))
     assert history[:start] == board['opening'] and board['ticket'] == len(history) and is_solid(replay(history))
     for b in range(count):
         shown = share(board['grid'], b, history)
@@ -165,7 +167,8 @@ def play(board, history, event):
         other = new['views'][m] if m < len(new['views']) else None
         if other is None or not idle(view) or not idle(other) or m != view['first'] + view['parts']:
             return short
-        view.update(parts=view['parts'] + other['parts'], left=view['left'] + other['left'], seen=max(view['seen'], other['seen']))
+        view.update(parts=view['parts'] + other['parts'], left=view['left'] + other['left'],
+                    seen=max(view['seen'], other['seen']))
         new['views'][m] = None
     return 'done', new, history
 
@@ -196,14 +199,17 @@ MIDDLE, NEAR, FAR = (1, 1, 1), (5, 5, 5), (9000, 9000, 9000)
 # each with its answers, worked by hand
 WORKED = [
     (1, 2, 2, FOUR, [('split', 0, 1, 1), ('claim', 0, 0), ('claim', 1, 0), ('commit', 1, 7, ('add', MIDDLE)),
-                     ('commit', 0, 7, ('add', MIDDLE)), ('commit', 0, 8, ('take', MIDDLE)), ('join', 0, 1), ('release', 0, 0),
+                     ('commit', 0, 7, ('add', MIDDLE)), ('commit', 0, 8, ('take', MIDDLE)), ('join', 0, 1),
+                     ('release', 0, 0),
                      ('join', 0, 1)],
      ['done', 'done', 'taken 1', 'short', 'done', 'short', 'short', 'done', 'done']),
     (2, 1, 5, FOUR, [('claim', 0, 0), ('commit', 0, 9, ('add', FAR)), ('claim', 0, 7), ('commit', 0, 9, ('add', FAR)),
                      ('release', 0, 7), ('release', 0, 0)],
      ['done', 'short', 'done', 'done', 'done', 'done']),
-    (1, 2, 10, FOUR, [('split', 0, 1, 4), ('look', 1), ('claim', 1, 0), ('commit', 1, 7, ('add', MIDDLE)), ('release', 1, 0),
-                      ('join', 0, 1), ('split', 0, 1, 9), ('claim', 1, 0), ('commit', 1, 8, ('take', MIDDLE)), ('release', 1, 0),
+    (1, 2, 10, FOUR, [('split', 0, 1, 4), ('look', 1), ('claim', 1, 0), ('commit', 1, 7, ('add', MIDDLE)),
+                      ('release', 1, 0),
+                      ('join', 0, 1), ('split', 0, 1, 9), ('claim', 1, 0), ('commit', 1, 8, ('take', MIDDLE)),
+                      ('release', 1, 0),
                       ('claim', 0, 0), ('commit', 0, 9, ('add', MIDDLE))],
      ['done'] * 11 + ['short']),
     # a move touches the buckets of both its places, also where the reply is Missing or Occupied

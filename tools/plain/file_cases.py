@@ -154,7 +154,8 @@ def text_of(file):
     """The text that is written of a file."""
     edits = [f'{sign} ' + ' '.join(map(str, places)) for sign, places in file.edits]
     queries = ['queries', *('%d %d %d' % p for p in file.queries)] if file.row.queries else []
-    return '\n'.join([f'mesh3 {file.row.number}', 'points', *('%d %d %d' % p for p in file.points), 'edits', *edits, 'radii',
+    return '\n'.join([f'mesh3 {file.row.number}', 'points', *('%d %d %d' % p for p in file.points), 'edits', *edits,
+                      'radii',
                       *map(str, file.radii), *queries, 'end', ''])
 
 
@@ -214,10 +215,13 @@ def spoiled(draw, lines):
     elif kind == 3:
         lines.insert(at, draw.choice(('points', 'edits', 'radii', 'queries', 'end', '')))
     elif kind == 4:
-        lines.insert(at, draw.choice(('= 1 2 3 4 5 6', '= 1 2 3', '= 1 2 3 4 5 6 7', '=1 2 3 4 5 6', '= 1 2 3 4 5 16384', '= 1 2 3  4 5 6',
-                                      '= 1 2 16384 4 5 x', '= x 2 3 4 5 16384', '+ 1 2 3 4 5 6', '1 2 3 4 5 6', '= -1 2 3 4 5 6')))
+        lines.insert(at, draw.choice(('= 1 2 3 4 5 6', '= 1 2 3', '= 1 2 3 4 5 6 7', '=1 2 3 4 5 6',
+                                      '= 1 2 3 4 5 16384', '= 1 2 3  4 5 6',
+                                      '= 1 2 16384 4 5 x', '= x 2 3 4 5 16384', '+ 1 2 3 4 5 6', '1 2 3 4 5 6',
+                                      '= -1 2 3 4 5 6')))
     elif kind == 5:
-        lines.insert(at, draw.choice(('1073741823', '1073741824', '17179869183', '17179869184', '1 2 3', '99999999999999999999999')))
+        lines.insert(at, draw.choice(('1073741823', '1073741824', '17179869183', '17179869184', '1 2 3',
+                                      '99999999999999999999999')))
     elif kind == 6 and lines[at]:
         place = draw.randrange(len(lines[at]))
         lines[at] = lines[at][:place] + draw.choice(' -+=0x\r') + lines[at][place + draw.randrange(2):]
@@ -244,15 +248,21 @@ TEXTS = [
     *(f'mesh3 {number}\npoints\nedits\nradii\nend\n' for number in range(6)),
     *(f'mesh3 {number}\npoints\nedits\nradii\nqueries\nend\n' for number in (1, 3, 4)),
     *(HEADS[number] + 'edits\n= 1 2 3 4 5 6\nradii\nend\n' for number in HEADS),
-    *(HEADS[2] + f'edits\n{line}\n' for line in ('= 1 2 3', '= 1 2 3 4 5', '= 1 2 3 4 5 6 7', '=1 2 3 4 5 6', '= 1 2 3  4 5 6', '= 1 2 3 4 5 6 ',
-                                                '= 1 2 16384 4 5 6', '= 1 2 3 4 5 16384', '= 16384 2 3 4 5 x', '= 1 2 x 4 5 16384', '= 1 2 -1 4 5 6',
+    *(HEADS[2] + f'edits\n{line}\n' for line in ('= 1 2 3', '= 1 2 3 4 5', '= 1 2 3 4 5 6 7', '=1 2 3 4 5 6',
+                                                 '= 1 2 3  4 5 6', '= 1 2 3 4 5 6 ',
+                                                '= 1 2 16384 4 5 6', '= 1 2 3 4 5 16384', '= 16384 2 3 4 5 x',
+                                                 '= 1 2 x 4 5 16384', '= 1 2 -1 4 5 6',
                                                 '== 1 2 3 4 5 6', '* 1 2 3 4 5 6', '+ 1 2 3 4 5 6', '=')),
     HEADS[2] + 'edits\n= 007 -0 3 4 5 16383\n+ 1 1 1\n- 2 2 2\nradii\nend',
-    *(HEADS[number] + f'edits\nradii\n{radius}\nend\n' for number in HEADS for radius in (1_073_741_823, 1_073_741_824, 17_179_869_183, 17_179_869_184)),
+    *(HEADS[number] + f'edits\nradii\n{radius}\nend\n' for number in HEADS
+      for radius in (1_073_741_823, 1_073_741_824, 17_179_869_183, 17_179_869_184)),
     HEADS[3] + 'edits\nradii\n-1\n', HEADS[3] + 'edits\nradii\n0\n-0\n16\nend\n',
-    HEADS[4] + 'edits\nradii\n1\nqueries\n007 1 2\n3 4 5\n3 4 5\nend\n', HEADS[4] + 'edits\nradii\nend\n', HEADS[4] + 'queries\n',
-    HEADS[4] + 'edits\nradii\nqueries\n1 2\n', HEADS[4] + 'edits\nradii\nqueries\n1 2 16384\n', HEADS[4] + 'edits\nradii\nqueries\nqueries\n',
-    HEADS[4] + 'edits\nradii\nqueries\nradii\n', HEADS[4] + 'edits\nradii\nqueries\n', HEADS[4] + 'edits\nradii\nqueries\nend\n\n',
+    HEADS[4] + 'edits\nradii\n1\nqueries\n007 1 2\n3 4 5\n3 4 5\nend\n', HEADS[4] + 'edits\nradii\nend\n',
+    HEADS[4] + 'queries\n',
+    HEADS[4] + 'edits\nradii\nqueries\n1 2\n', HEADS[4] + 'edits\nradii\nqueries\n1 2 16384\n',
+    HEADS[4] + 'edits\nradii\nqueries\nqueries\n',
+    HEADS[4] + 'edits\nradii\nqueries\nradii\n', HEADS[4] + 'edits\nradii\nqueries\n',
+    HEADS[4] + 'edits\nradii\nqueries\nend\n\n',
     HEADS[1] + 'queries\n', HEADS[3] + 'queries\n', HEADS[3] + 'edits\nqueries\n',
 ]
 

@@ -1,6 +1,7 @@
 """Tells what the gate costs: processor seconds of each crate's proof, tests, seeds and must-fail edits.
 
-    tools/measure gate [COMMAND ..]       runs the command at the top of the repository (without one: rt ci), and then prints the table
+    tools/measure gate [COMMAND ..]       runs the command at the top of the repository (without one: rt ci), and then
+                                          prints the table
 
 A seed is the second proof of a crate over which its edits are tried, and what shows at the end that the seed is still
 one. Some kits make no seed by itself: there a crate's first edit is tried from nothing, and its whole check is counted
@@ -57,7 +58,8 @@ def with_edits_named(seen):
             at = int(number) if number.isdigit() else tries[crate]
             is_seed = not number.isdigit() and at in (0, len(names))
             tries[crate] += 1
-            what = crate, "seeds" if is_seed else "edits", "" if is_seed else names[at] if at < len(names) else "tried from nothing"
+            name = names[at] if at < len(names) else "tried from nothing"
+            what = (crate, "seeds", "") if is_seed else (crate, "edits", name)
         else:
             what = crate, kind, ""
         yield (pid, began), (what, seconds)
@@ -121,7 +123,8 @@ def table(seen):
 
 def dearest(seen, count=20):
     tries = sorted(((used, f"{crate}/{edit}") for (crate, _, edit), used in seen.values() if edit), reverse=True)
-    print("\n".join(["the dearest edits:", *(f"{used:8.0f}  {edit}" for used, edit in tries[:count])]) if tries else "no edit was tried")
+    print("\n".join(["the dearest edits:", *(f"{used:8.0f}  {edit}" for used, edit in tries[:count])]) if tries
+          else "no edit was tried")
 
 
 def main():
@@ -130,7 +133,8 @@ def main():
     table(seen)
     dearest(seen)
     used = resource.getrusage(resource.RUSAGE_CHILDREN)
-    print(f"on the clock {took:.0f} s, {os.cpu_count()} processors; all processes used {used.ru_utime + used.ru_stime:.0f} s of processor time;")
+    print(f"on the clock {took:.0f} s, {os.cpu_count()} processors; "
+          f"all processes used {used.ru_utime + used.ru_stime:.0f} s of processor time;")
     print(f"the command ended with status {status}")
     return status
 

@@ -39,7 +39,8 @@ def main():
     for name, given, status, line in INPUTS:
         done = subprocess.run(
             ['sh', '-c', 'exec "$@"', '', program, 'mesh'], input=given, capture_output=True, check=False, timeout=300,
-            preexec_fn=lambda: (resource.setrlimit(resource.RLIMIT_CPU, (10, 10)), resource.setrlimit(resource.RLIMIT_AS, (1 << 30,) * 2)))
+            preexec_fn=lambda: (resource.setrlimit(resource.RLIMIT_CPU, (10, 10)),
+                                resource.setrlimit(resource.RLIMIT_AS, (1 << 30,) * 2)))
         told = b'' if line is None else b'delaunay: ' + line + b'\n'
         right = done.returncode == status and done.stderr == told and (status == 0) == (done.stdout != b'')
         if not right:

@@ -58,7 +58,7 @@ def key_case(place, worked=None):
 
 
 def facets(cell):
-    """Facet i lacks the point i; of three points each lacks one, with the infinite vertex, and the last is the three."""
+    """Facet i lacks the point i; of three points each lacks one, with the infinite vertex; the last is the three."""
     without = [[p for p in cell if p != q] for q in cell]
     return list(map(told, without)) if len(cell) == 4 else [*map(pair_text, without), told(cell)]
 
@@ -99,7 +99,8 @@ def cloud_case(points):
 def determinant(rows):
     if len(rows) == 1:
         return rows[0][0]
-    return sum((-1) ** i * row[0] * determinant([r[1:] for j, r in enumerate(rows) if j != i]) for i, row in enumerate(rows))
+    return sum((-1) ** i * row[0] * determinant([r[1:] for j, r in enumerate(rows) if j != i])
+               for i, row in enumerate(rows))
 
 
 def orientation(a, *others):
@@ -278,7 +279,8 @@ def cases_of_cells():
         yield cloud_case(points)
     yield 'a lattice, two lines, a plane with one point beside it'
     lines = [(2 * i, 0, 0) for i in range(6)] + [(0, 2 * i, 9) for i in range(6)]
-    for points in (list(product(range(3), repeat=3)), lines, [(x, y, 0) for x in range(4) for y in range(4)] + [(1, 1, 5)]):
+    for points in (list(product(range(3), repeat=3)), lines,
+                   [(x, y, 0) for x in range(4) for y in range(4)] + [(1, 1, 5)]):
         yield cloud_case(points)
 
 
@@ -321,7 +323,8 @@ def cases_of_conflicts():
     yield conflict_case(slanted, A, (2, 2, 2), True)
     yield 'on the inner side, and in its plane: inside the circle, outside, and ties'
     for cell, mate, p, worked in ((low, D, (2, 2, 2), False), (low, D, (0, 1, 1), True), (low, D, (0, 3, 3), False),
-                                  (low, D, (0, 2, 2), False), ([A, B, (0, 2, 2)], D, C, True), (high, A, (1, 1, 1), False),
+                                  (low, D, (0, 2, 2), False), ([A, B, (0, 2, 2)], D, C, True),
+                                  (high, A, (1, 1, 1), False),
                                   (high, A, (3, 1, 1), True), (high, A, (2, 2, 2), False),
                                   ([D, (2, 0, 2), (2, 2, 2)], A, (2, 2, 0), True)):
         yield conflict_case(cell, mate, p, worked)
@@ -346,7 +349,8 @@ def cases_of_spheres():
     twenty, low, far = TWENTY[1:4][::-1], [(FAR, 0, 0), (0, FAR, 0), (0, 0, FAR)], [A, (FAR, FAR, 0), (0, FAR, FAR)]
     for face, e, worked in ((CUT, A, True), (CUT, (2, 2, 0), False), (HALF, (2, 2, 0), False), (HALF, (1, 1, 1), True),
                             (twenty, A, True), (twenty, (20, 20, 20), False), (SLANTED, (0, 3, 0), True),
-                            (SLANTED, (1, 4, 3), False), (SLANTED, (5, 3, 0), False), (low, A, True), (low, LAST, False),
+                            (SLANTED, (1, 4, 3), False), (SLANTED, (5, 3, 0), False), (low, A, True),
+                            (low, LAST, False),
                             (HIGH, A, False), (HIGH, LAST, True), (far, (FAR, 0, FAR), False), (far, (1, FAR, 0), True),
                             ([A, (1, 2, 3), (2, 4, 6)], (1, 2, 3), False)):
         yield inside_case(face, e, worked)
@@ -354,15 +358,20 @@ def cases_of_spheres():
 
 def cases_of_alphas():
     yield 'alphas of edges, each at its least and below'
-    for face, alpha, worked in (([A, D], 15, False), ([A, D], 16, True), ([A, (2, 2, 0)], 31, False), ([A, (2, 2, 0)], 32, True),
-                                ([A, (2, 2, 2)], 47, False), ([A, (2, 2, 2)], 48, True), ([(3, 5, 1), (9, 7, 4)], 195, False),
-                                ([(3, 5, 1), (9, 7, 4)], 196, True), ([A, LAST], 3220832267, False), ([A, LAST], 3220832268, True),
+    for face, alpha, worked in (([A, D], 15, False), ([A, D], 16, True), ([A, (2, 2, 0)], 31, False),
+                                ([A, (2, 2, 0)], 32, True),
+                                ([A, (2, 2, 2)], 47, False), ([A, (2, 2, 2)], 48, True),
+                                ([(3, 5, 1), (9, 7, 4)], 195, False),
+                                ([(3, 5, 1), (9, 7, 4)], 196, True), ([A, LAST], 3220832267, False),
+                                ([A, LAST], 3220832268, True),
                                 ([A, LAST], MAX, True)):
         yield within_case(face, alpha, worked)
     yield 'of triangles: half a square, and thirds rounded up'
     twenty, thin = TWENTY[1:4][::-1], [A, LAST, (8191, 8191, 8190)]
-    for face, alpha, worked in ((HALF, 31, False), (HALF, 32, True), (CUT, 42, False), (CUT, 43, True), (twenty, 4266, False),
-                                (twenty, 4267, True), (SLANTED, 141, False), (SLANTED, 142, True), (HIGH, 2862962015, False),
+    for face, alpha, worked in ((HALF, 31, False), (HALF, 32, True), (CUT, 42, False), (CUT, 43, True),
+                                (twenty, 4266, False),
+                                (twenty, 4267, True), (SLANTED, 141, False), (SLANTED, 142, True),
+                                (HIGH, 2862962015, False),
                                 (HIGH, 2862962016, True), (HIGH, MAX, True), (thin, 17179869183, False),
                                 (thin, 243135008263569443, False), (thin, 243135008263569444, True)):
         yield within_case(face, alpha, worked)
@@ -371,9 +380,11 @@ def cases_of_alphas():
     yield 'of cells'
     corner, twenty = [A, *CUT], [A, *twenty]
     great, thin = [A, D, C, LAST], [A, (13617, 0, 0), (0, 13617, 0), (8000, 8000, 100)]
-    for face, alpha, worked in ((corner, 47, False), (corner, 48, True), ([*CUT, (2, 2, 2)], 47, False), ([*CUT, (2, 2, 2)], 48, True),
+    for face, alpha, worked in ((corner, 47, False), (corner, 48, True), ([*CUT, (2, 2, 2)], 47, False),
+                                ([*CUT, (2, 2, 2)], 48, True),
                                 (twenty, 4799, False), (twenty, 4800, True), ([*SLANTED, (2, 2, 7)], 279, False),
-                                ([*SLANTED, (2, 2, 7)], 280, True), ([A, *HIGH], 3220832267, False), ([A, *HIGH], 3220832268, True),
+                                ([*SLANTED, (2, 2, 7)], 280, True), ([A, *HIGH], 3220832267, False),
+                                ([A, *HIGH], 3220832268, True),
                                 (great, 9660924131, False), (great, 9660924132, True), (thin, 17179869183, False)):
         yield within_case(face, alpha, worked)
     yield 'of a cell no alpha is asked from 2^34 on'
@@ -381,7 +392,8 @@ def cases_of_alphas():
 
 
 def cases_of_faces():
-    yield 'the cube: 34 has the squared radius 3, its triangles 2, 8/3 and 3; 124 and 356 have the points 0 and 7 inside'
+    yield ('the cube: 34 has the squared radius 3, its triangles 2, 8/3 and 3; '
+           '124 and 356 have the points 0 and 7 inside')
     yield gabriel_case(CUBE, (
         '0124 1234 1345 2346 3456 3567 012 014 024 123 135 145 236 246 357 367 456 567',
         '01 02 04 12 13 14 15 23 24 26 34 35 36 37 45 46 56 57 67 '
@@ -400,7 +412,8 @@ def cases_of_ends():
     for step in (1, 7, 100):
         yield read_case(step, [], 31, ('end', 30))
     yield 'as many bytes as the limit are not yet the end'
-    yield from (read_case(7, [], 30, ('limit', 30)), read_case(100, [], 3, ('limit', 3)), read_case(1, [1], 0, ('limit', 0)))
+    yield from (read_case(7, [], 30, ('limit', 30)), read_case(100, [], 3, ('limit', 3)),
+                read_case(1, [1], 0, ('limit', 0)))
     yield 'the end comes with the fourth call'
     for fails, worked in (([2], ('the source failed', 10)), ([9, 4], ('the source failed', 30)), ([5], ('end', 30))):
         yield read_case(10, fails, 31, worked)
@@ -428,7 +441,8 @@ def cases_of_reports():
               'mesh3-out 1|replies 4|Inserted|Inserted|Inserted|Inserted|' + mesh + 'end|'),
              (every, [10, 0, 4294967295], 'lines 5|Inserted 1|Duplicate 1|Removed 1|Missing 1|Flat 1|' + counts,
               'mesh3-out 1|replies 5|Inserted|Duplicate|Removed|Missing|Flat|' + mesh + 'order 3|10|0|4294967295|end|'))
-    for name, end in (('reports, written seven bytes a call', [1000, 7]), ('written until the third call fails', [1000, 10, 3])):
+    for name, end in (('reports, written seven bytes a call', [1000, 7]),
+                      ('written until the third call fails', [1000, 10, 3])):
         yield name
         for replies, tags, worked_counts, worked in cases:
             yield report_case(replies, tags, FOUR, end, worked_counts, worked)
@@ -436,7 +450,8 @@ def cases_of_reports():
 
 def all_lines():
     """Each line of the input with its answer; a name is its own."""
-    for part in (cases_of_cells, cases_of_predicates, cases_of_conflicts, cases_of_spheres, cases_of_alphas, cases_of_faces,
+    for part in (cases_of_cells, cases_of_predicates, cases_of_conflicts, cases_of_spheres, cases_of_alphas,
+                 cases_of_faces,
                  cases_of_ends, cases_of_reports):
         for case in part():
             yield ('# ' + case,) * 2 if isinstance(case, str) else case

@@ -1,7 +1,7 @@
 """Tells which functions of a crate are dear to prove: checks the crate from nothing with one job, and prints the
 seconds of each.
 
-    tools/measure proof CRATE [COUNT]     the COUNT dearest functions and files of proofs (30), and the sums by kind of module
+    tools/measure proof CRATE [COUNT]     the COUNT dearest functions and files of proofs (30), and the sums by kind
 
 The crates below are to be proved already (`rt lib` in the crate's folder). The checker writes each module when it has
 proved it, so the time of one is that since the one before it was written: on a busy machine all are too great, and only
@@ -21,7 +21,8 @@ TOP = os.path.dirname(os.path.dirname(os.path.dirname(os.path.realpath(__file__)
 sys.path.insert(0, os.path.dirname(os.path.realpath(shutil.which("rt") or sys.exit("no rt on the path"))))
 import rtlib  # noqa: E402 (the kit's own, beside rt)
 
-KINDS = {"Answers", "Code", "Given", "Goals", "Invariants", "Key", "Kinds", "Layout", "Lts", "Met", "Mir", "Named", "Proof", "Reads",
+KINDS = {"Answers", "Code", "Given", "Goals", "Invariants", "Key", "Kinds", "Layout", "Lts", "Met", "Mir", "Named",
+         "Proof", "Reads",
          "Statement", "Symbol", "TheLink", "Tie", "View", "decls", "oantt"}
 
 
@@ -32,7 +33,8 @@ def checked(name, kept):
     if not found:
         sys.exit(f"{name} is no crate of crates.txt")
     words = [rtlib.RATTLE, "check", *found[0].words(["--jobs", "1"], keeps=False), "--incremental", kept]
-    ran = subprocess.run(words, cwd=folder, stdout=subprocess.PIPE, stderr=subprocess.STDOUT, text=True, errors="replace")
+    ran = subprocess.run(words, cwd=folder, stdout=subprocess.PIPE, stderr=subprocess.STDOUT, text=True,
+                         errors="replace")
     if ran.returncode:
         print(ran.stdout[-2000:])
     return ran.returncode
@@ -54,7 +56,8 @@ def told(words):
         kinds.append(front.pop())
     front = front[1:] if front[:1] in (["proofs"], ["specs"]) else front
     front = front[1:] if front[:1] == ["contracts"] else front
-    return ".".join(front) or "the crate", next((kind for kind in reversed(kinds) if kind not in ("decls", "oantt")), "other")
+    return ".".join(front) or "the crate", next((kind for kind in reversed(kinds) if kind not in ("decls", "oantt")),
+                                                "other")
 
 
 def main():

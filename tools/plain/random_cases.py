@@ -117,7 +117,8 @@ def faces_of(points, full, hull):
     None for each at the infinite vertex. These do not go by a radius."""
     levels = [[(p,) for p in points]] + [sorted({s for q in full for s in combinations(q, k)}) for k in (2, 3)]
     least = {t: least_of(points, t) for level in levels + [full] for t in level}
-    around = {t: [q if len(q) == 4 else None for q in full + hull if set(t) <= set(q)] for level in levels for t in level}
+    around = {t: [q if len(q) == 4 else None for q in full + hull if set(t) <= set(q)] for level in levels
+              for t in level}
     return levels, least, around
 
 
@@ -343,7 +344,8 @@ def drawn_file():
 def with_many_radii(points, edits, radii):
     """The file with up to 16 radii, as many as a file may have: those of small faces of its points, and those at the
     ends of the range."""
-    near = [dot(minus(a, b), minus(a, b)) // random.choice([2, 3]) + random.randrange(2) for a, b in zip(points, points[1:])]
+    near = [dot(minus(a, b), minus(a, b)) // random.choice([2, 3]) + random.randrange(2)
+            for a, b in zip(points, points[1:])]
     radii = radii + near + [random.randrange(2 * max(near) + 2) for _ in range(3)]
     radii = [min(radius, 1073741823) for radius in radii] + [0, 1073741823]
     radii += [random.choice(radii), random.choice(radii)]
@@ -375,7 +377,8 @@ def prism_points():
 def nearly_flat_points():
     """Points of one plane, and one or two beside it."""
     flat = [(x, y, x + y) if random.random() < 0.9 else (x, y, 2 * y) for x in range(4) for y in range(4)]
-    beside = [(random.randrange(9), random.randrange(9), 9 + random.randrange(3)) for _ in range(random.choice([1, 1, 2]))]
+    beside = [(random.randrange(9), random.randrange(9), 9 + random.randrange(3))
+              for _ in range(random.choice([1, 1, 2]))]
     return flat + beside
 
 
@@ -415,7 +418,8 @@ def some_queries(places, count):
         few = random.choices(places, k=random.choice([1, 2, 2, 4, 8]))
         middle = tuple(sum(xs) // len(few) for xs in zip(*few))
         aside = tuple(min(16383, max(0, x + random.choice([-1, 0, 0, 1]))) for x in middle)
-        queries.append(random.choice([middle, middle, aside, tuple(random.choice([0, 9, 8192, 16383]) for _ in range(3))]))
+        queries.append(random.choice([middle, middle, aside,
+                                      tuple(random.choice([0, 9, 8192, 16383]) for _ in range(3))]))
     return queries
 
 
@@ -435,7 +439,8 @@ def near_agrees(file):
         return run(file, command='near') == run(file, *crew, command='near') == (6, '')
     left = replies_of([(True, p) for p in points] + edits, order_of_one(points, edits))[1]
     wanted = (0, near(left, queries))
-    return run(file, command='near') == wanted and (not is_anchored(points, edits) or run(file, *crew, command='near') == wanted)
+    return run(file, command='near') == wanted and (not is_anchored(points, edits)
+                                                    or run(file, *crew, command='near') == wanted)
 
 
 def edit_line(edit):
@@ -456,7 +461,8 @@ def file_of_moves():
     known, edits = list(points), []
     for _ in range(random.randrange(1, 14)):
         a = random.choice(known) if random.random() < 0.9 else random.choice(whole)
-        b = tuple(min(16383, max(0, x + random.choice([-1, 0, 0, 1, 2]))) for x in a) if random.random() < 0.7 else random.choice(whole)
+        b = tuple(min(16383, max(0, x + random.choice([-1, 0, 0, 1, 2])))
+                  for x in a) if random.random() < 0.7 else random.choice(whole)
         edits.append(random.choices([(None, a, b), (True, b), (False, a)], [6, 2, 1])[0])
         known += [b, b]
     if random.random() < 0.5 and is_solid(points):
@@ -468,7 +474,8 @@ def file_of_moves():
 
 
 def text_of(points, edits, radii, version=1, queries=()):
-    lines = [f'mesh3 {version}', 'points', *('%d %d %d' % p for p in points), 'edits', *map(edit_line, edits), 'radii', *map(str, radii)]
+    lines = [f'mesh3 {version}', 'points', *('%d %d %d' % p for p in points), 'edits', *map(edit_line, edits), 'radii',
+             *map(str, radii)]
     return '\n'.join([*lines, *(['queries', *('%d %d %d' % p for p in queries)] if version > 3 else []), 'end', ''])
 
 
@@ -485,14 +492,16 @@ def run(file, *words, command='shape'):
 def order_told(text):
     """The tags of the order block."""
     lines = text.split('\n')
-    return [int(tag) for tag in lines[len(lines) - lines[::-1].index(next(x for x in lines[::-1] if x.startswith('order '))):-2]]
+    return [int(tag)
+            for tag in lines[len(lines) - lines[::-1].index(next(x for x in lines[::-1] if x.startswith('order '))):-2]]
 
 
 def agrees(file, few):
     """Whether the program agrees with the plain one on a file: by one worker, and by many over grids of all sizes,
     or a few of these."""
     points, edits, radii, version, queries = file if len(file) > 3 else (*file, 1, [])
-    crews = [('--workers', workers, '--grid', grid) for workers in ('2', '4', '8', '64') for grid in ('1', '2', '4', '8', '16')]
+    crews = [('--workers', workers, '--grid', grid) for workers in ('2', '4', '8', '64')
+             for grid in ('1', '2', '4', '8', '16')]
     crews = random.sample(crews, few or len(crews))
     if not is_solid(points):
         return run(file, '--order') == run(file, *random.choice(crews)) == (6, '')

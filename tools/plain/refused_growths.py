@@ -79,7 +79,8 @@ def run(program, words, given, shim, call):
     """The status, both outputs, and whether a call for memory was refused."""
     read, write = os.pipe()
     env = {**os.environ, 'LD_PRELOAD': shim, 'REFUSED_CALL': str(call)}
-    done = subprocess.run([program, *words], input=given, capture_output=True, env=env, pass_fds=[9], timeout=60, check=False,
+    done = subprocess.run([program, *words], input=given, capture_output=True, env=env, pass_fds=[9], timeout=60,
+                          check=False,
                           preexec_fn=lambda: os.dup2(write, 9))
     os.close(write)
     refused = os.read(read, 1)

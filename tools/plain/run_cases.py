@@ -117,7 +117,8 @@ def case(words, text, source=ENOUGH, output=ENOUGH, error=ENOUGH, kept='', writt
     line = fault or LINES[status]
     told = error.takes(f'delaunay: {line}\n' if line else '')[0]
     verb, watched = ('watched', '; zero{}; other{}'.format(*moments)) if moments else ('run', '')
-    yield f'{verb} {times or 0}; {words}; {bar(front)}; {bar(middle)}; {bar(end)}; {source.words()}; {output.words()}; {error.words()}'
+    yield (f'{verb} {times or 0}; {words}; {bar(front)}; {bar(middle)}; {bar(end)}; '
+           f'{source.words()}; {output.words()}; {error.words()}')
     yield f'{status}; {bar(told)}; {bar(taken)};{kept}{watched}'
 
 
@@ -127,10 +128,12 @@ OF_FOUR = ' 0:0 1:0 2:0 3:0'
 def all_cases():
     name = 'every read of the tetrahedron fails'
     for k in range(1, 9):
-        yield name if k < 8 else 'the eighth read never comes', case('mesh', TETRAHEDRON, source=End(10, k), kept=OF_FOUR)
+        yield name if k < 8 else 'the eighth read never comes', case('mesh', TETRAHEDRON, source=End(10, k),
+                                                                     kept=OF_FOUR)
     name = 'every write of its report fails'
     for k in range(1, 17):
-        yield name if k < 16 else 'the sixteenth write never comes', case('mesh', TETRAHEDRON, output=End(10, k), kept=OF_FOUR)
+        written = case('mesh', TETRAHEDRON, output=End(10, k), kept=OF_FOUR)
+        yield name if k < 16 else 'the sixteenth write never comes', written
     for k in (1, 2):
         yield 'the line of words that are refused cannot be told', case('draw', TETRAHEDRON, error=End(10, k))
     yield 'nor can that of a file that is refused', case('mesh', TETRAHEDRON[:30], error=End(10, 2))
@@ -143,34 +146,41 @@ def all_cases():
     yield 'a number of a hundred thousand digits', case('mesh', (long[0], '9' * 1000, long[2]), times=100)
     yield 'the most bytes, without a line feed', case('mesh', ('', '0' * 1024, ''), times=LIMIT // 1024)
     yield 'one byte more', case('mesh', ('0', '0' * 1024, ''), times=LIMIT // 1024)
-    yield 'the read behind the most bytes fails', case('mesh', ('', '0' * 1024, ''), source=End(100_000, LIMIT // PAGE + 1), times=LIMIT // 1024)
+    yield 'the read behind the most bytes fails', case('mesh', ('', '0' * 1024, ''),
+                                                       source=End(100_000, LIMIT // PAGE + 1), times=LIMIT // 1024)
     yield 'a million empty lines', case('mesh', ('mesh3 1\npoints\n', '\n' * 1000, ''), times=1000)
     yield 'eight workers, and a shape', case(
         'shape --workers 8 --grid 16', plain.text_of(FOUR, [], [1]), kept=OF_FOUR)
     yield 'a point is added and taken: of two workers the second makes both edits', case(
-        'mesh --workers 2 --order', plain.text_of(FOUR, [(True, (1, 1, 1)), (False, (1, 1, 1))], []), kept=OF_FOUR + ' 4:1 5:1')
+        'mesh --workers 2 --order', plain.text_of(FOUR, [(True, (1, 1, 1)), (False, (1, 1, 1))], []),
+        kept=OF_FOUR + ' 4:1 5:1')
     made = ' Start Ready Committed Done'
     yield 'its gate is told of each edit of a worker', case(
-        'mesh --workers 2 --order', plain.text_of(FOUR, [(True, (1, 1, 1)), (False, (1, 1, 1))], []), kept=OF_FOUR + ' 4:1 5:1',
+        'mesh --workers 2 --order', plain.text_of(FOUR, [(True, (1, 1, 1)), (False, (1, 1, 1))], []),
+        kept=OF_FOUR + ' 4:1 5:1',
         moments=('', made * 2))
     yield 'its gate is told of each edit of a worker', case(
-        'mesh', plain.text_of(FOUR, [(True, (1, 1, 1)), (True, (1, 1, 1))], []), kept=OF_FOUR + ' 4:0 5:0', moments=(made * 2, ''))
+        'mesh', plain.text_of(FOUR, [(True, (1, 1, 1)), (True, (1, 1, 1))], []), kept=OF_FOUR + ' 4:0 5:0',
+        moments=(made * 2, ''))
     yield 'a duplicate, and three points on a line: one worker begins with four that are independent', case(
         'mesh', plain.text_of([FOUR[0], *FOUR[:2], (4, 0, 0), *FOUR[2:]], [], []), kept=' 0:0 2:0 4:0 5:0 1:0 3:0')
     yield 'a file that is refused', case('mesh', 'mesh3 1\npoints\n16384 0 0\n')
-    moves = [(None, (9, 9, 9), (1, 1, 1)), (None, (0, 0, 0), (0, 0, 0)), (None, (0, 0, 0), (1, 1, 0)), (None, (0, 0, 0), (1, 1, 1)),
+    moves = [(None, (9, 9, 9), (1, 1, 1)), (None, (0, 0, 0), (0, 0, 0)), (None, (0, 0, 0), (1, 1, 0)),
+             (None, (0, 0, 0), (1, 1, 1)),
              (True, (0, 0, 0))]
     yield 'moves out of a corner, with each of their replies', case(
         'mesh --order', plain.text_of(FOUR, moves, [], 2), kept=OF_FOUR + ' 4:0 5:0 6:0 7:0 8:0')
     yield 'radii in sixteenths, and queries that are not used', case(
-        'shape', plain.text_of([(0, 0, 0), (1, 0, 0), (0, 1, 0), (0, 0, 1)], [], [3, 4, 8, 11, 12], 4, [(1, 1, 1)]), kept=OF_FOUR)
+        'shape', plain.text_of([(0, 0, 0), (1, 0, 0), (0, 1, 0), (0, 0, 1)], [], [3, 4, 8, 11, 12], 4, [(1, 1, 1)]),
+        kept=OF_FOUR)
     asked = plain.text_of(FOUR, [], [], 4, [(0, 0, 0), (1, 1, 1), (3, 3, 3), (2, 2, 0)])
     yield 'queries, one of them as near to each point', case('near', asked, kept=OF_FOUR)
     name = 'every write of their answers fails'
     for k in range(1, 7):
         yield name if k < 6 else 'the sixth write never comes', case('near', asked, output=End(10, k), kept=OF_FOUR)
     yield 'queries, a move and two workers', case(
-        'near --workers 2 --grid 16', plain.text_of(FOUR, [(None, (2, 0, 0), (9, 9, 9))], [], 4, [(9, 9, 8), (5, 5, 5)]), kept=OF_FOUR + ' 4:0')
+        'near --workers 2 --grid 16', plain.text_of(FOUR, [(None, (2, 0, 0), (9, 9, 9))], [], 4,
+                                                    [(9, 9, 8), (5, 5, 5)]), kept=OF_FOUR + ' 4:0')
     yield 'no queries', case('near', TETRAHEDRON, kept=OF_FOUR)
     yield 'queries in a version that has none', case('near', asked.replace('mesh3 4', 'mesh3 3'))
     for count in range(len(REPORT) + 1):
@@ -185,7 +195,8 @@ def all_cases():
         yield name if k < 5 else 'the fifth write never comes', case('check', bad, output=End(10, k))
     yield 'a version that is none', case('mesh', 'mesh3 5\npoints\n')
     yield 'a version that is none', case('near', 'mesh3 5\npoints\n')
-    yield 'points in a plane', case('mesh', plain.text_of([(0, 0, 0), (2, 0, 0), (0, 2, 0), (2, 2, 0), (1, 1, 0)], [], []))
+    yield 'points in a plane', case('mesh', plain.text_of([(0, 0, 0), (2, 0, 0), (0, 2, 0), (2, 2, 0), (1, 1, 0)], [],
+                                                          []))
     corners = 'mesh3 1\npoints\n0 0 0\n16383 0 0\n0 16383 0\n0 0 16383\nedits\n'
     drawn = corners + '+ 8419 2879 5056\nradii\n16384\n262144\n4194304\nend\n'
     yield 'a drawn file, its text and its summary', case('gen --count 1 --start 1 --text', 'no file', written=drawn)

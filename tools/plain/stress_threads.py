@@ -36,7 +36,8 @@ def file_of_moves(grid):
     for _ in range(600):
         kind = random.random()
         p, q = random.choice(sorted(there)), place()
-        edits.append((None, p, q) if kind < 0.8 else (True, q) if kind < 0.9 and len(there) < 16 else (False, p) if len(there) > 8 else (True, q))
+        edits.append((None, p, q) if kind < 0.8 else (True, q) if kind < 0.9 and len(there) < 16 else (False, p)
+                     if len(there) > 8 else (True, q))
         there = plain.replies_of([(True, x) for x in four + sorted(there)] + edits[-1:], range(len(there) + 5))[1]
         there = set(there) - set(four)
     return four + points, edits, [], 2
@@ -45,7 +46,8 @@ def file_of_moves(grid):
 def judged(file, grid, workers):
     """Whether the program is right, and how many lines stand in another place than by one worker."""
     words = ['mesh', '--order', '--workers', str(workers), '--grid', str(grid)]
-    done = subprocess.run([plain.PROGRAM, *words], input=plain.text_of(*file), capture_output=True, text=True, check=False)
+    done = subprocess.run([plain.PROGRAM, *words], input=plain.text_of(*file), capture_output=True, text=True,
+                          check=False)
     if done.returncode:
         return False, 0
     points, edits, *_ = file
@@ -64,7 +66,8 @@ def main():
         grid = random.choice([2, 4, 8, 16])
         file = file_of_moves(grid) if moves else drawn_file(grid)
         right, moved = judged(file, grid, workers)
-        print(f'grid {grid}: {moved} of {len(file[0]) + len(file[1])} lines in another place', 'right' if right else 'WRONG', flush=True)
+        print(f'grid {grid}: {moved} of {len(file[0]) + len(file[1])} lines in another place', 'right' if right
+              else 'WRONG', flush=True)
         if not right:
             failed += 1
             print(plain.text_of(*file), end='')

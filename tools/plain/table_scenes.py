@@ -164,7 +164,8 @@ def passes_scene(grid, points, parts, allowance, others, given, first, later):
     text += one.told() + other.told() + other.follow(first) + other.told()
     one.join(other)
     text += one.told() + one.follow(later) + table.made()
-    yield (f'passes {grid}; {words(points)}; {parts} {allowance}; {others} {given}; {order_words(first)}; {order_words(later)}')
+    yield (f'passes {grid}; {words(points)}; {parts} {allowance}; {others} {given}; '
+           f'{order_words(first)}; {order_words(later)}')
     yield text
 
 
@@ -184,7 +185,8 @@ def kept_scene(grid, points, number, moment, pair, meanwhile, later):
     table.held = {}
     told = told or kept.edit(pair)
     text += f' kept{told}' + free.follow(later) + table.made()
-    yield (f'kept {grid}; {words(points)}; {number} {moment}; {pair_word(pair)}; {order_words(meanwhile)}; {order_words(later)}')
+    yield (f'kept {grid}; {words(points)}; {number} {moment}; {pair_word(pair)}; '
+           f'{order_words(meanwhile)}; {order_words(later)}')
     yield text
 
 
@@ -205,7 +207,7 @@ def segments_of(pairs):
 
 
 def lines_of(points, edits):
-    """The places of the opening four, and the lines of a file: its points as adds, and its edits, each with its place."""
+    """The places of the opening four, and the lines of a file: its points as adds and its edits, with their places."""
     return plain.opening_four(points), [(tag, *line) for tag, line in enumerate([*((True, p) for p in points), *edits])]
 
 
@@ -250,16 +252,18 @@ def drawn_moves(seed, corners, side, count):
 def beside_scene(grid, points, count, lists):
     pairs = sum(map(len, lists))
     yield f'beside {grid}; {words(points)}; {count}; ' + '; '.join(map(pair_words, lists))
-    yield (f' pass 0 parts {len(lists) + 1} left 1024 seen {len(points)}; {count} snapshots {count} right {count} going on; the end right '
+    yield (f' pass 0 parts {len(lists) + 1} left 1024 seen {len(points)}; {count} snapshots {count} right '
+           f'{count} going on; the end right '
            f'{len(points) + pairs} made or left over')
 
 
 def drawn_lists(seed, workers, length, box, moves=False):
-    """A list of edits for each worker, over points of its own in a small box at the corner of eight buckets; half of them
-    moves, if asked."""
+    """A list of edits for each worker, over points of its own in a small box at the corner of eight buckets; half of
+    them moves, if asked."""
     draw = random.Random(seed)
     low, side = box
-    points = draw.sample([(low + x, low + y, low + z) for x in range(side) for y in range(side) for z in range(side)], 3 * workers)
+    points = draw.sample([(low + x, low + y, low + z) for x in range(side) for y in range(side) for z in range(side)],
+                         3 * workers)
     tag, lists = 100, []
     for worker in range(workers):
         own, pairs = points[3 * worker:3 * worker + 3], []
@@ -288,12 +292,15 @@ def move(tag, a, b):
 def all_scenes():
     yield 'a pass is split off, looks, adds a point, takes a snapshot and is joined', passes_scene(
         1, FOUR, 2, 10, 1, 4, ['look', add(7, (1, 1, 1)), 'shot'], ['shot'])
-    yield 'a pass without allowance', passes_scene(1, FOUR, 2, 10, 1, 0, [add(7, (1, 1, 1)), 'look', 'shot'], [add(7, (1, 1, 1))])
-    yield 'a pass that spends its allowance', passes_scene(4, FOUR, 3, 10, 2, 1, [add(1, (1, 1, 1)), add(2, (1, 1, 1))], [take(3, (1, 1, 1))])
+    yield 'a pass without allowance', passes_scene(1, FOUR, 2, 10, 1, 0, [add(7, (1, 1, 1)), 'look', 'shot'],
+                                                   [add(7, (1, 1, 1))])
+    yield 'a pass that spends its allowance', passes_scene(4, FOUR, 3, 10, 2, 1, [add(1, (1, 1, 1)), add(2, (1, 1, 1))],
+                                                           [take(3, (1, 1, 1))])
     yield 'every reply', passes_scene(
         2, SIXTEEN[:5], 64, 20, 63, 10, [add(1, NEAR), add(2, NEAR), take(3, NEAR), take(4, NEAR), 'shot'],
         [take(5, SIXTEEN[4]), take(6, SIXTEEN[0]), 'shot', 'look'])
-    yield 'a pass kept at Ready: a snapshot meets its bucket, an edit far away does not, nor does one after it', kept_scene(
+    yield ('a pass kept at Ready: a snapshot meets its bucket, an edit far away does not, '
+           'nor does one after it'), kept_scene(
         2, SIXTEEN, 0, 'Ready', add(0, NEAR), ['shot', add(1, AWAY), 'look'], ['shot'])
     yield 'an edit in the bucket of a kept pass, and again when that one has ended', kept_scene(
         2, SIXTEEN, 1, 'Ready', add(0, NEAR), ['shot', add(1, BESIDE)], ['shot', add(1, BESIDE)])
@@ -306,7 +313,8 @@ def all_scenes():
     yield 'a pass that is kept before its first claim and after its last release', kept_scene(
         2, SIXTEEN, 1, 'Done', add(0, NEAR), ['look', 'shot', add(1, BESIDE), 'shot'], [take(2, BESIDE), 'shot'])
     yield 'a take kept at Ready, and its replies around it', kept_scene(
-        2, SIXTEEN, 0, 'Ready', take(0, (120, 120, 120)), [take(1, AWAY), add(2, (120, 120, 119)), 'shot'], [add(3, (120, 120, 120)), 'shot'])
+        2, SIXTEEN, 0, 'Ready', take(0, (120, 120, 120)), [take(1, AWAY), add(2, (120, 120, 119)), 'shot'],
+        [add(3, (120, 120, 120)), 'shot'])
     yield 'what is busy each time is left over, and so is what comes later of its point', kept_scene(
         2, SIXTEEN, 1, 'Ready', add(0, NEAR), ['work', add(20, BESIDE), take(21, BESIDE), add(22, AWAY)], [])
     yield 'work that nothing is in the way of', kept_scene(
@@ -344,7 +352,8 @@ def all_scenes():
     edits = [(True, (1, 1, 1)), (False, (1, 1, 1)), (True, (5, 5, 5)), (True, (0, 0, 7)), (False, (0, 0, 2))]
     for workers in (1, 2, 3, 64):
         yield 'lines that are dealt', deal_scene(workers, [(0, 0, 0), *FOUR, (4, 0, 0)], edits)
-    five = [(None, (9, 9, 9), (1, 1, 1)), (None, FOUR[0], FOUR[0]), (None, FOUR[0], (1, 1, 0)), (None, FOUR[0], (1, 1, 1)), (True, FOUR[0])]
+    five = [(None, (9, 9, 9), (1, 1, 1)), (None, FOUR[0], FOUR[0]), (None, FOUR[0], (1, 1, 0)),
+            (None, FOUR[0], (1, 1, 1)), (True, FOUR[0])]
     for workers in (1, 8):
         yield 'moves are dealt in segments', deal_scene(workers, FOUR, five)
         yield 'moves of one point, by one worker and by many', make_scene(1, FOUR, workers, five)
@@ -359,7 +368,8 @@ def all_scenes():
     box = [(8190, 8190, 8190), (8190, 8190, 8196), (8190, 8196, 8190), (8196, 8190, 8190)]
     apart = [(100, 100, 100), (100, 100, 16000), (100, 16000, 100), (16000, 100, 100)]
     yield 'four writers far apart, and a reader beside them', beside_scene(
-        2, apart, 6, [[add(100 + 5 * i + k, (x + k, y + 1, z + 2)) for k in range(5)] for i, (x, y, z) in enumerate(apart)])
+        2, apart, 6, [[add(100 + 5 * i + k, (x + k, y + 1, z + 2)) for k in range(5)]
+                      for i, (x, y, z) in enumerate(apart)])
     for seed in range(1, 7):
         grid = (1, 2, 4, 8, 16, 2)[seed - 1]
         yield 'four writers where buckets meet, and a reader beside them', beside_scene(

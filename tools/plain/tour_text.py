@@ -19,7 +19,8 @@ EDITS = [(True, CORNER), (True, CORNER), (False, CORNER), (False, (0, 0, 0))]
 def cells_of(points):
     points = sorted(points)
     full, hull = sorted(plain.full_cells(points)), sorted(plain.open_cells(points))
-    return ['[' + ', '.join(map(str, c)) + ']' for c in full] + ['[' + ', '.join(map(str, c)) + ', infinite]' for c in hull]
+    return ['[' + ', '.join(map(str, c)) + ']' for c in full] + ['[' + ', '.join(map(str, c)) + ', infinite]'
+                                                                 for c in hull]
 
 
 def triples_of(points, radius):

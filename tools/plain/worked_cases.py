@@ -30,7 +30,8 @@ CORNERS = [*FOUR, (2, 2, 2)]
 TENT = [(0, 0, 0), (2, 0, 0), (0, 2, 0), (2, 2, 0), (1, 1, 2)]
 APART = [(0, 0, 0), (0, 0, 9000), (0, 9000, 0), (9000, 0, 0)]
 AROUND = [*APART, (100, 100, 100)]
-LETTERS = {'Inserted': 'I', 'Duplicate': 'D', 'Removed': 'R', 'Missing': 'M', 'Flat': 'F', 'Moved': 'V', 'Occupied': 'O'}
+LETTERS = {'Inserted': 'I', 'Duplicate': 'D', 'Removed': 'R', 'Missing': 'M', 'Flat': 'F', 'Moved': 'V',
+           'Occupied': 'O'}
 
 
 def move(a, b):
@@ -138,7 +139,7 @@ def handle_case(points, edits, looks):
 
 
 def least_words(points, full, size):
-    """The faces of a size with the least alphas at which they are admitted, in sixteenths: their own, or a larger one's."""
+    """The faces of a size with the least alphas that admit them, in sixteenths: their own, or a larger one's."""
     for face in sorted({s for q in full for s in combinations(q, size)}):
         around = {s for q in full for k in range(size, 5) for s in combinations(q, k) if set(face) <= set(s)}
         squares = [plain.least_of(points, t) for t in around]
@@ -227,7 +228,8 @@ def walk_cases():
 
 def near_cases():
     apart = 'near 2; 0,0,0 0,0,9000 0,9000,0 9000,0,0'
-    yield from ((f'{apart}; 0; 9000,0,0', 'at, moved, needs 4'), (f'{apart}; 0 4; 9000,0,0', 'at, moved, here 9000,0,0'),
+    yield from ((f'{apart}; 0; 9000,0,0', 'at, moved, needs 4'),
+                (f'{apart}; 0 4; 9000,0,0', 'at, moved, here 9000,0,0'),
                 (f'{apart}; all; 4500,4500,4500', 'at, here 0,0,0'), (f'{apart}; 2; 0,9000,4500', 'at, here 0,9000,0'),
                 (f'{apart}; 3; 9000,0,0', 'needs 4'), (f'{apart}; ; 0,0,9000', 'needs 1'))
 
@@ -236,22 +238,29 @@ HEAD, EMPTY = 'mesh3 1|points|', 'mesh3 1|points|edits|radii|'
 BAD_TEXTS = [
     ('', '', 0, '', '1: Truncated'), ('mesh3 5|', '', 0, '', '1: Section'), ('mesh3 1|edits|', '', 0, '', '2: Section'),
     (HEAD, '', 0, 'radii|', '3: Section'), (HEAD, '', 0, '1 2|', '3: Field'), (HEAD, '', 0, '1  2 3|', '3: Field'),
-    (HEAD, '', 0, 'edits|* 1 2 3|', '4: Field'), (EMPTY, '', 0, '1073741824|', '5: Range'), (EMPTY, '1|', 17, 'end|', '21: TooMany'),
+    (HEAD, '', 0, 'edits|* 1 2 3|', '4: Field'), (EMPTY, '', 0, '1073741824|', '5: Range'),
+    (EMPTY, '1|', 17, 'end|', '21: TooMany'),
     (EMPTY, '', 0, 'end||', '6: Section'), (EMPTY, '', 0, 'end~|', '5: Field'), (EMPTY, '', 0, '', '5: Truncated'),
-    (EMPTY, '', 0, '|', '5: Field'), (EMPTY, '', 0, 'edits|', '5: Section'), (HEAD, '0 0 0|', 262144, '1 2 x|', '262147: TooMany'),
+    (EMPTY, '', 0, '|', '5: Field'), (EMPTY, '', 0, 'edits|', '5: Section'),
+    (HEAD, '0 0 0|', 262144, '1 2 x|', '262147: TooMany'),
     (HEAD, '0 0 0|', 262143, 'edits|+ 0 0 0|- 0 0 0|', '262148: TooMany'), (HEAD, '', 0, '1 16384 x|', '3: Field'),
     (HEAD, '', 0, '1 16384 0|', '3: Range'), (HEAD, '', 0, '1 -1 0|', '3: Range'), (HEAD, '', 0, '+1 2 3|', '3: Field'),
-    (HEAD, '', 0, '- 2 3|', '3: Field'), (HEAD, '', 0, '1 2 3 |', '3: Field'), (HEAD, '', 0, '1 2 18446744073709551616|', '3: Range'),
+    (HEAD, '', 0, '- 2 3|', '3: Field'), (HEAD, '', 0, '1 2 3 |', '3: Field'),
+    (HEAD, '', 0, '1 2 18446744073709551616|', '3: Range'),
     (HEAD, '', 0, 'edits|+ 1 2 99999|', '4: Range'), (HEAD, '', 0, 'edits|+1 2 3|', '4: Field'),
 ]
 FILES = [
-    (HEAD, '', 0, '007 2 3|edits|radii|end|', '1 lines 1 points 0 edits 0 radii 0 queries in mesh3 1|points|7 2 3|edits|radii|end|'),
-    (EMPTY, '1|', 16, 'end|', '0 lines 0 points 0 edits 16 radii 0 queries in mesh3 1|points|edits|radii|' + '1|' * 16 + 'end|'),
+    (HEAD, '', 0, '007 2 3|edits|radii|end|',
+     '1 lines 1 points 0 edits 0 radii 0 queries in mesh3 1|points|7 2 3|edits|radii|end|'),
+    (EMPTY, '1|', 16, 'end|',
+     '0 lines 0 points 0 edits 16 radii 0 queries in mesh3 1|points|edits|radii|' + '1|' * 16 + 'end|'),
     (EMPTY, '', 0, 'end', '0 lines 0 points 0 edits 0 radii 0 queries in mesh3 1|points|edits|radii|end|'),
     (HEAD, '0 0 0|', 262144, 'edits|radii|end|', '262144 lines 262144 points 0 edits 0 radii 0 queries'),
-    (HEAD, '', 0, '-0 -00 0|edits|radii|end|', '1 lines 1 points 0 edits 0 radii 0 queries in mesh3 1|points|0 0 0|edits|radii|end|'),
+    (HEAD, '', 0, '-0 -00 0|edits|radii|end|',
+     '1 lines 1 points 0 edits 0 radii 0 queries in mesh3 1|points|0 0 0|edits|radii|end|'),
     (HEAD, '', 0, '0 0 0|007 2 16383|edits|+ 1 1 1|- 1 1 -0|radii|3|1073741823|end',
-     '4 lines 2 points 2 edits 2 radii 0 queries in mesh3 1|points|0 0 0|7 2 16383|edits|+ 1 1 1|- 1 1 0|radii|3|1073741823|end|'),
+     '4 lines 2 points 2 edits 2 radii 0 queries in mesh3 1|points|0 0 0|7 2 16383|edits|+ 1 1 1|- 1 1 0|'
+     'radii|3|1073741823|end|'),
 ]
 CORNERS_OF_ALL = 'mesh3 1|points|0 0 0|16383 0 0|0 16383 0|0 0 16383|edits|'
 DRAWN = [(0, 0, ''), (1, 1, '+ 8419 2879 5056|'),
@@ -270,16 +279,19 @@ MESHES = [
     ('a point is added twice and taken twice', FOUR, [(k, (5, 5, 5)) for k in (True, True, False, False)]),
     ('a point stands there twice, and three points lie on one line',
      [(0, 0, 0), (0, 0, 0), (2, 0, 0), (4, 0, 0), (0, 2, 0), (0, 0, 2)], []),
-    ('a point moves from within to the hull, and back', INNER, [move((1, 1, 1), (5, 5, 5)), move((5, 5, 5), (1, 1, 1))]),
+    ('a point moves from within to the hull, and back', INNER,
+     [move((1, 1, 1), (5, 5, 5)), move((5, 5, 5), (1, 1, 1))]),
     ('one of the hull moves within, and out again', CUBE, [move((2, 2, 2), (1, 1, 1)), move((1, 1, 1), (3, 3, 3))]),
     ('the point with which the history begins moves', INNER, [move((0, 0, 0), (1, 0, 0)), move((1, 0, 0), (0, 0, 1))]),
     ('no point moves to a place that is taken, nor to its own', INNER,
      [move((1, 1, 1), (0, 0, 0)), move((1, 1, 1), (1, 1, 1)), move((0, 0, 0), (2, 0, 0))]),
     ('no point moves that is not there, wherever it would', FOUR,
      [move((5, 5, 5), (6, 6, 6)), move((5, 5, 5), (0, 0, 0)), move((5, 5, 5), (5, 5, 5))]),
-    ('a move would leave points of a plane', FOUR, [move((2, 0, 0), (0, 3, 3)), move((0, 0, 0), (1, 1, 0)), move((2, 0, 0), (3, 0, 0))]),
+    ('a move would leave points of a plane', FOUR, [move((2, 0, 0), (0, 3, 3)), move((0, 0, 0), (1, 1, 0)),
+                                                    move((2, 0, 0), (3, 0, 0))]),
     ('the top of a pyramid moves, though it cannot be taken', TENT,
-     [(False, (1, 1, 2)), move((1, 1, 2), (1, 1, 0)), move((1, 1, 2), (3, 3, 5)), (False, (3, 3, 5)), move((3, 3, 5), (1, 1, 2))]),
+     [(False, (1, 1, 2)), move((1, 1, 2), (1, 1, 0)), move((1, 1, 2), (3, 3, 5)), (False, (3, 3, 5)),
+      move((3, 3, 5), (1, 1, 2))]),
     ('a corner of its base moves into the place of the top, and away', TENT,
      [move((1, 1, 2), (1, 1, 4)), move((0, 0, 0), (1, 1, 2)), move((1, 1, 2), (0, 0, 0))]),
     ('a point moves far and back, on a grid into another bucket', AROUND,
@@ -288,7 +300,8 @@ MESHES = [
      [move((0, 0, 0), (0, 0, 16383)), move((0, 0, 9000), (9000, 9000, 0)), move((0, 9000, 0), (5000, 1, 2)),
       move((9000, 0, 0), (16383, 16383, 1)), (True, (0, 0, 0)), (False, (100, 100, 100))]),
     ('what moved is added, taken and moved again', CORNERS,
-     [move((2, 2, 2), (2, 2, 0)), (True, (2, 2, 2)), (True, (2, 2, 0)), (False, (2, 2, 0)), move((2, 2, 2), (2, 2, 0)), (False, (2, 2, 2))]),
+     [move((2, 2, 2), (2, 2, 0)), (True, (2, 2, 2)), (True, (2, 2, 0)), (False, (2, 2, 0)), move((2, 2, 2), (2, 2, 0)),
+      (False, (2, 2, 2))]),
 ]
 
 
@@ -342,12 +355,14 @@ def all_cases():
             yield 'drawn edits', mesh_case(grid, points, edits)
     for points, edits in drawn_meshes():
         for grid in (1, 4, 16):
-            yield 'points put in at once, two of them twice', mesh_case(grid, points[:2] + points + points[2:4], edits, 'begun')
+            begun = mesh_case(grid, points[:2] + points + points[2:4], edits, 'begun')
+            yield 'points put in at once, two of them twice', begun
     for name, points, edits in MESHES[:6]:
         if plain.is_solid(points):
             yield 'a handle, ' + name, handle_case(points, edits, [*points[:2], (1, 1, 1), (16383, 0, 7)])
     for points, edits in drawn_meshes():
-        yield 'handles and drawn edits', handle_case([*points, points[0]], edits, [*points[:2], (1, 0, 1), (9000, 8000, 9)])
+        yield 'handles and drawn edits', handle_case([*points, points[0]], edits,
+                                                     [*points[:2], (1, 0, 1), (9000, 8000, 9)])
     yield 'handles that stay empty', ('handle 0,0,0 2,0,0 0,2,0 2,2,0; ; ', 'flat')
     yield 'handles that stay empty', ('handle 0,0,0 2,0,0 0,2,0 2,2,16384; ; ', 'outside')
     for points in (FOUR, CUBE, [*INNER, FOUR[1]]):
@@ -363,11 +378,13 @@ def all_cases():
         yield 'numbers of buckets', grid_case(size, [p])
     yield 'numbers of buckets', grid_case(2, [(0, 0, 0), (0, 0, 9000), (0, 9000, 0), (9000, 0, 0)])
     yield 'entries of one point', enter_case(2, [(k, (0, 0, 0)) for k in (True, True, False, False)])
-    yield 'entries in two buckets', enter_case(2, [(True, (0, 0, 0)), (True, (8192, 0, 8191)), (False, (8192, 0, 8191))])
+    yield 'entries in two buckets', enter_case(2, [(True, (0, 0, 0)), (True, (8192, 0, 8191)),
+                                                   (False, (8192, 0, 8191))])
     yield 'one of four buckets in hand', bucket_case(2, APART, 0)
     yield 'the only bucket of a grid', bucket_case(1, APART, 0)
     for grid in (1, 16):
-        for points, v in ((INNER, (1, 1, 1)), (CUBE, (2, 2, 2)), (CUBE, (0, 0, 0)), (CORNERS, (2, 2, 2)), (TENT, (0, 0, 0))):
+        for points, v in ((INNER, (1, 1, 1)), (CUBE, (2, 2, 2)), (CUBE, (0, 0, 0)), (CORNERS, (2, 2, 2)),
+                          (TENT, (0, 0, 0))):
             yield 'refills', refill_case(grid, points, 'all', v)
     yield 'a flat rest', refill_case(4, TENT, 'all', (1, 1, 2))
     for b in range(1, 8):

@@ -14,7 +14,8 @@ use Rattle.alpha_complex.specs.Leasts.{AreAlphas, AreAlphasOf, AreLeastOf, kind_
 use Rattle.alpha_complex.specs.Slots.{held, slots_of, cell_slots_of}
 
 -- the numbers of a face tell its kind
-pub kind_told : {X : Type 0} (admits : ℕ → X × List Cell → Bool) (f : X × List Cell) (a : FaceAlphas) (alpha : ℕ) → alpha < 2 ^ 34 → AreAlphasOf admits f a → kind_at a alpha ≡ kind_by (is_small_cell alpha) f.1
+pub kind_told : {X : Type 0} (admits : ℕ → X × List Cell → Bool) (f : X × List Cell) (a : FaceAlphas) (alpha : ℕ) →
+    alpha < 2 ^ 34 → AreAlphasOf admits f a → kind_at a alpha ≡ kind_by (is_small_cell alpha) f.1
 kind_told admits f a alpha l h =
     let p : list_all (is_small_cell alpha) f.1 ≡ nat_le a.interior alpha = h.interior alpha l in
     let q : list_any (is_small_cell alpha) f.1 ≡ nat_le a.regular alpha = h.regular alpha l in
@@ -22,18 +23,23 @@ kind_told admits f a alpha l h =
 
 -- all faces with their kinds
 pub all_told :
-    {X : Type 0} (admits : ℕ → X × List Cell → Bool) (alpha : ℕ) (faces : List (X × List Cell)) (alphas : List FaceAlphas) → alpha < 2 ^ 34 → AreAlphas admits faces alphas →
+    {X : Type 0} (admits : ℕ → X × List Cell → Bool) (alpha : ℕ) (faces : List (X × List Cell))
+    (alphas : List FaceAlphas) → alpha < 2 ^ 34 → AreAlphas admits faces alphas →
     zip (map (λ f. f.0) faces) (map (λ a. kind_at a alpha) alphas) ≡ kinds_by alpha faces
 all_told admits alpha [] alphas l z = refl
 all_told admits alpha (f ∷ faces) [] l z = absurd z
 all_told {X} admits alpha (f ∷ faces) (a ∷ alphas) l z =
-    ap (λ (k : Kind). (f.0, k) ∷ zip (map (λ f. f.0) faces) (map (λ a. kind_at a alpha) alphas)) (kind_told admits f a alpha l z.0)
-    ∙ ap (λ (v : List (X × Kind)). (f.0, kind_by (is_small_cell alpha) f.1) ∷ v) (all_told admits alpha faces alphas l z.1)
+    ap (λ (k : Kind). (f.0, k) ∷ zip (map (λ f. f.0) faces) (map (λ a. kind_at a alpha) alphas))
+    (kind_told admits f a alpha l z.0)
+    ∙ ap (λ (v : List (X × Kind)). (f.0, kind_by (is_small_cell alpha) f.1) ∷ v)
+    (all_told admits alpha faces alphas l z.1)
 
 -- those that are admitted
 pub admitted_told :
-    {X : Type 0} (admits : ℕ → X × List Cell → Bool) (alpha : ℕ) (faces : List (X × List Cell)) (alphas : List FaceAlphas) → alpha < 2 ^ 34 → AreAlphas admits faces alphas →
-    held (slots_of (map (λ f. f.0) faces) (map (λ a. kind_where a alpha) alphas)) ≡ kinds_by alpha (filter (admits alpha) faces)
+    {X : Type 0} (admits : ℕ → X × List Cell → Bool) (alpha : ℕ) (faces : List (X × List Cell))
+    (alphas : List FaceAlphas) → alpha < 2 ^ 34 → AreAlphas admits faces alphas →
+    held (slots_of (map (λ f. f.0) faces) (map (λ a. kind_where a alpha) alphas)) ≡ kinds_by alpha
+    (filter (admits alpha) faces)
 admitted_told admits alpha [] alphas l z = refl
 admitted_told admits alpha (f ∷ faces) [] l z = absurd z
 admitted_told {X} admits alpha (f ∷ faces) (a ∷ alphas) l z =
@@ -42,7 +48,9 @@ admitted_told {X} admits alpha (f ∷ faces) (a ∷ alphas) l z =
     elim (true_or_false (nat_le a.admitted alpha)) [
       | inl t ↦ (
           let p : admits alpha f ≡ true = z.0.admitted alpha l ∙ t in
-          rw (t, p) (ap (λ (v : Kind). (f.0, v) ∷ held (slots_of (map (λ f. f.0) faces) (map (λ a. kind_where a alpha) alphas))) k ∙ ap (λ (v : List (X × Kind)). (f.0, kind_by (is_small_cell alpha) f.1) ∷ v) more))
+          rw (t, p) (ap (λ (v : Kind). (f.0, v) ∷ held
+          (slots_of (map (λ f. f.0) faces) (map (λ a. kind_where a alpha) alphas))) k
+          ∙ ap (λ (v : List (X × Kind)). (f.0, kind_by (is_small_cell alpha) f.1) ∷ v) more))
       | inr t ↦ (
           let p : admits alpha f ≡ false = z.0.admitted alpha l ∙ t in
           rw (t, p) more)

@@ -1,5 +1,35 @@
 -- The least alphas of tests that are put together.
-use Rattle.std.proofs.Common.{◌≡◌, refl, sym, subst, ap, ◌∙◌, ℕ, zero, suc, ◌<◌, ◌+◌, ◌^◌, min, max, Bool, true, false, List, [], ◌∷◌, ◌++◌, map, drop, length, get_or, arith, nat_le, take, append-nil}
+use Rattle.std.proofs.Common.{
+  ◌≡◌,
+  refl,
+  sym,
+  subst,
+  ap,
+  ◌∙◌,
+  ℕ,
+  zero,
+  suc,
+  ◌<◌,
+  ◌+◌,
+  ◌^◌,
+  min,
+  max,
+  Bool,
+  true,
+  false,
+  List,
+  [],
+  ◌∷◌,
+  ◌++◌,
+  map,
+  drop,
+  length,
+  get_or,
+  arith,
+  nat_le,
+  take,
+  append-nil,
+}
 use Rattle.std.specs.Prelude.{not, ◌&&◌, ◌||◌}
 use Rattle.std.specs.List.{AllZip, filter, flat_map, list_all, list_any}
 use Rattle.std.proofs.lemmas.Bool.Decides.{nat_tests}
@@ -19,7 +49,14 @@ use Rattle.alpha_complex.specs.declared.least.Part.{Part}
 use Rattle.alpha_complex.specs.declared.least.Part.TheVariants.{Points, Pairs, Triples}
 use Rattle.alpha_complex.specs.declared.numbers.FaceAlphas.{FaceAlphas}
 use Rattle.alpha_complex.specs.Judged.{is_admitted_pair, is_admitted_triple}
-use Rattle.alpha_complex.specs.Leasts.{AreAlphasAt, AreAlphasOf, AreAlphasOfFaces, IsLeastOf, face_count, is_admitted_point}
+use Rattle.alpha_complex.specs.Leasts.{
+  AreAlphasAt,
+  AreAlphasOf,
+  AreAlphasOfFaces,
+  IsLeastOf,
+  face_count,
+  is_admitted_point,
+}
 
 -- ---- two numbers
 
@@ -53,31 +90,38 @@ either_least t u m n h k a l = ap (λ b. b || u a) (h a l) ∙ ap (λ b. nat_le 
 
 -- a test of four
 pub four_least :
-    (t u v w : ℕ → Bool) (k l m n : ℕ) → IsLeastOf t k → IsLeastOf u l → IsLeastOf v m → IsLeastOf w n → IsLeastOf (λ a. t a || (u a || (v a || (w a || false)))) (min k (min l (min m n)))
+    (t u v w : ℕ → Bool) (k l m n : ℕ) → IsLeastOf t k → IsLeastOf u l → IsLeastOf v m → IsLeastOf w n →
+    IsLeastOf (λ a. t a || (u a || (v a || (w a || false)))) (min k (min l (min m n)))
 four_least t u v w k l m n p q r s a e =
     ap (λ b. t a || (u a || (v a || b))) (or-false (w a))
-    ∙ either_least t (λ a. u a || (v a || w a)) k (min l (min m n)) p (either_least u (λ a. v a || w a) l (min m n) q (either_least v w m n r s)) a e
+    ∙ either_least t (λ a. u a || (v a || w a)) k (min l (min m n)) p
+    (either_least u (λ a. v a || w a) l (min m n) q (either_least v w m n r s)) a e
 
 -- one of four facets
 pub facets_least :
-    (t : ℕ → Facet → Bool) (facets : List Facet) (a b c d : Facet) (k l m n : ℕ) → length facets ≡ 4 → IsLeastOf (λ x. t x (get_or facets 0 a)) k → IsLeastOf (λ x. t x (get_or facets 1 b)) l →
-    IsLeastOf (λ x. t x (get_or facets 2 c)) m → IsLeastOf (λ x. t x (get_or facets 3 d)) n → IsLeastOf (λ x. list_any (t x) facets) (min k (min l (min m n)))
+    (t : ℕ → Facet → Bool) (facets : List Facet) (a b c d : Facet) (k l m n : ℕ) → length facets ≡ 4 →
+    IsLeastOf (λ x. t x (get_or facets 0 a)) k → IsLeastOf (λ x. t x (get_or facets 1 b)) l →
+    IsLeastOf (λ x. t x (get_or facets 2 c)) m → IsLeastOf (λ x. t x (get_or facets 3 d)) n →
+    IsLeastOf (λ x. list_any (t x) facets) (min k (min l (min m n)))
 facets_least t [] a b c d k l m n e x y z w = absurd (omega (arith, e))
 facets_least t (o ∷ []) a b c d k l m n e x y z w = absurd (omega (arith, e))
 facets_least t (o ∷ p ∷ []) a b c d k l m n e x y z w = absurd (omega (arith, e))
 facets_least t (o ∷ p ∷ q ∷ []) a b c d k l m n e x y z w = absurd (omega (arith, e))
-facets_least t (o ∷ p ∷ q ∷ r ∷ []) a b c d k l m n e x y z w = four_least (λ v. t v o) (λ v. t v p) (λ v. t v q) (λ v. t v r) k l m n x y z w
+facets_least t (o ∷ p ∷ q ∷ r ∷ []) a b c d k l m n e x y z w =
+    four_least (λ v. t v o) (λ v. t v p) (λ v. t v q) (λ v. t v r) k l m n x y z w
 facets_least t (o ∷ p ∷ q ∷ r ∷ s ∷ facets) a b c d k l m n e x y z w = absurd (omega (arith, e))
 
 -- ---- numbers around a face
 
 -- the least number so far, and the elements that are left
 abbrev pub AnyLeft : {N X : Type 0} → (ℕ → X → Bool) → (N → X) → List N → ℕ → ℕ → Type 0
-AnyLeft t f ns i least = (a : ℕ) → a < 2 ^ 34 → (nat_le least a || list_any (t a) (map f (drop i ns))) ≡ list_any (t a) (map f ns)
+AnyLeft t f ns i least = (a : ℕ) → a < 2 ^ 34 →
+    (nat_le least a || list_any (t a) (map f (drop i ns))) ≡ list_any (t a) (map f ns)
 
 -- the greatest number so far, and the elements that are left
 abbrev pub AllLeft : {N X : Type 0} → (ℕ → X → Bool) → (N → X) → List N → ℕ → ℕ → Type 0
-AllLeft t f ns i most = (a : ℕ) → a < 2 ^ 34 → (nat_le most a && list_all (t a) (map f (drop i ns))) ≡ list_all (t a) (map f ns)
+AllLeft t f ns i most = (a : ℕ) → a < 2 ^ 34 →
+    (nat_le most a && list_all (t a) (map f (drop i ns))) ≡ list_all (t a) (map f ns)
 
 -- before the first element the number is 2^34
 pub any_start : {N X : Type 0} (t : ℕ → X → Bool) (f : N → X) (ns : List N) → AnyLeft t f ns 0 17179869184
@@ -85,7 +129,8 @@ any_start t f ns a l = ap (λ b. b || list_any (t a) (map f ns)) (beyond a l)
 
 -- the lesser with the number of the next
 pub any_step :
-    {N X : Type 0} (t : ℕ → X → Bool) (f : N → X) (ns : List N) (i : ℕ) (d : N) (least m r : ℕ) → i < length ns → IsLeastOf (λ a. t a (f (get_or ns i d))) m →
+    {N X : Type 0} (t : ℕ → X → Bool) (f : N → X) (ns : List N) (i : ℕ) (d : N) (least m r : ℕ) → i < length ns →
+    IsLeastOf (λ a. t a (f (get_or ns i d))) m →
     r ≡ min least m → AnyLeft t f ns i least → AnyLeft t f ns (i + 1) r
 any_step {N} {X} t f ns i d least m r h e q left a l =
     let rest = list_any (t a) (map f (drop (i + 1) ns)) in
@@ -96,13 +141,16 @@ any_step {N} {X} t f ns i d least m r h e q left a l =
     ∙ left a l
 
 -- at the end it is the least alpha of one of them passing
-pub any_end : {N X : Type 0} (t : ℕ → X → Bool) (f : N → X) (ns : List N) (i least : ℕ) → length ns ≡ i → AnyLeft t f ns i least → IsLeastOf (λ a. list_any (t a) (map f ns)) least
+pub any_end : {N X : Type 0} (t : ℕ → X → Bool) (f : N → X) (ns : List N) (i least : ℕ) → length ns ≡ i →
+    AnyLeft t f ns i least → IsLeastOf (λ a. list_any (t a) (map f ns)) least
 any_end {N} {X} t f ns i least e left a l =
-    sym (left a l) ∙ ap (λ (v : List N). nat_le least a || list_any (t a) (map f v)) (drop_all i ns (omega (arith, e))) ∙ or-false (nat_le least a)
+    sym (left a l) ∙ ap (λ (v : List N). nat_le least a || list_any (t a) (map f v)) (drop_all i ns (omega (arith, e)))
+    ∙ or-false (nat_le least a)
 
 -- the greater with the number of the next
 pub all_step :
-    {N X : Type 0} (t : ℕ → X → Bool) (f : N → X) (ns : List N) (i : ℕ) (d : N) (most m r : ℕ) → i < length ns → IsLeastOf (λ a. t a (f (get_or ns i d))) m →
+    {N X : Type 0} (t : ℕ → X → Bool) (f : N → X) (ns : List N) (i : ℕ) (d : N) (most m r : ℕ) → i < length ns →
+    IsLeastOf (λ a. t a (f (get_or ns i d))) m →
     r ≡ max most m → AllLeft t f ns i most → AllLeft t f ns (i + 1) r
 all_step {N} {X} t f ns i d most m r h e q left a l =
     let rest = list_all (t a) (map f (drop (i + 1) ns)) in
@@ -113,14 +161,17 @@ all_step {N} {X} t f ns i d most m r h e q left a l =
     ∙ left a l
 
 -- at the end it is the least alpha of all passing
-pub all_end : {N X : Type 0} (t : ℕ → X → Bool) (f : N → X) (ns : List N) (i most : ℕ) → length ns ≡ i → AllLeft t f ns i most → IsLeastOf (λ a. list_all (t a) (map f ns)) most
+pub all_end : {N X : Type 0} (t : ℕ → X → Bool) (f : N → X) (ns : List N) (i most : ℕ) → length ns ≡ i →
+    AllLeft t f ns i most → IsLeastOf (λ a. list_all (t a) (map f ns)) most
 all_end {N} {X} t f ns i most e left a l =
-    sym (left a l) ∙ ap (λ (v : List N). nat_le most a && list_all (t a) (map f v)) (drop_all i ns (omega (arith, e))) ∙ and-true (nat_le most a)
+    sym (left a l) ∙ ap (λ (v : List N). nat_le most a && list_all (t a) (map f v)) (drop_all i ns (omega (arith, e)))
+    ∙ and-true (nat_le most a)
 
 -- ---- lists of numbers
 
 -- of lists that are paired each is of its element
-pub zip_at : {X Y : Type 0} (R : X → Y → Type 0) (xs : List X) (ys : List Y) (i : ℕ) (d : X) (e : Y) → AllZip R xs ys → i < length xs → R (get_or xs i d) (get_or ys i e)
+pub zip_at : {X Y : Type 0} (R : X → Y → Type 0) (xs : List X) (ys : List Y) (i : ℕ) (d : X) (e : Y) → AllZip R xs ys →
+    i < length xs → R (get_or xs i d) (get_or ys i e)
 zip_at R [] ys i d e z h = absurd (omega (arith, h))
 zip_at R (x ∷ xs) [] i d e z h = absurd z
 zip_at R (x ∷ xs) (y ∷ ys) zero d e z h = z.0
@@ -145,7 +196,8 @@ written_back n before ys k a =
 -- where each place of a list is written to by itself, the two hold in pairs
 pub zip_written : {X Y : Type 0} (R : X → Y → Type 0) (d : X) (e : Y) (xs : List X) (n : ℕ) (slice before ys : List Y)
     → slice ≡ before → length slice ≡ n → n ≡ length xs → length ys ≡ length slice
-    → ((i : ℕ) → i < length slice → R (get_or xs i d) (get_or ys i e)) → AllZip R xs (take n (ys ++ drop (length ys) before))
+    → ((i : ℕ) → i < length slice → R (get_or xs i d) (get_or ys i e)) →
+    AllZip R xs (take n (ys ++ drop (length ys) before))
 zip_written {X} {Y} R d e xs n slice before ys v k m a f =
     subst (AllZip R xs) (sym (written_back n before ys (sym (ap length v) ∙ k) (a ∙ k)))
     (zip_places R d e xs ys (a ∙ k ∙ m) (λ i l. f i (subst (λ j. i < j) (sym (k ∙ m)) l)))
@@ -169,13 +221,15 @@ gabriel_none (a ∷ b ∷ c ∷ []) = refl
 gabriel_none (a ∷ b ∷ c ∷ d ∷ face) = refl
 
 -- the points of one cell more
-pub link_more : (face : List ℕ) (c : Cell) (cells : List Cell) → link_of face (c ∷ cells) ≡ filter (λ p. not (is_among p face)) (points_of c) ++ link_of face cells
+pub link_more : (face : List ℕ) (c : Cell) (cells : List Cell) →
+    link_of face (c ∷ cells) ≡ filter (λ p. not (is_among p face)) (points_of c) ++ link_of face cells
 link_more face c cells = filter-append (λ p. not (is_among p face)) (points_of c) (flat_map points_of cells)
 
 -- and so of the faces of a kind
 pub faces_written : (part : Part) (faces : FaceLists) (e : FaceAlphas) (n : ℕ) (slice before ys : List FaceAlphas)
     → slice ≡ before → length slice ≡ n → n ≡ face_count part faces → length ys ≡ length slice
-    → ((i : ℕ) → i < length slice → AreAlphasAt part faces i (get_or ys i e)) → AreAlphasOfFaces part faces (take n (ys ++ drop (length ys) before))
+    → ((i : ℕ) → i < length slice → AreAlphasAt part faces i (get_or ys i e)) →
+    AreAlphasOfFaces part faces (take n (ys ++ drop (length ys) before))
 faces_written Points faces e = zip_written (AreAlphasOf is_admitted_point) (0, []) e faces.points
 faces_written Pairs faces e = zip_written (AreAlphasOf (is_admitted_pair faces.triples)) ([], []) e faces.pairs
 faces_written Triples faces e = zip_written (AreAlphasOf is_admitted_triple) ([], []) e faces.triples

@@ -1,5 +1,24 @@
 -- Parts of ascending lists of points: how long they are, and which parts contain which.
-use Rattle.std.proofs.Common.{◌≡◌, sym, subst, ap, ◌∙◌, ℕ, zero, suc, ◌<◌, inl, inr, true, List, [], ◌∷◌, map, length, arith}
+use Rattle.std.proofs.Common.{
+  ◌≡◌,
+  sym,
+  subst,
+  ap,
+  ◌∙◌,
+  ℕ,
+  zero,
+  suc,
+  ◌<◌,
+  inl,
+  inr,
+  true,
+  List,
+  [],
+  ◌∷◌,
+  map,
+  length,
+  arith,
+}
 use Rattle.list_laws.proofs.Cited.{all_from, all_true, among_from, among_true, from_append, mapped_from}
 use Rattle.point_order.specs.Sets.{IsIn, IsAscending, is_among}
 use Rattle.point_order.specs.Subsets.{subsets}
@@ -49,4 +68,5 @@ not_in_shorter t p a b c l = no_longer (length p) t p l (part_true t p a b (cont
 
 -- and one that is as long and contains it is the same
 pub same_face : (t p : List ℕ) → IsAscending t → IsAscending p → contains t p ≡ true → length t ≡ length p → t ≡ p
-same_face t p a b c e = whole_only t p (subst (λ n. IsIn p (subsets n t)) (sym e) (part_true t p a b (contained_from t p c)))
+same_face t p a b c e = whole_only t p (subst (λ n. IsIn p (subsets n t)) (sym e)
+    (part_true t p a b (contained_from t p c)))

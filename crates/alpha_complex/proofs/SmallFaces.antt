@@ -20,7 +20,8 @@ use Rattle.alpha_complex.specs.Judged.{is_listed, is_small_by, small_among}
 -- ---- lists
 
 -- tests that answer alike at the members of a list pass all alike
-pub all_same : {X : Type 0} (p q : X → Bool) (xs : List X) → ((x : X) → IsIn x xs → p x ≡ q x) → list_all p xs ≡ list_all q xs
+pub all_same : {X : Type 0} (p q : X → Bool) (xs : List X) → ((x : X) → IsIn x xs → p x ≡ q x) →
+    list_all p xs ≡ list_all q xs
 all_same p q [] f = refl
 all_same p q (x ∷ xs) f = (
     let e : p x ≡ q x = f x (inl refl) in
@@ -28,7 +29,8 @@ all_same p q (x ∷ xs) f = (
     rw (e, r) refl)
 
 -- and some
-pub any_same : {X : Type 0} (p q : X → Bool) (xs : List X) → ((x : X) → IsIn x xs → p x ≡ q x) → list_any p xs ≡ list_any q xs
+pub any_same : {X : Type 0} (p q : X → Bool) (xs : List X) → ((x : X) → IsIn x xs → p x ≡ q x) →
+    list_any p xs ≡ list_any q xs
 any_same p q [] f = refl
 any_same p q (x ∷ xs) f = (
     let e : p x ≡ q x = f x (inl refl) in
@@ -36,12 +38,15 @@ any_same p q (x ∷ xs) f = (
     rw (e, r) refl)
 
 -- what is kept of a list is put beside its cells alike
-firsts_kept : (t : List ℕ × List Cell → Bool) (g : List ℕ → List Cell) (ps : List (List ℕ)) → map (λ f. f.0) (filter t (map (λ p. (p, g p)) ps)) ≡ filter (λ p. t (p, g p)) ps
+firsts_kept : (t : List ℕ × List Cell → Bool) (g : List ℕ → List Cell) (ps : List (List ℕ)) →
+    map (λ f. f.0) (filter t (map (λ p. (p, g p)) ps)) ≡ filter (λ p. t (p, g p)) ps
 firsts_kept t g [] = refl
 firsts_kept t g (p ∷ ps) = by_test (t (p, g p)) refl (firsts_kept t g ps)
   where
     -- kept or not
-    by_test : (b : Bool) → t (p, g p) ≡ b → map (λ f. f.0) (filter t (map (λ p. (p, g p)) ps)) ≡ filter (λ p. t (p, g p)) ps → map (λ f. f.0) (filter t (map (λ p. (p, g p)) (p ∷ ps))) ≡ filter (λ p. t (p, g p)) (p ∷ ps)
+    by_test : (b : Bool) → t (p, g p) ≡ b → map (λ f. f.0) (filter t (map (λ p. (p, g p)) ps)) ≡ filter
+        (λ p. t (p, g p)) ps → map (λ f. f.0) (filter t (map (λ p. (p, g p)) (p ∷ ps))) ≡ filter (λ p. t (p, g p))
+        (p ∷ ps)
     by_test true e r = rw e (ap (λ l. p ∷ l) r)
     by_test false e r = rw e r
 
@@ -56,12 +61,14 @@ listed_from list p t = (
 
 -- and back
 pub listed_true : (list : List (List ℕ)) (p : List ℕ) → IsIn p list → is_listed list p ≡ true
-listed_true list p i = any_true (λ q. is_eq (slice_cmp nat_cmp q p)) list p i (is_eq-slice_cmp p p ∙ (bytes_eq-Decides p p).1 refl)
+listed_true list p i = any_true (λ q. is_eq (slice_cmp nat_cmp q p)) list p i
+    (is_eq-slice_cmp p p ∙ (bytes_eq-Decides p p).1 refl)
 
 -- ---- faces beside their cells
 
 -- the small ones among faces beside their cells
-pub small_are : (alpha : ℕ) (faces : List (List ℕ)) (cells : List Cell) → small_among alpha (with_cells faces cells) ≡ filter (λ p. is_small_by alpha (p, cells_with p cells)) faces
+pub small_are : (alpha : ℕ) (faces : List (List ℕ)) (cells : List Cell) →
+    small_among alpha (with_cells faces cells) ≡ filter (λ p. is_small_by alpha (p, cells_with p cells)) faces
 small_are alpha faces cells = firsts_kept (is_small_by alpha) (λ p. cells_with p cells) faces
 
 -- faces beside their cells are in order where the faces are
@@ -70,6 +77,8 @@ firsts_are [] cells = refl
 firsts_are (p ∷ faces) cells = ap (λ l. p ∷ l) (firsts_are faces cells)
 
 -- a listed face is small by its link where it is in the set
-pub small_by_link : (s : List ℕ) (alpha k : ℕ) (p : List ℕ) → IsAscending s → AreKeys s → IsIn p (parts_in k (complex s)) → is_small_by alpha (p, cells_with p (complex s)) ≡ is_small s alpha p
+pub small_by_link : (s : List ℕ) (alpha k : ℕ) (p : List ℕ) → IsAscending s → AreKeys s →
+    IsIn p (parts_in k (complex s)) → is_small_by alpha (p, cells_with p (complex s)) ≡ is_small s alpha p
 small_by_link s alpha k p a keys i =
-    ap (λ b. b && is_within alpha p) (judged_by_link s p (link_of p (cells_with p (complex s))) a keys (listed_is_face s k p a i) (link_is_link s p))
+    ap (λ b. b && is_within alpha p) (judged_by_link s p (link_of p (cells_with p (complex s))) a keys
+    (listed_is_face s k p a i) (link_is_link s p))

@@ -15,7 +15,8 @@ use Rattle.cavity.specs.Exploring.{IsAt, AreUncrossed}
 use Rattle.cavity.specs.Tables.{AreBehind}
 use Rattle.cell_conflict.proofs.Cited.{one_of_two}
 
-module _ (s : List ℕ) (p : ℕ) (i : IsSolidSet s) (crossed : List Facet) (cell other : Cell) (f : Facet) (found : List Cell) (rim : List Facet)
+module _ (s : List ℕ) (p : ℕ) (i : IsSolidSet s) (crossed : List Facet) (cell other : Cell) (f : Facet)
+    (found : List Cell) (rim : List Facet)
     (t : IsAt s p crossed cell found rim) (m : IsIn f (facets_of cell)) (o : IsOtherOf (complex s) cell f other) where
   -- the found cell goes
   goes_here : GoesFrom s p cell
@@ -33,7 +34,9 @@ module _ (s : List ℕ) (p : ℕ) (i : IsSolidSet s) (crossed : List Facet) (cel
   ]
 
   -- The cell behind goes, and is one of a longer list of cells that go, each once.
-  pub crossed_inside : (found' : List Cell) → ((q : Cell) → IsIn q found → IsIn q found') → ((q : Cell) → IsIn q found' → GoesFrom s p q) → AreDistinct found' → IsIn other found' → AreCrossed s p (crossed ++ f ∷ []) found' rim
+  pub crossed_inside : (found' : List Cell) → ((q : Cell) → IsIn q found → IsIn q found') →
+      ((q : Cell) → IsIn q found' → GoesFrom s p q) → AreDistinct found' → IsIn other found' →
+      AreCrossed s p (crossed ++ f ∷ []) found' rim
   crossed_inside found' more goes once there = record {
     goes = goes;
     behind = λ g q k a b. elim (from_append g crossed (f ∷ []) k) [
@@ -65,9 +68,11 @@ module _ (s : List ℕ) (p : ℕ) (i : IsSolidSet s) (crossed : List Facet) (cel
   crossed_found k = crossed_inside found (λ q j. j) t.so_far.goes t.so_far.found_once k
 
   -- the cell behind goes, and is found now
-  pub crossed_goes : ¬ (IsIn other found) → GoesFrom s p other → AreCrossed s p (crossed ++ f ∷ []) (found ++ other ∷ []) rim
+  pub crossed_goes : ¬ (IsIn other found) → GoesFrom s p other →
+      AreCrossed s p (crossed ++ f ∷ []) (found ++ other ∷ []) rim
   crossed_goes n g =
-      crossed_inside (found ++ other ∷ []) (λ q j. in_left q found (other ∷ []) j) (λ q j. elim (from_append q found (other ∷ []) j) [
+      crossed_inside (found ++ other ∷ []) (λ q j. in_left q found (other ∷ []) j)
+      (λ q j. elim (from_append q found (other ∷ []) j) [
         | inl k ↦ t.so_far.goes q k
         | inr k ↦ elim k [ inl e ↦ subst (λ (c : Cell). GoesFrom s p c) e g | inr none ↦ absurd none ]
       ]) (distinct_push found other t.so_far.found_once n) (in_right other found (other ∷ []) (inl refl))
@@ -77,7 +82,8 @@ module _ (s : List ℕ) (p : ℕ) (i : IsSolidSet s) (crossed : List Facet) (cel
   rim_here k = record { gone = cell; goes = goes_here; of_gone = m; kept = other; stays = k; of_kept = o.has }
 
   -- and is listed
-  pub crossed_stays : AreUncrossed s p crossed (f ∷ []) → StaysFrom s p other → AreCrossed s p (crossed ++ f ∷ []) found (rim ++ f ∷ [])
+  pub crossed_stays : AreUncrossed s p crossed (f ∷ []) → StaysFrom s p other →
+      AreCrossed s p (crossed ++ f ∷ []) found (rim ++ f ∷ [])
   crossed_stays u k = record {
     goes = t.so_far.goes;
     behind = λ g q j a b. elim (from_append g crossed (f ∷ []) j) [
@@ -112,18 +118,24 @@ module _ (s : List ℕ) (p : ℕ) (i : IsSolidSet s) (crossed : List Facet) (cel
   behind_rim n g j k =
       let r = (t.so_far.rim_is g).0 j in
       let e = r.1 in
-      elim (one_of_two s i.set g e.gone e.kept other e.goes.before e.of_gone e.stays.before e.of_kept (λ q. e.goes.after (subst (λ (c : Cell). IsIn c (complex (with_point p s))) q e.stays.after)) o.listed k) [
+      elim (one_of_two s i.set g e.gone e.kept other e.goes.before e.of_gone e.stays.before e.of_kept
+      (λ q. e.goes.after (subst (λ (c : Cell). IsIn c (complex (with_point p s))) q e.stays.after)) o.listed k) [
         | inl d ↦ absurd (n (t.so_far.behind g other r.0 (subst (λ (c : Cell). GoesFrom s p c) d e.goes) k))
         | inr d ↦ subst (λ (c : Cell). StaysFrom s p c) d e.stays
       ]
 
 -- cells behind the rim are so where the rim is longer
-pub behind_more : (stays : List Cell) (rim : List Facet) (f : Facet) → AreBehind stays rim → AreBehind stays (rim ++ f ∷ [])
+pub behind_more : (stays : List Cell) (rim : List Facet) (f : Facet) → AreBehind stays rim →
+    AreBehind stays (rim ++ f ∷ [])
 behind_more stays rim f b q m = let r = b q m in (r.0, in_left r.0 rim (f ∷ []) r.1, r.2)
 
 -- and with one more that is
-pub behind_kept : (stays : List Cell) (rim : List Facet) (c : Cell) (f : Facet) → AreBehind stays rim → IsIn f (facets_of c) → AreBehind (stays ++ c ∷ []) (rim ++ f ∷ [])
+pub behind_kept : (stays : List Cell) (rim : List Facet) (c : Cell) (f : Facet) → AreBehind stays rim →
+    IsIn f (facets_of c) → AreBehind (stays ++ c ∷ []) (rim ++ f ∷ [])
 behind_kept stays rim c f b k q m = elim (from_append q stays (c ∷ []) m) [
   | inl j ↦ behind_more stays rim f b q j
-  | inr j ↦ elim j [ inl e ↦ (f, in_right f rim (f ∷ []) (inl refl), subst (λ (x : Cell). IsIn f (facets_of x)) e k) | inr none ↦ absurd none ]
+  | inr j ↦ elim j [
+    | inl e ↦ (f, in_right f rim (f ∷ []) (inl refl), subst (λ (x : Cell). IsIn f (facets_of x)) e k)
+    | inr none ↦ absurd none
+  ]
 ]

@@ -11,7 +11,14 @@ use Rattle.point_order.specs.Sets.{IsIn}
 use Rattle.del_laws.proofs.Cited.{listed_inside, listed_is_cell}
 use Rattle.hole_laws.specs.Lists.{cell_over}
 use Rattle.hole_laws.specs.Edits.{GoesFrom, IsRimOf, IsFresh}
-use Rattle.hole_laws.proofs.Cited.{cells_after, fresh_are_near, fresh_have_point, old_lack_point, one_fresh_each, region_connected}
+use Rattle.hole_laws.proofs.Cited.{
+  cells_after,
+  fresh_are_near,
+  fresh_have_point,
+  old_lack_point,
+  one_fresh_each,
+  region_connected,
+}
 use Rattle.cell_store.specs.Grids.{bucket_of}
 use Rattle.cell_store.specs.Buckets.{bucket_at}
 use Rattle.cavity.specs.Digs.{Digging, AreCrossed, IsDoneIn}
@@ -21,7 +28,8 @@ use Rattle.cell_conflict.proofs.Cited.{on_cell}
 module _ (s : List ℕ) (d : Digging) (k : IsDoneIn s d) where
   -- the facets of all found cells were crossed
   all_crossed : AreCrossed s d.point (flat_map facets_of d.found) d.found d.rim
-  all_crossed = subst (λ (l : List Cell). AreCrossed s d.point (flat_map facets_of l) d.found d.rim) (take_all d.explored d.found k.all) k.dig.crossed
+  all_crossed = subst (λ (l : List Cell). AreCrossed s d.point (flat_map facets_of l) d.found d.rim)
+      (take_all d.explored d.found k.all) k.dig.crossed
 
   -- so every cell that goes was found
   pub all_found : (q : Cell) → GoesFrom s d.point q → IsIn q d.found
@@ -40,7 +48,8 @@ module _ (s : List ℕ) (d : Digging) (k : IsDoneIn s d) where
 
   -- each is fresh
   over_fresh : (q : Cell) → IsIn q (map over d.rim) → IsFresh s d.point q
-  over_fresh q m = let r = mapped_from over q d.rim m in record { f = r.0; rim = ((all_crossed.rim_is r.0).0 r.1).1; is = sym r.2 }
+  over_fresh q m = let r = mapped_from over q d.rim m in
+      record { f = r.0; rim = ((all_crossed.rim_is r.0).0 r.1).1; is = sym r.2 }
 
   -- the cells of the hole, and those that fill it
   pub filled : IsFilled s d.point d.found (map over d.rim)
@@ -50,22 +59,32 @@ module _ (s : List ℕ) (d : Digging) (k : IsDoneIn s d) where
       all_gone = λ q m n. all_found q (record { before = m; after = n });
       came = λ q m. (
           let f = over_fresh q m in
-          let l = (cells_after s d.point k.solid k.dig.new q).1 (inr f) in
-          (l, λ j. old_lack_point s d.point k.solid k.dig.new q j ((fresh_have_point s d.point k.solid k.dig.new q l).0 f)));
+          let l = (cells_after s d.point k.solid k.dig.new q).1 (inr f) in (
+            l,
+            λ j. old_lack_point s d.point k.solid k.dig.new q j
+                ((fresh_have_point s d.point k.solid k.dig.new q l).0 f),
+          ));
       all_fresh = λ q m n. elim ((cells_after s d.point k.solid k.dig.new q).0 m) [
         | inl t ↦ absurd (n t.before)
-        | inr f ↦ subst (λ (c : Cell). IsIn c (map over d.rim)) (sym f.is) (mapped_true over f.f d.rim (all_rim f.f f.rim))
+        | inr f ↦ subst (λ (c : Cell). IsIn c (map over d.rim)) (sym f.is)
+            (mapped_true over f.f d.rim (all_rim f.f f.rim))
       ];
     };
     gone_once = all_crossed.found_once;
-    fresh_once = distinct_map over d.rim (λ f g m n e. one_fresh_each s d.point k.solid k.dig.new f g ((all_crossed.rim_is f).0 m).1 ((all_crossed.rim_is g).0 n).1 e) all_crossed.rim_once;
+    fresh_once = distinct_map over d.rim (λ f g m n e. one_fresh_each s d.point k.solid k.dig.new f g
+        ((all_crossed.rim_is f).0 m).1 ((all_crossed.rim_is g).0 n).1 e) all_crossed.rim_once;
   }
 
   -- a rim facet does not have the point
   pub rim_apart : (f : Facet) → IsIn f d.rim → IsFacetApart f d.point
   rim_apart f m =
-      let r = ((all_crossed.rim_is f).0 m).1 in
-      (r.gone, r.of_gone, λ i. k.dig.new.absent (listed_inside s r.gone (listed_is_cell s r.gone k.solid.set.ascending r.goes.before) d.point (on_cell s k.solid.set r.gone r.goes.before f r.of_gone d.point i)))
+      let r = ((all_crossed.rim_is f).0 m).1 in (
+        r.gone,
+        r.of_gone,
+        λ i. k.dig.new.absent
+            (listed_inside s r.gone (listed_is_cell s r.gone k.solid.set.ascending r.goes.before) d.point
+            (on_cell s k.solid.set r.gone r.goes.before f r.of_gone d.point i)),
+      )
 
 -- the buckets of the fresh cells are in hand with those of the gone ones and of the point
 pub fresh_are_held : FreshAreHeld
@@ -80,12 +99,17 @@ fresh_are_held s p gone fresh hold i n f held here c m e k =
     ]
 
 -- the first cells and the next
-pub cells_more : (cells : List Cell) (i : ℕ) (at x : Cell) (before after : List Cell) → i < length cells → at ≡ slice_index_or cells i at → x ≡ at → before ≡ take i cells → after ≡ before ++ x ∷ [] → after ≡ take (i + 1) cells
+pub cells_more : (cells : List Cell) (i : ℕ) (at x : Cell) (before after : List Cell) → i < length cells →
+    at ≡ slice_index_or cells i at → x ≡ at → before ≡ take i cells → after ≡ before ++ x ∷ [] →
+    after ≡ take (i + 1) cells
 cells_more cells i at x before after h e q b a =
     a ∙ ap (λ l. l ++ x ∷ []) b ∙ ap (λ y. take i cells ++ y ∷ []) q ∙ sym (take_next cells i at h e)
 
 -- the fresh cells of the first facets and of the next
-pub fresh_more : (p : ℕ) (facets : List Facet) (i : ℕ) (at : Facet) (x : Cell) (before after : List Cell) → i < length facets → at ≡ slice_index_or facets i at → x ≡ cell_over at p → before ≡ map (λ f. cell_over f p) (take i facets) → after ≡ before ++ x ∷ [] → after ≡ map (λ f. cell_over f p) (take (i + 1) facets)
+pub fresh_more : (p : ℕ) (facets : List Facet) (i : ℕ) (at : Facet) (x : Cell) (before after : List Cell) →
+    i < length facets → at ≡ slice_index_or facets i at → x ≡ cell_over at p →
+    before ≡ map (λ f. cell_over f p) (take i facets) → after ≡ before ++ x ∷ [] →
+    after ≡ map (λ f. cell_over f p) (take (i + 1) facets)
 fresh_more p facets i at x before after h e q b a =
     let over : Facet → Cell = λ f. cell_over f p in
     a ∙ ap (λ l. l ++ x ∷ []) b ∙ ap (λ y. map over (take i facets) ++ y ∷ []) q

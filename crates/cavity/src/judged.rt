@@ -80,12 +80,12 @@ impl Judged {
         look(&self.marks, home, &self.goes, &self.stays, cell)
     }
 
-    // Doubles the table where three of four homes may be taken.
+    // Doubles the table where half of its homes may be taken.
     fn make_room(&mut self, alloc: Global) -> Result<(), AllocError>
         ensures { self.new ≡ self.old }
     {
         let homes = self.mask + 1;
-        if self.goes.len() + self.stays.len() >= homes / 4 * 3 {
+        if self.goes.len() + self.stays.len() >= homes / 2 {
             let mask = self.mask + homes;
             self.marks = table_of(alloc, mask, &self.goes, &self.stays)?;
             self.mask = mask;

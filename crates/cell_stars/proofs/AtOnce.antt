@@ -1,15 +1,61 @@
 -- Cells that are put in all at once.
-use Rattle.std.specs.Prelude.{◌≡◌, ℕ, zero, suc, ◌+◌, ◌<◌, ◌≤◌, true, List, [], ◌∷◌, ◌++◌, ◌⊎◌, length, map, Option, Some, slice_index, slice_index_or, slice_set}
+use Rattle.std.specs.Prelude.{
+  ◌≡◌,
+  ℕ,
+  zero,
+  suc,
+  ◌+◌,
+  ◌<◌,
+  ◌≤◌,
+  true,
+  List,
+  [],
+  ◌∷◌,
+  ◌++◌,
+  ◌⊎◌,
+  length,
+  map,
+  Option,
+  Some,
+  slice_index,
+  slice_index_or,
+  slice_set,
+}
 use Rattle.std.specs.List.Sorted.{IsStrictlySortedBy}
 use Rattle.std.proofs.Common.{refl, sym, ◌∙◌, ap, subst, inl, inr, arith, take}
 use Rattle.std.proofs.lemmas.List.{get_or-set_same, get_or-set_other, map-append, take_all}
 use Rattle.del_laws.proofs.Cited.{same_members}
-use Rattle.list_laws.proofs.Cited.{Gathered, each_none, gather_push, gather_skip, gather_step, in_pushed, in_snoc, index_in, len_set, pushed_new, pushed_old, snoc_new, snoc_old, same_from, same_true, take_next}
+use Rattle.list_laws.proofs.Cited.{
+  Gathered,
+  each_none,
+  gather_push,
+  gather_skip,
+  gather_step,
+  in_pushed,
+  in_snoc,
+  index_in,
+  len_set,
+  pushed_new,
+  pushed_old,
+  snoc_new,
+  snoc_old,
+  same_from,
+  same_true,
+  take_next,
+}
 use Rattle.point_order.specs.declared.cell.Cell.{Cell}
 use Rattle.point_order.specs.CellOrder.{cell_cmp}
 use Rattle.point_order.specs.Facets.{points_of}
 use Rattle.point_order.specs.Sets.{IsIn, IsAscending}
-use Rattle.cell_stars.specs.AtOnce.{AreKeyed, AreNumberedTo, FromCellHere, GainsPlaces, HaveKeys, StandsAtHere, StandsHere}
+use Rattle.cell_stars.specs.AtOnce.{
+  AreKeyed,
+  AreNumberedTo,
+  FromCellHere,
+  GainsPlaces,
+  HaveKeys,
+  StandsAtHere,
+  StandsHere,
+}
 use Rattle.cell_stars.specs.Gathering.{Gathers}
 use Rattle.cell_stars.specs.Grids.{bucket_of}
 use Rattle.cell_stars.specs.Places.{AreStars, IsStarred, at, cells_of, lies_in, star_at}
@@ -25,19 +71,24 @@ Stars = List (ℕ × List ℕ)
 -- ---- lists that are made of others, element by element
 
 -- one element more is mapped
-pub map_more : {X Y : Type 0} (f : X → Y) (l : List X) (n : ℕ) (x : X) (list new : List Y) → n < length l → x ≡ slice_index_or l n x →
+pub map_more : {X Y : Type 0} (f : X → Y) (l : List X) (n : ℕ) (x : X) (list new : List Y) → n < length l →
+    x ≡ slice_index_or l n x →
     new ≡ list ++ f x ∷ [] → list ≡ map f (take n l) → new ≡ map f (take (n + 1) l)
-map_more f l n x list new h e p s = p ∙ ap (λ v. v ++ f x ∷ []) s ∙ sym (ap (map f) (take_next l n x h e) ∙ map-append f (take n l) (x ∷ []))
+map_more f l n x list new h e p s = p ∙ ap (λ v. v ++ f x ∷ []) s
+    ∙ sym (ap (map f) (take_next l n x h e) ∙ map-append f (take n l) (x ∷ []))
 
 -- at the end all are
-pub map_all : {X Y : Type 0} (f : X → Y) (l : List X) (n : ℕ) (list : List Y) → length l ≤ n → list ≡ map f (take n l) → list ≡ map f l
+pub map_all : {X Y : Type 0} (f : X → Y) (l : List X) (n : ℕ) (list : List Y) → length l ≤ n → list ≡ map f (take n l) →
+    list ≡ map f l
 map_all f l n list h s = s ∙ ap (map f) (take_all n l h)
 
 -- ---- the vertices that lie in the bucket
 
 -- the next point lies in the bucket and is gathered
-pub here_more : (g b : ℕ) (ps : List ℕ) (n : ℕ) (old list new : List ℕ) (x : ℕ) → n < length ps → x ≡ slice_index_or ps n x →
-    bucket_of g x ≡ b → new ≡ list ++ x ∷ [] → Gathered (StandsHere g b) ps n old list → Gathered (StandsHere g b) ps (n + 1) old new
+pub here_more : (g b : ℕ) (ps : List ℕ) (n : ℕ) (old list new : List ℕ) (x : ℕ) → n < length ps →
+    x ≡ slice_index_or ps n x →
+    bucket_of g x ≡ b → new ≡ list ++ x ∷ [] → Gathered (StandsHere g b) ps n old list →
+    Gathered (StandsHere g b) ps (n + 1) old new
 here_more g b ps n old list new x h e t p s =
     gather_push (StandsHere g b) ps n old list new x x x h e (refl, same_true (bucket_of g x) b t) (λ z r. r.0) p s
 
@@ -45,18 +96,22 @@ here_more g b ps n old list new x h e t p s =
 pub here_not : (g b : ℕ) (ps : List ℕ) (n : ℕ) (old list : List ℕ) (x : ℕ) → n < length ps → x ≡ slice_index_or ps n x →
     (bucket_of g x ≡ b → ⊥) → Gathered (StandsHere g b) ps n old list → Gathered (StandsHere g b) ps (n + 1) old list
 here_not g b ps n old list x h e t s =
-    gather_skip (StandsHere g b) ps n old list x x h e (λ z r. t (ap (bucket_of g) r.0 ∙ same_from (bucket_of g z) b r.1)) s
+    gather_skip (StandsHere g b) ps n old list x x h e
+    (λ z r. t (ap (bucket_of g) r.0 ∙ same_from (bucket_of g z) b r.1)) s
 
 -- the points of the next cell are gathered
-pub cell_here : (g b : ℕ) (cells : List Cell) (n : ℕ) (old list new : List ℕ) (x d : Cell) → n < length cells → x ≡ slice_index_or cells n d →
-    Gathers (StandsHere g b) (points_of x) list new → Gathered (FromCellHere g b) cells n old list → Gathered (FromCellHere g b) cells (n + 1) old new
+pub cell_here : (g b : ℕ) (cells : List Cell) (n : ℕ) (old list new : List ℕ) (x d : Cell) → n < length cells →
+    x ≡ slice_index_or cells n d →
+    Gathers (StandsHere g b) (points_of x) list new → Gathered (FromCellHere g b) cells n old list →
+    Gathered (FromCellHere g b) cells (n + 1) old new
 cell_here g b cells n old list new x d h e k s =
     gather_step (FromCellHere g b) cells n old list new x d h e
     (λ p m. elim (k.each p m) [ inl i ↦ inl i | inr r ↦ inr (subst (λ q. IsIn q (points_of x)) r.2.0 r.1, r.2.1) ])
     k.kept (λ p r. k.all p r.0 p (refl, r.1)) s
 
 -- in any other list with the same points
-pub same_gathered : (g b : ℕ) (cells : List Cell) (list new : List ℕ) → ((p : ℕ) → (IsIn p list → IsIn p new) × (IsIn p new → IsIn p list)) →
+pub same_gathered : (g b : ℕ) (cells : List Cell) (list new : List ℕ) →
+    ((p : ℕ) → (IsIn p list → IsIn p new) × (IsIn p new → IsIn p list)) →
     Gathers (FromCellHere g b) cells [] list → Gathers (FromCellHere g b) cells [] new
 same_gathered g b cells list new f s = record {
   each = λ p m. s.each p ((f p).1 m);
@@ -74,10 +129,12 @@ number_none l keys e = record {
 }
 
 -- the next vertex gets its place for a number
-pub number_more : (l : List ℕ) (n x : ℕ) (keys new : List (ℕ × ℕ)) → n < length l → x ≡ slice_index_or l n x → new ≡ keys ++ (x, n) ∷ [] →
+pub number_more : (l : List ℕ) (n x : ℕ) (keys new : List (ℕ × ℕ)) → n < length l → x ≡ slice_index_or l n x →
+    new ≡ keys ++ (x, n) ∷ [] →
     AreNumberedTo n l keys → AreNumberedTo (n + 1) l new
 number_more l n x keys new h e p s = record {
-  vertices_are = ap vertices p ∙ map-append (λ (k : ℕ × ℕ). k.0) keys ((x, n) ∷ []) ∙ ap (λ v. v ++ x ∷ []) s.vertices_are ∙ sym (take_next l n x h e);
+  vertices_are = ap vertices p ∙ map-append (λ (k : ℕ × ℕ). k.0) keys ((x, n) ∷ [])
+      ∙ ap (λ v. v ++ x ∷ []) s.vertices_are ∙ sym (take_next l n x h e);
   each = λ k m. elim (in_pushed keys new (x, n) k p m) [
     | inl i ↦ s.each k i
     | inr q ↦ subst (λ (k : ℕ × ℕ). (k.1 < length l) × (slice_index l k.1 ≡ k.0)) q (h, there l n x h e)
@@ -90,7 +147,8 @@ number_more l n x keys new h e p s = record {
     there (y ∷ l) (suc n) x h e = there l n x (omega arith) e
 
 -- at the end all have numbers
-pub number_all : (l : List ℕ) (n : ℕ) (keys : List (ℕ × ℕ)) → length l ≤ n → AreNumberedTo n l keys → AreNumberedTo (length l) l keys
+pub number_all : (l : List ℕ) (n : ℕ) (keys : List (ℕ × ℕ)) → length l ≤ n → AreNumberedTo n l keys →
+    AreNumberedTo (length l) l keys
 number_all l n keys h s = record {
   vertices_are = s.vertices_are ∙ take_all n l h ∙ sym (take_all (length l) l (omega arith));
   each = s.each;
@@ -110,20 +168,24 @@ bare_length [] = refl
 bare_length (p ∷ l) = ap suc (bare_length l)
 
 -- the stars without places are the vertices' own
-pub bare_keyed : (l : List ℕ) (keys : List (ℕ × ℕ)) (stars : Stars) → IsAscending l → AreNumberedTo (length l) l keys → stars ≡ map (λ p. (p, [])) l →
+pub bare_keyed : (l : List ℕ) (keys : List (ℕ × ℕ)) (stars : Stars) → IsAscending l → AreNumberedTo (length l) l keys →
+    stars ≡ map (λ p. (p, [])) l →
     AreKeyed keys stars
 bare_keyed l keys stars a s e = record {
   order = subst IsAscending (sym (s.vertices_are ∙ take_all (length l) l (omega arith))) a;
   within = λ k m. (let h = (s.each k m).0 in let q = ap length e ∙ bare_length l in omega (arith, h, q));
-  owned = λ k m. ap (λ v. (star_at v k.1).0) e ∙ ap (λ (s : ℕ × List ℕ). s.0) (bare_at l k.1 (s.each k m).0) ∙ (s.each k m).1;
+  owned = λ k m. ap (λ v. (star_at v k.1).0) e ∙ ap (λ (s : ℕ × List ℕ). s.0) (bare_at l k.1 (s.each k m).0)
+      ∙ (s.each k m).1;
 }
 
 -- none of them names a place
-pub bare_none : (l : List ℕ) (keys : List (ℕ × ℕ)) (stars : Stars) (p i : ℕ) → AreNumberedTo (length l) l keys → stars ≡ map (λ p. (p, [])) l →
+pub bare_none : (l : List ℕ) (keys : List (ℕ × ℕ)) (stars : Stars) (p i : ℕ) → AreNumberedTo (length l) l keys →
+    stars ≡ map (λ p. (p, [])) l →
     IsStarred keys stars p i → ⊥
 bare_none l keys stars p i s e r =
     let h = (s.each (p, r.number) r.key).0 in
-    let q : (star_at stars r.number).1 ≡ [] = ap (λ v. (star_at v r.number).1) e ∙ ap (λ (s : ℕ × List ℕ). s.1) (bare_at l r.number h) in
+    let q : (star_at stars r.number).1 ≡ [] = ap (λ v. (star_at v r.number).1) e
+    ∙ ap (λ (s : ℕ × List ℕ). s.1) (bare_at l r.number h) in
     subst (λ (v : List ℕ). IsIn i v) q r.listed
 
 -- a star that is set stands there
@@ -136,12 +198,17 @@ set_other stars n m s f = get_or-set_other stars n m s (0, []) f
 
 -- one star has one place more
 pub gains_one : (keys : List (ℕ × ℕ)) (old new : Stars) (p i n : ℕ) → AreKeyed keys old → IsIn (p, n) keys →
-    new ≡ slice_set old n ((star_at old n).0, (star_at old n).1 ++ i ∷ []) → GainsPlaces keys (λ q j. (p ≡ q) × (i ≡ j)) old new
+    new ≡ slice_set old n ((star_at old n).0, (star_at old n).1 ++ i ∷ []) →
+    GainsPlaces keys (λ q j. (p ≡ q) × (i ≡ j)) old new
 gains_one keys old new p i n a k e = record {
   keyed = record {
     order = a.order;
     within = λ l m. (let h = a.within l m in let q = ap length e ∙ len_set old n s in omega (arith, h, q));
-    owned = λ l m. elim (at_number l.1) [ inl r ↦ ap (λ (t : ℕ × List ℕ). t.0) r.1 ∙ ap (λ v. (star_at old v).0) (sym r.0) ∙ a.owned l m | inr r ↦ ap (λ (t : ℕ × List ℕ). t.0) r.1 ∙ a.owned l m ];
+    owned = λ l m. elim (at_number l.1) [
+      | inl r ↦ ap (λ (t : ℕ × List ℕ). t.0) r.1
+          ∙ ap (λ v. (star_at old v).0) (sym r.0) ∙ a.owned l m
+      | inr r ↦ ap (λ (t : ℕ × List ℕ). t.0) r.1 ∙ a.owned l m
+    ];
   };
   only = only;
   kept = kept;
@@ -153,7 +220,11 @@ gains_one keys old new p i n a k e = record {
 
     at_number : (m : ℕ) → ((m ≡ n) × (star_at new m ≡ s)) ⊎ ((m ≡ n → ⊥) × (star_at new m ≡ star_at old m))
     at_number m = elim (same_or_not m n) [
-      | inl q ↦ inl (q, ap (λ v. star_at v m) e ∙ ap (λ v. star_at (slice_set old n s) v) q ∙ set_one old n s (a.within (p, n) k))
+      | inl q ↦ inl (
+        q,
+        ap (λ v. star_at v m) e ∙ ap (λ v. star_at (slice_set old n s) v) q
+            ∙ set_one old n s (a.within (p, n) k),
+      )
       | inr q ↦ inr (q, ap (λ v. star_at v m) e ∙ set_other old n m s q)
     ]
 
@@ -165,7 +236,8 @@ gains_one keys old new p i n a k e = record {
       | inl t ↦ (
           let same : (p, n) ≡ (q, r.number) = by_number (p, n) (q, r.number) k r.key (sym t.0) in
           let pq : p ≡ q = ap (λ (v : ℕ × ℕ). v.0) same in
-          elim (in_snoc (star_at old n).1 i j (subst (λ (v : List ℕ). IsIn j v) (ap (λ (v : ℕ × List ℕ). v.1) t.1) r.listed)) [
+          elim (in_snoc (star_at old n).1 i j (subst (λ (v : List ℕ). IsIn j v) (ap (λ (v : ℕ × List ℕ). v.1) t.1)
+          r.listed)) [
             | inl m ↦ inl (record {
               number = r.number;
               key = r.key;
@@ -188,7 +260,8 @@ gains_one keys old new p i n a k e = record {
         number = r.number;
         key = r.key;
         owned = ap (λ (v : ℕ × List ℕ). v.0) t.1 ∙ ap (λ v. (star_at old v).0) (sym t.0) ∙ r.owned;
-        listed = subst (λ (v : List ℕ). IsIn j v) (sym (ap (λ (v : ℕ × List ℕ). v.1) t.1)) (snoc_old (star_at old n).1 i j (subst (λ v. IsIn j (star_at old v).1) t.0 r.listed));
+        listed = subst (λ (v : List ℕ). IsIn j v) (sym (ap (λ (v : ℕ × List ℕ). v.1) t.1))
+            (snoc_old (star_at old n).1 i j (subst (λ v. IsIn j (star_at old v).1) t.0 r.listed));
       }
       | inr t ↦ record {
         number = r.number;
@@ -202,34 +275,53 @@ gains_one keys old new p i n a k e = record {
     here = record {
       number = n;
       key = k;
-      owned = ap (λ v. (star_at v n).0) e ∙ ap (λ (v : ℕ × List ℕ). v.0) (set_one old n s (a.within (p, n) k)) ∙ a.owned (p, n) k;
-      listed = subst (λ (v : List ℕ). IsIn i v) (sym (ap (λ v. (star_at v n).1) e ∙ ap (λ (v : ℕ × List ℕ). v.1) (set_one old n s (a.within (p, n) k)))) (snoc_new (star_at old n).1 i);
+      owned = ap (λ v. (star_at v n).0) e ∙ ap (λ (v : ℕ × List ℕ). v.0) (set_one old n s (a.within (p, n) k))
+          ∙ a.owned (p, n) k;
+      listed = subst (λ (v : List ℕ). IsIn i v)
+          (sym (ap (λ v. (star_at v n).1) e ∙ ap (λ (v : ℕ × List ℕ). v.1) (set_one old n s (a.within (p, n) k))))
+          (snoc_new (star_at old n).1 i);
     }
 
 -- the star beside a key that was found
-pub gains_found : (keys : List (ℕ × ℕ)) (old new : Stars) (p i at : ℕ) (k : ℕ × ℕ) (s : ℕ × List ℕ) → AreKeyed keys old →
+pub gains_found : (keys : List (ℕ × ℕ)) (old new : Stars) (p i at : ℕ) (k : ℕ × ℕ) (s : ℕ × List ℕ) →
+    AreKeyed keys old →
     (at < length keys) × (slice_index (vertices keys) at ≡ p) → k ≡ slice_index_or keys at k → s ≡ (star_at old k.1) →
     new ≡ slice_set old k.1 (s.0, s.1 ++ i ∷ []) → GainsPlaces keys (λ q j. (p ≡ q) × (i ≡ j)) old new
 gains_found keys old new p i at k s a f e q r =
     let t = at_key keys at k f.0 e in
-    gains_one keys old new p i k.1 a (subst (λ v. IsIn (v, k.1) keys) (sym t.1 ∙ f.1) t.0) (r ∙ ap (λ (v : ℕ × List ℕ). slice_set old k.1 (v.0, v.1 ++ i ∷ [])) q)
+    gains_one keys old new p i k.1 a (subst (λ v. IsIn (v, k.1) keys) (sym t.1 ∙ f.1) t.0)
+    (r ∙ ap (λ (v : ℕ × List ℕ). slice_set old k.1 (v.0, v.1 ++ i ∷ [])) q)
 
 -- nothing is gained
-pub gains_none : (keys : List (ℕ × ℕ)) (R : ℕ → ℕ → Type 0) (stars : Stars) → AreKeyed keys stars → ((p i : ℕ) → R p i → ⊥) → GainsPlaces keys R stars stars
-gains_none keys R stars a f = record { keyed = a; only = λ p i r. inl r; kept = λ p i r. r; came = λ p i r. absurd (f p i r) }
+pub gains_none : (keys : List (ℕ × ℕ)) (R : ℕ → ℕ → Type 0) (stars : Stars) → AreKeyed keys stars →
+    ((p i : ℕ) → R p i → ⊥) → GainsPlaces keys R stars stars
+gains_none keys R stars a f = record {
+  keyed = a;
+  only = λ p i r. inl r;
+  kept = λ p i r. r;
+  came =
+      λ p i r. absurd (f p i r);
+}
 
 -- one gain after another
-pub gains_then : (keys : List (ℕ × ℕ)) (R S T : ℕ → ℕ → Type 0) (old mid new : Stars) → ((p i : ℕ) → R p i → T p i) → ((p i : ℕ) → S p i → T p i) →
-    ((p i : ℕ) → T p i → R p i ⊎ S p i) → GainsPlaces keys R old mid → GainsPlaces keys S mid new → GainsPlaces keys T old new
+pub gains_then : (keys : List (ℕ × ℕ)) (R S T : ℕ → ℕ → Type 0) (old mid new : Stars) → ((p i : ℕ) → R p i → T p i) →
+    ((p i : ℕ) → S p i → T p i) →
+    ((p i : ℕ) → T p i → R p i ⊎ S p i) → GainsPlaces keys R old mid → GainsPlaces keys S mid new →
+    GainsPlaces keys T old new
 gains_then keys R S T old mid new f g h a b = record {
   keyed = b.keyed;
-  only = λ p i r. elim (b.only p i r) [ inl m ↦ elim (a.only p i m) [ inl o ↦ inl o | inr t ↦ inr (f p i t) ] | inr t ↦ inr (g p i t) ];
+  only = λ p i r. elim (b.only p i r) [
+    | inl m ↦ elim (a.only p i m) [ inl o ↦ inl o | inr t ↦ inr (f p i t) ]
+    | inr t ↦
+        inr (g p i t)
+  ];
   kept = λ p i r. b.kept p i (a.kept p i r);
   came = λ p i t. elim (h p i t) [ inl r ↦ b.kept p i (a.came p i r) | inr s ↦ b.came p i s ];
 }
 
 -- the same gain, told otherwise
-pub gains_same : (keys : List (ℕ × ℕ)) (R T : ℕ → ℕ → Type 0) (old new : Stars) → ((p i : ℕ) → R p i → T p i) → ((p i : ℕ) → T p i → R p i) →
+pub gains_same : (keys : List (ℕ × ℕ)) (R T : ℕ → ℕ → Type 0) (old new : Stars) → ((p i : ℕ) → R p i → T p i) →
+    ((p i : ℕ) → T p i → R p i) →
     GainsPlaces keys R old new → GainsPlaces keys T old new
 gains_same keys R T old new f h a = record {
   keyed = a.keyed;
@@ -247,25 +339,37 @@ FirstHere g b ps n i q j = (IsIn q (take n ps) × (lies_in (Some (g, b)) q ≡ t
 -- of the first points of a cell, none yet, nothing is gained
 pub first_none : (g b : ℕ) (keys : List (ℕ × ℕ)) (ps : List ℕ) (i : ℕ) (stars : Stars) → AreKeyed keys stars →
     GainsPlaces keys (FirstHere g b ps 0 i) stars stars
-first_none g b keys ps i stars a = gains_none keys (FirstHere g b ps 0 i) stars a (λ q j r. each_none (λ x. ⊥) ps q r.0.0)
+first_none g b keys ps i stars a = gains_none keys (FirstHere g b ps 0 i) stars a
+    (λ q j r. each_none (λ x. ⊥) ps q r.0.0)
 
 -- the next one lies in the bucket and its star gains the place
-pub first_more : (g b : ℕ) (keys : List (ℕ × ℕ)) (ps : List ℕ) (n i x : ℕ) (old mid new : Stars) → n < length ps → x ≡ slice_index_or ps n x →
-    bucket_of g x ≡ b → GainsPlaces keys (FirstHere g b ps n i) old mid → GainsPlaces keys (λ q j. (x ≡ q) × (i ≡ j)) mid new →
+pub first_more : (g b : ℕ) (keys : List (ℕ × ℕ)) (ps : List ℕ) (n i x : ℕ) (old mid new : Stars) → n < length ps →
+    x ≡ slice_index_or ps n x →
+    bucket_of g x ≡ b → GainsPlaces keys (FirstHere g b ps n i) old mid →
+    GainsPlaces keys (λ q j. (x ≡ q) × (i ≡ j)) mid new →
     GainsPlaces keys (FirstHere g b ps (n + 1) i) old new
 first_more g b keys ps n i x old mid new h e t u v =
     gains_then keys (FirstHere g b ps n i) (λ q j. (x ≡ q) × (i ≡ j)) (FirstHere g b ps (n + 1) i) old mid new
     (λ q j r. ((pushed_old (take n ps) (take (n + 1) ps) x q more r.0.0, r.0.1), r.1))
-    (λ q j r. ((subst (λ y. IsIn y (take (n + 1) ps)) r.0 (pushed_new (take n ps) (take (n + 1) ps) x more), subst (λ y. lies_in (Some (g, b)) y ≡ true) r.0 (same_true (bucket_of g x) b t)), r.1))
-    (λ q j r. elim (in_pushed (take n ps) (take (n + 1) ps) x q more r.0.0) [ inl m ↦ inl ((m, r.0.1), r.1) | inr m ↦ inr (m, r.1) ])
+    (λ q j r. (
+      (
+        subst (λ y. IsIn y (take (n + 1) ps)) r.0 (pushed_new (take n ps) (take (n + 1) ps) x more),
+        subst (λ y. lies_in (Some (g, b)) y ≡ true) r.0 (same_true (bucket_of g x) b t),
+      ),
+      r.1,
+    ))
+    (λ q j r. elim (in_pushed (take n ps) (take (n + 1) ps) x q more r.0.0)
+    [ inl m ↦ inl ((m, r.0.1), r.1) | inr m ↦ inr (m, r.1) ])
     u v
   where
     more : take (n + 1) ps ≡ take n ps ++ x ∷ []
     more = take_next ps n x h e
 
 -- or it does not, and nothing more is gained
-pub first_not : (g b : ℕ) (keys : List (ℕ × ℕ)) (ps : List ℕ) (n i x : ℕ) (old new : Stars) → n < length ps → x ≡ slice_index_or ps n x →
-    (bucket_of g x ≡ b → ⊥) → GainsPlaces keys (FirstHere g b ps n i) old new → GainsPlaces keys (FirstHere g b ps (n + 1) i) old new
+pub first_not : (g b : ℕ) (keys : List (ℕ × ℕ)) (ps : List ℕ) (n i x : ℕ) (old new : Stars) → n < length ps →
+    x ≡ slice_index_or ps n x →
+    (bucket_of g x ≡ b → ⊥) → GainsPlaces keys (FirstHere g b ps n i) old new →
+    GainsPlaces keys (FirstHere g b ps (n + 1) i) old new
 first_not g b keys ps n i x old new h e t u =
     gains_same keys (FirstHere g b ps n i) (FirstHere g b ps (n + 1) i) old new
     (λ q j r. ((pushed_old (take n ps) (take (n + 1) ps) x q more r.0.0, r.0.1), r.1))
@@ -279,7 +383,8 @@ first_not g b keys ps n i x old new h e t u =
     more = take_next ps n x h e
 
 -- at the end each vertex of the cell that lies in the bucket has gained it
-pub first_all : (g b : ℕ) (keys : List (ℕ × ℕ)) (c : Cell) (ps : List ℕ) (n i : ℕ) (old new : Stars) → ps ≡ points_of c → length ps ≤ n →
+pub first_all : (g b : ℕ) (keys : List (ℕ × ℕ)) (c : Cell) (ps : List ℕ) (n i : ℕ) (old new : Stars) →
+    ps ≡ points_of c → length ps ≤ n →
     GainsPlaces keys (FirstHere g b ps n i) old new → GainsPlaces keys (λ q j. FromCellHere g b c q × (i ≡ j)) old new
 first_all g b keys c ps n i old new e h u =
     gains_same keys (FirstHere g b ps n i) (λ q j. FromCellHere g b c q × (i ≡ j)) old new
@@ -291,13 +396,15 @@ first_all g b keys c ps n i old new e h u =
 -- ---- all cells
 
 -- a cell of the list stands at its place
-some_at : (cells : List Cell) (n : ℕ) (x d : Cell) → n < length cells → x ≡ slice_index_or cells n d → at (map (λ c. Some c) cells) n ≡ Some x
+some_at : (cells : List Cell) (n : ℕ) (x d : Cell) → n < length cells → x ≡ slice_index_or cells n d →
+    at (map (λ c. Some c) cells) n ≡ Some x
 some_at [] n x d h e = absurd (omega arith)
 some_at (c ∷ cells) zero x d h e = ap (λ y. Some y) (sym e)
 some_at (c ∷ cells) (suc n) x d h e = some_at cells n x d (omega arith) e
 
 -- and what stands at a place is one of the list
-at_some : (cells : List Cell) (n : ℕ) (c : Cell) → at (map (λ c. Some c) cells) n ≡ Some c → (n < length cells) × IsIn c cells
+at_some : (cells : List Cell) (n : ℕ) (c : Cell) → at (map (λ c. Some c) cells) n ≡ Some c →
+    (n < length cells) × IsIn c cells
 at_some [] n c e = absurd (cc e)
 at_some (d ∷ cells) zero c e = (omega arith, inl (cc e))
 at_some (d ∷ cells) (suc n) c e = (let r = at_some cells n c e in ((let h = r.0 in omega (arith, h)), inr r.1))
@@ -317,15 +424,26 @@ pub all_none : (g b : ℕ) (cells : List Cell) (p i : ℕ) → StandsAtHere g b 
 all_none g b cells p i r = (let h = r.0 in absurd (omega (arith, h)))
 
 -- the stars gain the place of the next cell
-pub all_more : (g b : ℕ) (keys : List (ℕ × ℕ)) (cells : List Cell) (n : ℕ) (x d : Cell) (old mid new : Stars) → n < length cells →
-    x ≡ slice_index_or cells n d → GainsPlaces keys (StandsAtHere g b cells n) old mid → GainsPlaces keys (λ q j. FromCellHere g b x q × (n ≡ j)) mid new →
+pub all_more : (g b : ℕ) (keys : List (ℕ × ℕ)) (cells : List Cell) (n : ℕ) (x d : Cell) (old mid new : Stars) →
+    n < length cells →
+    x ≡ slice_index_or cells n d → GainsPlaces keys (StandsAtHere g b cells n) old mid →
+    GainsPlaces keys (λ q j. FromCellHere g b x q × (n ≡ j)) mid new →
     GainsPlaces keys (StandsAtHere g b cells (n + 1)) old new
 all_more g b keys cells n x d old mid new h e u v =
-    gains_then keys (StandsAtHere g b cells n) (λ q j. FromCellHere g b x q × (n ≡ j)) (StandsAtHere g b cells (n + 1)) old mid new
+    gains_then keys (StandsAtHere g b cells n) (λ q j. FromCellHere g b x q × (n ≡ j)) (StandsAtHere g b cells (n + 1))
+    old mid new
     (λ q j r. ((let k = r.0 in omega (arith, k)), r.1))
-    (λ q j r. ((let k = r.1 in omega (arith, k)), (x, subst (λ y. at (map (λ c. Some c) cells) y ≡ Some x) r.1 here, r.0)))
+    (λ q j r. (
+      (let k = r.1 in omega (arith, k)),
+      (x, subst (λ y. at (map (λ c. Some c) cells) y ≡ Some x) r.1 here, r.0),
+    ))
     (λ q j r. elim (same_or_not n j) [
-      | inl s ↦ inr (subst (λ c. FromCellHere g b c q) (one_some r.1.0 x (at (map (λ c. Some c) cells) j) r.1.1 (subst (λ y. at (map (λ c. Some c) cells) y ≡ Some x) s here)) r.1.2, s)
+      | inl s ↦ inr (
+        subst (λ c. FromCellHere g b c q)
+            (one_some r.1.0 x (at (map (λ c. Some c) cells) j) r.1.1
+            (subst (λ y. at (map (λ c. Some c) cells) y ≡ Some x) s here)) r.1.2,
+        s,
+      )
       | inr s ↦ inl ((let k = r.0 in omega (arith, k, s)), r.1)
     ])
     u v
@@ -335,7 +453,8 @@ all_more g b keys cells n x d old mid new h e u v =
 
 -- at the end they have gained those of all cells
 pub all_all : (g b : ℕ) (keys : List (ℕ × ℕ)) (cells : List Cell) (n : ℕ) (old new : Stars) → length cells ≤ n →
-    GainsPlaces keys (StandsAtHere g b cells n) old new → GainsPlaces keys (StandsAtHere g b cells (length cells)) old new
+    GainsPlaces keys (StandsAtHere g b cells n) old new →
+    GainsPlaces keys (StandsAtHere g b cells (length cells)) old new
 all_all g b keys cells n old new h u =
     gains_same keys (StandsAtHere g b cells n) (StandsAtHere g b cells (length cells)) old new
     (λ q j r. ((at_some cells j r.1.0 r.1.1).0, r.1)) (λ q j r. ((let k = r.0 in omega (arith, k, h)), r.1)) u
@@ -343,15 +462,19 @@ all_all g b keys cells n old new h u =
 -- ---- the stars are those of the cells
 
 -- in a list of different cells each stands at one place
-differ_at : (cells : List Cell) (i j : ℕ) (c : Cell) → Differ cells → at (map (λ c. Some c) cells) i ≡ Some c → at (map (λ c. Some c) cells) j ≡ Some c → i ≡ j
+differ_at : (cells : List Cell) (i j : ℕ) (c : Cell) → Differ cells → at (map (λ c. Some c) cells) i ≡ Some c →
+    at (map (λ c. Some c) cells) j ≡ Some c → i ≡ j
 differ_at [] i j c d e f = absurd (cc e)
 differ_at (x ∷ cells) zero zero c d e f = refl
-differ_at (x ∷ cells) zero (suc j) c d e f = absurd (d.0 (subst (λ y. IsIn y cells) (sym (one_some x c (Some x) refl e)) (at_some cells j c f).1))
-differ_at (x ∷ cells) (suc i) zero c d e f = absurd (d.0 (subst (λ y. IsIn y cells) (sym (one_some x c (Some x) refl f)) (at_some cells i c e).1))
+differ_at (x ∷ cells) zero (suc j) c d e f = absurd
+    (d.0 (subst (λ y. IsIn y cells) (sym (one_some x c (Some x) refl e)) (at_some cells j c f).1))
+differ_at (x ∷ cells) (suc i) zero c d e f = absurd
+    (d.0 (subst (λ y. IsIn y cells) (sym (one_some x c (Some x) refl f)) (at_some cells i c e).1))
 differ_at (x ∷ cells) (suc i) (suc j) c d e f = ap suc (differ_at cells i j c d.1 e f)
 
 -- every vertex that lies in the bucket has a key
-pub all_keyed : (g b : ℕ) (cells : List Cell) (l : List ℕ) (keys : List (ℕ × ℕ)) → Gathers (FromCellHere g b) cells [] l → AreNumberedTo (length l) l keys →
+pub all_keyed : (g b : ℕ) (cells : List Cell) (l : List ℕ) (keys : List (ℕ × ℕ)) →
+    Gathers (FromCellHere g b) cells [] l → AreNumberedTo (length l) l keys →
     (c : Cell) → IsIn c cells → HaveKeys (FromCellHere g b c) keys
 all_keyed g b cells l keys s n c i p r =
     beside keys p (subst (IsIn p) (sym (n.vertices_are ∙ take_all (length l) l (omega arith))) (s.all c i p r))
@@ -362,8 +485,10 @@ all_keyed g b cells l keys s n c i p r =
     beside (k ∷ keys) p (inr m) = (let r = beside keys p m in (r.0, inr r.1))
 
 -- so the stars are those of the cells
-pub are_stars : (g b : ℕ) (cells : List Cell) (l : List ℕ) (keys : List (ℕ × ℕ)) (bare stars : Stars) → IsStrictlySortedBy cell_cmp cells →
-    ((c : Cell) → IsIn c cells → touches g b c ≡ true) → Gathers (FromCellHere g b) cells [] l → AreNumberedTo (length l) l keys →
+pub are_stars : (g b : ℕ) (cells : List Cell) (l : List ℕ) (keys : List (ℕ × ℕ)) (bare stars : Stars) →
+    IsStrictlySortedBy cell_cmp cells →
+    ((c : Cell) → IsIn c cells → touches g b c ≡ true) → Gathers (FromCellHere g b) cells [] l →
+    AreNumberedTo (length l) l keys →
     bare ≡ map (λ p. (p, [])) l → GainsPlaces keys (StandsAtHere g b cells (length cells)) bare stars →
     AreStars (record { place = Some (g, b); slots = map (λ c. Some c) cells; keys = keys; stars = stars })
 are_stars g b cells l keys bare stars o t s n e u = record {
@@ -377,14 +502,16 @@ are_stars g b cells l keys bare stars o t s n e u = record {
       let h = n.each k m in
       elim (s.each k.0 (subst (λ v. IsIn v l) h.1 (index_in l k.1 h.0))) [
         | inl i ↦ absurd i
-        | inr r ↦ (let a = in_at cells r.0 r.1 in (a.0, u.came k.0 a.0 ((at_some cells a.0 r.0 a.1).0, (r.0, a.1, r.2))))
+        | inr r ↦ (let a = in_at cells r.0 r.1 in
+            (a.0, u.came k.0 a.0 ((at_some cells a.0 r.0 a.1).0, (r.0, a.1, r.2))))
       ]);
   once = λ i j c p q. differ_at cells i j c (sorted_differ cells o) p q;
   touching = λ i c q. t c (at_some cells i c q).1;
 }
 
 -- and the cells are these
-pub cells_are : (cells : List Cell) (slots : List (Option Cell)) → IsStrictlySortedBy cell_cmp cells → slots ≡ map (λ c. Some c) cells → cells_of slots ≡ cells
+pub cells_are : (cells : List Cell) (slots : List (Option Cell)) → IsStrictlySortedBy cell_cmp cells →
+    slots ≡ map (λ c. Some c) cells → cells_of slots ≡ cells
 cells_are cells slots o e =
     same_members (cells_of slots) cells (placed_sorted slots) o
     (λ c m. (let r = in_placed slots c m in (at_some cells r.0 c (subst (λ v. at v r.0 ≡ Some c) e r.1)).1))

@@ -32,7 +32,8 @@ pub among_from : (c : Cell) (l : List Cell) → is_cell_among c l ≡ true → I
 among_from c [] e = cc
 among_from c (d ∷ l) e = by (cell_cmp d c) refl e (λ f. among_from c l f)
   where
-    by : (o : Ordering) → cell_cmp d c ≡ o → (is_eq o || is_cell_among c l) ≡ true → (is_cell_among c l ≡ true → IsIn c l) → (d ≡ c) ⊎ IsIn c l
+    by : (o : Ordering) → cell_cmp d c ≡ o → (is_eq o || is_cell_among c l) ≡ true →
+        (is_cell_among c l ≡ true → IsIn c l) → (d ≡ c) ⊎ IsIn c l
     by Less f e r = inr (r e)
     by Equal f e r = inl (cell_same d c f)
     by Greater f e r = inr (r e)
@@ -52,7 +53,8 @@ pub in_with : (c x : Cell) (l : List Cell) → IsIn x (with_cell c l) → (c ≡
 in_with c x [] m = m
 in_with c x (d ∷ l) m = by (cell_cmp c d) m (λ k. in_with c x l k)
   where
-    by : (o : Ordering) → IsIn x (match_ordering o (c ∷ d ∷ l) (d ∷ l) (d ∷ with_cell c l)) → (IsIn x (with_cell c l) → (c ≡ x) ⊎ IsIn x l) → (c ≡ x) ⊎ IsIn x (d ∷ l)
+    by : (o : Ordering) → IsIn x (match_ordering o (c ∷ d ∷ l) (d ∷ l) (d ∷ with_cell c l)) →
+        (IsIn x (with_cell c l) → (c ≡ x) ⊎ IsIn x l) → (c ≡ x) ⊎ IsIn x (d ∷ l)
     by Less m r = m
     by Equal m r = inr m
     by Greater (inl e) r = inr (inl e)
@@ -63,7 +65,8 @@ with_new : (c : Cell) (l : List Cell) → IsIn c (with_cell c l)
 with_new c [] = inl refl
 with_new c (d ∷ l) = by (cell_cmp c d) refl (with_new c l)
   where
-    by : (o : Ordering) → cell_cmp c d ≡ o → IsIn c (with_cell c l) → IsIn c (match_ordering o (c ∷ d ∷ l) (d ∷ l) (d ∷ with_cell c l))
+    by : (o : Ordering) → cell_cmp c d ≡ o → IsIn c (with_cell c l) →
+        IsIn c (match_ordering o (c ∷ d ∷ l) (d ∷ l) (d ∷ with_cell c l))
     by Less e r = inl refl
     by Equal e r = inl (sym (cell_same c d e))
     by Greater e r = inr r
@@ -73,7 +76,8 @@ with_old : (c x : Cell) (l : List Cell) → IsIn x l → IsIn x (with_cell c l)
 with_old c x [] m = absurd m
 with_old c x (d ∷ l) m = by (cell_cmp c d) m (λ k. with_old c x l k)
   where
-    by : (o : Ordering) → IsIn x (d ∷ l) → (IsIn x l → IsIn x (with_cell c l)) → IsIn x (match_ordering o (c ∷ d ∷ l) (d ∷ l) (d ∷ with_cell c l))
+    by : (o : Ordering) → IsIn x (d ∷ l) → (IsIn x l → IsIn x (with_cell c l)) →
+        IsIn x (match_ordering o (c ∷ d ∷ l) (d ∷ l) (d ∷ with_cell c l))
     by Less m r = inr m
     by Equal m r = m
     by Greater (inl e) r = inl e
@@ -95,7 +99,8 @@ with_sorted c (d ∷ l) s = by (cell_cmp c d) refl (with_sorted c l s.1)
       | inr k ↦ each_by (λ z. cell_cmp d z ≡ Less) l s.0 y k
     ]
 
-    by : (o : Ordering) → cell_cmp c d ≡ o → IsStrictlySortedBy cell_cmp (with_cell c l) → IsStrictlySortedBy cell_cmp (match_ordering o (c ∷ d ∷ l) (d ∷ l) (d ∷ with_cell c l))
+    by : (o : Ordering) → cell_cmp c d ≡ o → IsStrictlySortedBy cell_cmp (with_cell c l) →
+        IsStrictlySortedBy cell_cmp (match_ordering o (c ∷ d ∷ l) (d ∷ l) (d ∷ with_cell c l))
     by Less e r = (all_by (λ y. cell_cmp c y ≡ Less) (d ∷ l) (first e), s)
     by Equal e r = s
     by Greater e r = (all_by (λ y. cell_cmp d y ≡ Less) (with_cell c l) (later e), r)
@@ -118,7 +123,8 @@ withs_old (c ∷ cs) l x m = withs_old cs (with_cell c l) x (with_old c x l m)
 -- and these are there
 pub withs_new : (cs l : List Cell) (x : Cell) → IsIn x cs → IsIn x (with_cells cs l)
 withs_new [] l x m = absurd m
-withs_new (c ∷ cs) l x (inl e) = withs_old cs (with_cell c l) x (subst (λ (y : Cell). IsIn y (with_cell c l)) e (with_new c l))
+withs_new (c ∷ cs) l x (inl e) = withs_old cs (with_cell c l) x
+    (subst (λ (y : Cell). IsIn y (with_cell c l)) e (with_new c l))
 withs_new (c ∷ cs) l x (inr m) = withs_new cs (with_cell c l) x m
 
 -- and the list is in order
@@ -146,40 +152,56 @@ kept_true gone c n = by (is_cell_among c gone) refl
     by false e = refl
 
 -- an exchanged list is in order
-pub swapped_sorted : (g b : ℕ) (gone fresh l : List Cell) → IsStrictlySortedBy cell_cmp l → IsStrictlySortedBy cell_cmp (swapped g b gone fresh l)
+pub swapped_sorted : (g b : ℕ) (gone fresh l : List Cell) → IsStrictlySortedBy cell_cmp l →
+    IsStrictlySortedBy cell_cmp (swapped g b gone fresh l)
 unfolding swapped
 swapped_sorted g b gone fresh l s =
-    withs_sorted (filter (touches g b) fresh) (without_cells (filter (touches g b) gone) l) (IsStrictlySortedBy-filter cell_cmp (kept (filter (touches g b) gone)) l s)
+    withs_sorted (filter (touches g b) fresh) (without_cells (filter (touches g b) gone) l)
+    (IsStrictlySortedBy-filter cell_cmp (kept (filter (touches g b) gone)) l s)
 
 -- its members: the fresh cells that touch the bucket, and those that were there and are not gone
-pub swapped_from : (g b : ℕ) (gone fresh l : List Cell) (x : Cell) → IsIn x (swapped g b gone fresh l) → (IsIn x fresh × (touches g b x ≡ true)) ⊎ (IsIn x l × (IsIn x gone → touches g b x ≡ true → ⊥))
+pub swapped_from : (g b : ℕ) (gone fresh l : List Cell) (x : Cell) → IsIn x (swapped g b gone fresh l) →
+    (IsIn x fresh × (touches g b x ≡ true)) ⊎ (IsIn x l × (IsIn x gone → touches g b x ≡ true → ⊥))
 unfolding swapped
-swapped_from g b gone fresh l x m = elim (in_withs (filter (touches g b) fresh) (without_cells (filter (touches g b) gone) l) x m) [
-  | inl k ↦ inl (filtered_from (touches g b) fresh x k)
-  | inr k ↦ (let r = filtered_from (kept (filter (touches g b) gone)) l x k in inr (r.0, λ i t. not_false (is_cell_among x (filter (touches g b) gone)) r.1 (among_true x (filter (touches g b) gone) (filtered_true (touches g b) gone x i t))))
-]
+swapped_from g b gone fresh l x m = elim (in_withs (filter (touches g b) fresh)
+    (without_cells (filter (touches g b) gone) l) x m) [
+      | inl k ↦ inl (filtered_from (touches g b) fresh x k)
+      | inr k ↦ (let r = filtered_from (kept (filter (touches g b) gone)) l x k in
+          inr (
+            r.0,
+            λ i t. not_false (is_cell_among x (filter (touches g b) gone)) r.1
+                (among_true x (filter (touches g b) gone) (filtered_true (touches g b) gone x i t)),
+          ))
+    ]
 
 -- a fresh cell that touches the bucket is there after the exchange
-pub swapped_new : (g b : ℕ) (gone fresh l : List Cell) (x : Cell) → IsIn x fresh → touches g b x ≡ true → IsIn x (swapped g b gone fresh l)
+pub swapped_new : (g b : ℕ) (gone fresh l : List Cell) (x : Cell) → IsIn x fresh → touches g b x ≡ true →
+    IsIn x (swapped g b gone fresh l)
 unfolding swapped
-swapped_new g b gone fresh l x m t = withs_new (filter (touches g b) fresh) (without_cells (filter (touches g b) gone) l) x (filtered_true (touches g b) fresh x m t)
+swapped_new g b gone fresh l x m t = withs_new (filter (touches g b) fresh)
+    (without_cells (filter (touches g b) gone) l) x (filtered_true (touches g b) fresh x m t)
 
 -- so is a cell that was there and is none of the gone ones
-pub swapped_old : (g b : ℕ) (gone fresh l : List Cell) (x : Cell) → IsIn x l → (IsIn x gone → ⊥) → IsIn x (swapped g b gone fresh l)
+pub swapped_old : (g b : ℕ) (gone fresh l : List Cell) (x : Cell) → IsIn x l → (IsIn x gone → ⊥) →
+    IsIn x (swapped g b gone fresh l)
 unfolding swapped
 swapped_old g b gone fresh l x m n =
     withs_old (filter (touches g b) fresh) (without_cells (filter (touches g b) gone) l) x
-    (filtered_true (kept (filter (touches g b) gone)) l x m (kept_true (filter (touches g b) gone) x (λ i. n (filtered_from (touches g b) gone x i).0)))
+    (filtered_true (kept (filter (touches g b) gone)) l x m
+    (kept_true (filter (touches g b) gone) x (λ i. n (filtered_from (touches g b) gone x i).0)))
 
 -- and so is one that was there and is gone only from other buckets
-pub swapped_kept : (g b : ℕ) (gone fresh l : List Cell) (x : Cell) → IsIn x l → (IsIn x gone → touches g b x ≡ true → ⊥) → IsIn x (swapped g b gone fresh l)
+pub swapped_kept : (g b : ℕ) (gone fresh l : List Cell) (x : Cell) → IsIn x l →
+    (IsIn x gone → touches g b x ≡ true → ⊥) → IsIn x (swapped g b gone fresh l)
 unfolding swapped
 swapped_kept g b gone fresh l x m n =
     withs_old (filter (touches g b) fresh) (without_cells (filter (touches g b) gone) l) x
-    (filtered_true (kept (filter (touches g b) gone)) l x m (kept_true (filter (touches g b) gone) x (λ i. (let r = filtered_from (touches g b) gone x i in n r.0 r.1))))
+    (filtered_true (kept (filter (touches g b) gone)) l x m
+    (kept_true (filter (touches g b) gone) x (λ i. (let r = filtered_from (touches g b) gone x i in n r.0 r.1))))
 
 -- a list that no cell of the exchange touches stays
-pub swapped_none : (g b : ℕ) (gone fresh l : List Cell) → ((c : Cell) → IsIn c gone → touches g b c ≡ false) → ((c : Cell) → IsIn c fresh → touches g b c ≡ false) → swapped g b gone fresh l ≡ l
+pub swapped_none : (g b : ℕ) (gone fresh l : List Cell) → ((c : Cell) → IsIn c gone → touches g b c ≡ false) →
+    ((c : Cell) → IsIn c fresh → touches g b c ≡ false) → swapped g b gone fresh l ≡ l
 unfolding swapped
 swapped_none g b gone fresh l f h = rw (none fresh h) (rw (none gone f) (all l))
   where
@@ -192,10 +214,13 @@ swapped_none g b gone fresh l f h = rw (none fresh h) (rw (none gone f) (all l))
     all (c ∷ l) = ap (λ (t : List Cell). c ∷ t) (all l)
 
 -- an exchange in a list that has the gone cells and none of the fresh ones is undone by the other one
-pub swapped_back : (g b : ℕ) (gone fresh l : List Cell) → IsStrictlySortedBy cell_cmp l → ((c : Cell) → IsIn c gone → touches g b c ≡ true → IsIn c l) → ((c : Cell) → IsIn c fresh → touches g b c ≡ true → IsIn c l → ⊥) →
+pub swapped_back : (g b : ℕ) (gone fresh l : List Cell) → IsStrictlySortedBy cell_cmp l →
+    ((c : Cell) → IsIn c gone → touches g b c ≡ true → IsIn c l) →
+    ((c : Cell) → IsIn c fresh → touches g b c ≡ true → IsIn c l → ⊥) →
     swapped g b fresh gone (swapped g b gone fresh l) ≡ l
 swapped_back g b gone fresh l s there absent =
-    same_members (swapped g b fresh gone (swapped g b gone fresh l)) l (swapped_sorted g b fresh gone (swapped g b gone fresh l) (swapped_sorted g b gone fresh l s)) s forth back
+    same_members (swapped g b fresh gone (swapped g b gone fresh l)) l
+    (swapped_sorted g b fresh gone (swapped g b gone fresh l) (swapped_sorted g b gone fresh l s)) s forth back
   where
     forth : (c : Cell) → IsIn c (swapped g b fresh gone (swapped g b gone fresh l)) → IsIn c l
     forth c m = elim (swapped_from g b fresh gone (swapped g b gone fresh l) c m) [
@@ -203,8 +228,10 @@ swapped_back g b gone fresh l s there absent =
       | inr k ↦ elim (swapped_from g b gone fresh l c k.0) [ inl j ↦ absurd (k.1 j.0 j.1) | inr j ↦ j.0 ]
     ]
 
-    kept_there : (c : Cell) → IsIn c l → (IsIn c gone → touches g b c ≡ true → ⊥) → IsIn c (swapped g b fresh gone (swapped g b gone fresh l))
-    kept_there c m n = swapped_kept g b fresh gone (swapped g b gone fresh l) c (swapped_kept g b gone fresh l c m n) (λ i t. absent c i t m)
+    kept_there : (c : Cell) → IsIn c l → (IsIn c gone → touches g b c ≡ true → ⊥) →
+        IsIn c (swapped g b fresh gone (swapped g b gone fresh l))
+    kept_there c m n = swapped_kept g b fresh gone (swapped g b gone fresh l) c (swapped_kept g b gone fresh l c m n)
+        (λ i t. absent c i t m)
 
     back : (c : Cell) → IsIn c l → IsIn c (swapped g b fresh gone (swapped g b gone fresh l))
     back c m = elim (in_or_not c gone) [

@@ -1,5 +1,16 @@
 -- The lemmas that other crates cite.
-pub use Rattle.cell_stars.proofs.CellLaws.{among_from, among_true, in_or_not, swapped_back, swapped_from, swapped_new, swapped_none, swapped_old, swapped_sorted, withs_new}
+pub use Rattle.cell_stars.proofs.CellLaws.{
+  among_from,
+  among_true,
+  in_or_not,
+  swapped_back,
+  swapped_from,
+  swapped_new,
+  swapped_none,
+  swapped_old,
+  swapped_sorted,
+  withs_new,
+}
 pub use Rattle.cell_stars.proofs.Gathering.{gathers}
 pub use Rattle.cell_stars.proofs.GridLaws.{bucket_below}
 pub use Rattle.cell_stars.proofs.Least.{live_at}

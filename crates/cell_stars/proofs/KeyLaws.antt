@@ -1,9 +1,42 @@
 -- Vertices with their stars.
-use Rattle.std.specs.Prelude.{◌≡◌, ℕ, zero, suc, ◌<◌, ◌≤◌, ◌==◌, Bool, true, false, List, [], ◌∷◌, ◌⊎◌, length, map, slice_index, slice_index_or, if◌then◌else◌, not, MatchBool, IsTrue}
+use Rattle.std.specs.Prelude.{
+  ◌≡◌,
+  ℕ,
+  zero,
+  suc,
+  ◌<◌,
+  ◌≤◌,
+  ◌==◌,
+  Bool,
+  true,
+  false,
+  List,
+  [],
+  ◌∷◌,
+  ◌⊎◌,
+  length,
+  map,
+  slice_index,
+  slice_index_or,
+  if◌then◌else◌,
+  not,
+  MatchBool,
+  IsTrue,
+}
 use Rattle.std.proofs.Common.{◌+◌, take, refl, sym, ◌∙◌, ap, subst, inl, inr, arith}
 use Rattle.std.proofs.lemmas.Bool.Decides.{leb_tells}
 use Rattle.std.specs.List.{insert, remove}
-use Rattle.list_laws.proofs.Cited.{at_place, below_each, each_none, in_more, in_take, last_one, more_one, same_from, same_true}
+use Rattle.list_laws.proofs.Cited.{
+  at_place,
+  below_each,
+  each_none,
+  in_more,
+  in_take,
+  last_one,
+  more_one,
+  same_from,
+  same_true,
+}
 use Rattle.point_order.specs.Sets.{IsIn, IsAscending, IsBelowFirst}
 use Rattle.cell_stars.specs.Places.{IsStarred, star_at}
 use Rattle.cell_stars.specs.Moves.{IsWritten, AreKeysAfter, AreAgreed, IsKeyed, IsKeyAfter}
@@ -26,8 +59,10 @@ vertex_in (x ∷ ks) k (inr i) = inr (vertex_in ks k i)
 pub one_key : (ks : Keys) (k l : ℕ × ℕ) → IsAscending (vertices ks) → IsIn k ks → IsIn l ks → k.0 ≡ l.0 → k ≡ l
 one_key [] k l a i j e = absurd i
 one_key (x ∷ ks) k l a (inl p) (inl q) e = sym p ∙ q
-one_key (x ∷ ks) k l a (inl p) (inr j) e = (let h = below_each x.0 (vertices ks) a.0 a.1 l.0 (vertex_in ks l j) in let f = ap (λ y. y.0) p in absurd (omega (arith, h, f, e)))
-one_key (x ∷ ks) k l a (inr i) (inl q) e = (let h = below_each x.0 (vertices ks) a.0 a.1 k.0 (vertex_in ks k i) in let f = ap (λ y. y.0) q in absurd (omega (arith, h, f, e)))
+one_key (x ∷ ks) k l a (inl p) (inr j) e = (let h = below_each x.0 (vertices ks) a.0 a.1 l.0 (vertex_in ks l j) in
+    let f = ap (λ y. y.0) p in absurd (omega (arith, h, f, e)))
+one_key (x ∷ ks) k l a (inr i) (inl q) e = (let h = below_each x.0 (vertices ks) a.0 a.1 k.0 (vertex_in ks k i) in
+    let f = ap (λ y. y.0) q in absurd (omega (arith, h, f, e)))
 one_key (x ∷ ks) k l a (inr i) (inr j) e = one_key ks k l a.1 i j e
 
 -- where a key stands
@@ -37,14 +72,16 @@ key_at (x ∷ ks) k (inl e) = (0, omega arith, ap (λ y. y.0) e)
 key_at (x ∷ ks) k (inr i) = (let r = key_at ks k i in (suc r.0, (let h = r.1 in omega (arith, h)), r.2))
 
 -- a key at a place
-pub at_key : (ks : Keys) (i : ℕ) (k : ℕ × ℕ) → i < length ks → k ≡ slice_index_or ks i k → IsIn k ks × (slice_index (vertices ks) i ≡ k.0)
+pub at_key : (ks : Keys) (i : ℕ) (k : ℕ × ℕ) → i < length ks → k ≡ slice_index_or ks i k →
+    IsIn k ks × (slice_index (vertices ks) i ≡ k.0)
 at_key [] i k h e = absurd (omega arith)
 at_key (x ∷ ks) zero k h e = (inl (sym e), ap (λ y. y.0) (sym e))
 at_key (x ∷ ks) (suc i) k h e = (let r = at_key ks i k (omega arith) e in (inr r.0, r.1))
 
 -- where a vertex belongs that has none
 abbrev pub BelongsAt : Keys → ℕ → ℕ → Type 0
-BelongsAt ks p i = (i ≤ length ks) × ((k : ℕ) → k < i → slice_index (vertices ks) k < p) × ((k : ℕ) → i ≤ k → k < length ks → p < slice_index (vertices ks) k)
+BelongsAt ks p i = (i ≤ length ks) × ((k : ℕ) → k < i → slice_index (vertices ks) k < p)
+    × ((k : ℕ) → i ≤ k → k < length ks → p < slice_index (vertices ks) k)
 
 -- a vertex that belongs at a place has no key
 pub no_key : (ks : Keys) (p i : ℕ) → BelongsAt ks p i → (k : ℕ × ℕ) → IsIn k ks → k.0 ≡ p → ⊥
@@ -74,7 +111,9 @@ pub owned_in : (p x : ℕ) (s : ℕ × List ℕ) → s.0 ≡ p → IsIn x s.1 �
 owned_in p x s e i = rw (same_true s.0 p e) i
 
 -- the star beside a key that was found
-pub star_here : (ks : Keys) (stars : List (ℕ × List ℕ)) (p i : ℕ) (k : ℕ × ℕ) (star : List ℕ) → IsAscending (vertices ks) → (i < length ks) × (slice_index (vertices ks) i ≡ p) → k ≡ slice_index_or ks i k → star ≡ owned_by p (star_at stars k.1) →
+pub star_here : (ks : Keys) (stars : List (ℕ × List ℕ)) (p i : ℕ) (k : ℕ × ℕ) (star : List ℕ) →
+    IsAscending (vertices ks) → (i < length ks) × (slice_index (vertices ks) i ≡ p) → k ≡ slice_index_or ks i k →
+    star ≡ owned_by p (star_at stars k.1) →
     (x : ℕ) → (IsIn x star → IsStarred ks stars p x) × (IsStarred ks stars p x → IsIn x star)
 star_here ks stars p i k star a h e f x = (there, back)
   where
@@ -85,20 +124,28 @@ star_here ks stars p i k star a h e f x = (there, back)
     same = sym t.1 ∙ h.1
 
     there : IsIn x star → IsStarred ks stars p x
-    there m = (let o = in_owned p x (star_at stars k.1) (subst (λ (l : List ℕ). IsIn x l) f m) in record { number = k.1; key = subst (λ (q : ℕ). IsIn (q, k.1) ks) same t.0; owned = o.0; listed = o.1 })
+    there m = (let o = in_owned p x (star_at stars k.1) (subst (λ (l : List ℕ). IsIn x l) f m) in
+        record { number = k.1; key = subst (λ (q : ℕ). IsIn (q, k.1) ks) same t.0; owned = o.0; listed = o.1 })
 
     back : IsStarred ks stars p x → IsIn x star
     back s =
         let q : (p, s.number) ≡ k = one_key ks (p, s.number) k a s.key t.0 (sym same) in
         let n : s.number ≡ k.1 = ap (λ y. y.1) q in
-        subst (λ (l : List ℕ). IsIn x l) (sym f) (owned_in p x (star_at stars k.1) (ap (λ m. (star_at stars m).0) (sym n) ∙ s.owned) (subst (λ m. IsIn x (star_at stars m).1) n s.listed))
+        subst (λ (l : List ℕ). IsIn x l) (sym f)
+        (owned_in p x (star_at stars k.1) (ap (λ m. (star_at stars m).0) (sym n) ∙ s.owned)
+        (subst (λ m. IsIn x (star_at stars m).1) n s.listed))
 
 -- a vertex that has none
-pub no_star : (ks : Keys) (stars : List (ℕ × List ℕ)) (p i : ℕ) (star : List ℕ) → BelongsAt ks p i → star ≡ [] → (x : ℕ) → (IsIn x star → IsStarred ks stars p x) × (IsStarred ks stars p x → IsIn x star)
-no_star ks stars p i star b e x = (λ m. absurd (subst (λ (l : List ℕ). IsIn x l) e m), λ s. absurd (no_key ks p i b (p, s.number) s.key refl))
+pub no_star : (ks : Keys) (stars : List (ℕ × List ℕ)) (p i : ℕ) (star : List ℕ) → BelongsAt ks p i → star ≡ [] →
+    (x : ℕ) → (IsIn x star → IsStarred ks stars p x) × (IsStarred ks stars p x → IsIn x star)
+no_star ks stars p i star b e x = (
+  λ m. absurd (subst (λ (l : List ℕ). IsIn x l) e m),
+  λ s. absurd (no_key ks p i b (p, s.number) s.key refl),
+)
 
 -- whether a star has a place
-pub has_any : (s : ℕ × List ℕ) (l : List ℕ) (r : Bool) → l ≡ s.1 → r ≡ (length l == 0) → MatchBool (not r) ((i : ℕ) × IsIn i s.1) ((i : ℕ) → IsIn i s.1 → ⊥)
+pub has_any : (s : ℕ × List ℕ) (l : List ℕ) (r : Bool) → l ≡ s.1 → r ≡ (length l == 0) →
+    MatchBool (not r) ((i : ℕ) × IsIn i s.1) ((i : ℕ) → IsIn i s.1 → ⊥)
 has_any s [] true e f = λ i m. subst (λ (k : List ℕ). IsIn i k) (sym e) m
 has_any s (x ∷ l) true e f = (let t = same_from (length (x ∷ l)) 0 (sym f) in absurd (omega (arith, t)))
 has_any s [] false e f = absurd (yes f)
@@ -108,7 +155,8 @@ has_any s [] false e f = absurd (yes f)
 has_any s (x ∷ l) false e f = (x, subst (λ (k : List ℕ). IsIn x k) e (inl refl))
 
 -- a star that was found to have none has none
-pub none_there : (s : ℕ × List ℕ) (r : Bool) → IsTrue (not r) → MatchBool r ((i : ℕ) × IsIn i s.1) ((i : ℕ) → IsIn i s.1 → ⊥) → (i : ℕ) → IsIn i s.1 → ⊥
+pub none_there : (s : ℕ × List ℕ) (r : Bool) → IsTrue (not r) →
+    MatchBool r ((i : ℕ) × IsIn i s.1) ((i : ℕ) → IsIn i s.1 → ⊥) → (i : ℕ) → IsIn i s.1 → ⊥
 none_there s true t m = absurd (yes t)
   where
     yes : false ≡ true → ⊥
@@ -124,11 +172,20 @@ in_vertices (x ∷ ks) zero h = inl refl
 in_vertices (x ∷ ks) (suc i) h = inr (in_vertices ks i (omega arith))
 
 -- the list without the key at a place
-pub without_key : (ks new : Keys) (p i : ℕ) → IsAscending (vertices ks) → (i < length ks) × (slice_index (vertices ks) i ≡ p) → new ≡ remove ks i →
-    IsAscending (vertices new) × ((k : ℕ × ℕ) → (IsIn k new → IsIn k ks × (k.0 ≡ p → ⊥)) × (IsIn k ks × (k.0 ≡ p → ⊥) → IsIn k new))
-without_key ks new p i a h e = (subst (λ l. IsAscending (vertices l)) (sym e) (order ks i a), λ k. (λ m. there ks i k a h (subst (λ (l : Keys). IsIn k l) e m), λ m. subst (λ (l : Keys). IsIn k l) (sym e) (back ks i k h m)))
+pub without_key : (ks new : Keys) (p i : ℕ) → IsAscending (vertices ks) →
+    (i < length ks) × (slice_index (vertices ks) i ≡ p) → new ≡ remove ks i →
+    IsAscending (vertices new) × ((k : ℕ × ℕ) →
+    (IsIn k new → IsIn k ks × (k.0 ≡ p → ⊥)) × (IsIn k ks × (k.0 ≡ p → ⊥) → IsIn k new))
+without_key ks new p i a h e = (
+  subst (λ l. IsAscending (vertices l)) (sym e) (order ks i a),
+  λ k. (
+    λ m. there ks i k a h (subst (λ (l : Keys). IsIn k l) e m),
+    λ m. subst (λ (l : Keys). IsIn k l) (sym e) (back ks i k h m),
+  ),
+)
   where
-    below : (x : ℕ × ℕ) (ks : Keys) (i : ℕ) → IsAscending (vertices (x ∷ ks)) → IsBelowFirst x.0 (vertices (remove ks i))
+    below : (x : ℕ × ℕ) (ks : Keys) (i : ℕ) → IsAscending (vertices (x ∷ ks)) →
+        IsBelowFirst x.0 (vertices (remove ks i))
     below x [] zero a = tt
     below x [] (suc i) a = tt
     below x (y ∷ []) zero a = tt
@@ -141,14 +198,25 @@ without_key ks new p i a h e = (subst (λ l. IsAscending (vertices l)) (sym e) (
     order (x ∷ ks) zero a = a.1
     order (x ∷ ks) (suc i) a = (below x ks i a, order ks i a.1)
 
-    there : (ks : Keys) (i : ℕ) (k : ℕ × ℕ) → IsAscending (vertices ks) → (i < length ks) × (slice_index (vertices ks) i ≡ p) → IsIn k (remove ks i) → IsIn k ks × (k.0 ≡ p → ⊥)
+    there : (ks : Keys) (i : ℕ) (k : ℕ × ℕ) → IsAscending (vertices ks) →
+        (i < length ks) × (slice_index (vertices ks) i ≡ p) → IsIn k (remove ks i) → IsIn k ks × (k.0 ≡ p → ⊥)
     there [] zero k a h m = absurd m
     there [] (suc i) k a h m = absurd m
-    there (x ∷ ks) zero k a h m = (inr m, λ q. (let b = below_each x.0 (vertices ks) a.0 a.1 k.0 (vertex_in ks k m) in let f = h.1 in absurd (omega (arith, b, q, f))))
-    there (x ∷ ks) (suc i) k a h (inl f) = (inl f, λ q. (let b = below_each x.0 (vertices ks) a.0 a.1 p (subst (λ v. IsIn v (vertices ks)) h.1 (in_vertices ks i (omega (arith, h.0)))) in let g = ap (λ y. y.0) f in absurd (omega (arith, b, q, g))))
+    there (x ∷ ks) zero k a h m = (
+      inr m,
+      λ q. (let b = below_each x.0 (vertices ks) a.0 a.1 k.0 (vertex_in ks k m) in
+          let f = h.1 in absurd (omega (arith, b, q, f))),
+    )
+    there (x ∷ ks) (suc i) k a h (inl f) = (
+      inl f,
+      λ q. (let b = below_each x.0 (vertices ks) a.0 a.1 p
+          (subst (λ v. IsIn v (vertices ks)) h.1 (in_vertices ks i (omega (arith, h.0)))) in let g = ap (λ y. y.0) f in
+          absurd (omega (arith, b, q, g))),
+    )
     there (x ∷ ks) (suc i) k a h (inr m) = (let r = there ks i k a.1 (omega (arith, h.0), h.1) m in (inr r.0, r.1))
 
-    back : (ks : Keys) (i : ℕ) (k : ℕ × ℕ) → (i < length ks) × (slice_index (vertices ks) i ≡ p) → IsIn k ks × (k.0 ≡ p → ⊥) → IsIn k (remove ks i)
+    back : (ks : Keys) (i : ℕ) (k : ℕ × ℕ) → (i < length ks) × (slice_index (vertices ks) i ≡ p) →
+        IsIn k ks × (k.0 ≡ p → ⊥) → IsIn k (remove ks i)
     back [] i k h m = absurd m.0
     back (x ∷ ks) zero k h (inl f, n) = absurd (n (ap (λ y. y.0) (sym f) ∙ h.1))
     back (x ∷ ks) zero k h (inr m, n) = m
@@ -157,18 +225,31 @@ without_key ks new p i a h e = (subst (λ l. IsAscending (vertices l)) (sym e) (
 
 -- the list with a key more at a place
 pub with_key : (ks new : Keys) (p n i : ℕ) → IsAscending (vertices ks) → BelongsAt ks p i → new ≡ insert ks i (p, n) →
-    IsAscending (vertices new) × ((k : ℕ × ℕ) → (IsIn k new → ((p, n) ≡ k) ⊎ IsIn k ks) × (((p, n) ≡ k) ⊎ IsIn k ks → IsIn k new))
-with_key ks new p n i a b e = (subst (λ l. IsAscending (vertices l)) (sym e) (order ks i a b), λ k. (λ m. there ks i k (subst (λ (l : Keys). IsIn k l) e m), λ m. subst (λ (l : Keys). IsIn k l) (sym e) (back ks i k b.0 m)))
+    IsAscending (vertices new) × ((k : ℕ × ℕ) →
+    (IsIn k new → ((p, n) ≡ k) ⊎ IsIn k ks) × (((p, n) ≡ k) ⊎ IsIn k ks → IsIn k new))
+with_key ks new p n i a b e = (
+  subst (λ l. IsAscending (vertices l)) (sym e) (order ks i a b),
+  λ k. (
+    λ m. there ks i k (subst (λ (l : Keys). IsIn k l) e m),
+    λ m. subst (λ (l : Keys). IsIn k l) (sym e) (back ks i k b.0 m),
+  ),
+)
   where
     tail : (x : ℕ × ℕ) (ks : Keys) (i : ℕ) → BelongsAt (x ∷ ks) p (suc i) → BelongsAt ks p i
-    tail x ks i b = (omega (arith, b.0), λ k h. b.1 (suc k) (omega (arith, h)), λ k h l. b.2 (suc k) (omega (arith, h)) (omega (arith, l)))
+    tail x ks i b = (
+      omega (arith, b.0),
+      λ k h. b.1 (suc k) (omega (arith, h)),
+      λ k h l. b.2 (suc k) (omega (arith, h)) (omega (arith, l)),
+    )
 
-    first : (x : ℕ × ℕ) (ks : Keys) (i : ℕ) → IsAscending (vertices (x ∷ ks)) → BelongsAt (x ∷ ks) p (suc i) → IsBelowFirst x.0 (vertices (insert ks i (p, n)))
+    first : (x : ℕ × ℕ) (ks : Keys) (i : ℕ) → IsAscending (vertices (x ∷ ks)) → BelongsAt (x ∷ ks) p (suc i) →
+        IsBelowFirst x.0 (vertices (insert ks i (p, n)))
     first x ks zero a b = b.1 0 (omega arith)
     first x [] (suc i) a b = absurd (let h = b.0 in omega (arith, h))
     first x (y ∷ ks) (suc i) a b = a.0
 
-    order : (ks : Keys) (i : ℕ) → IsAscending (vertices ks) → BelongsAt ks p i → IsAscending (vertices (insert ks i (p, n)))
+    order : (ks : Keys) (i : ℕ) → IsAscending (vertices ks) → BelongsAt ks p i →
+        IsAscending (vertices (insert ks i (p, n)))
     order [] zero a b = (tt, tt)
     order [] (suc i) a b = absurd (let h = b.0 in omega (arith, h))
     order (x ∷ ks) zero a b = (b.2 0 (omega arith) (omega arith), a)
@@ -191,15 +272,20 @@ with_key ks new p n i a b e = (subst (λ l. IsAscending (vertices l)) (sym e) (o
     back (x ∷ ks) (suc i) k h (inr (inr m)) = inr (back ks i k (omega (arith, h)) (inr m))
 
 -- one more key, where the vertex was taken out before
-pub key_put : (old mid new : Keys) (p n : ℕ) → ((k : ℕ × ℕ) → (IsIn k mid → IsIn k old × (k.0 ≡ p → ⊥)) × (IsIn k old × (k.0 ≡ p → ⊥) → IsIn k mid)) → ((k : ℕ × ℕ) → (IsIn k new → ((p, n) ≡ k) ⊎ IsIn k mid) × (((p, n) ≡ k) ⊎ IsIn k mid → IsIn k new)) →
-    (k : ℕ × ℕ) → (IsIn k new → ((p, n) ≡ k) ⊎ (IsIn k old × (k.0 ≡ p → ⊥))) × (((p, n) ≡ k) ⊎ (IsIn k old × (k.0 ≡ p → ⊥)) → IsIn k new)
+pub key_put : (old mid new : Keys) (p n : ℕ) →
+    ((k : ℕ × ℕ) → (IsIn k mid → IsIn k old × (k.0 ≡ p → ⊥)) × (IsIn k old × (k.0 ≡ p → ⊥) → IsIn k mid)) →
+    ((k : ℕ × ℕ) → (IsIn k new → ((p, n) ≡ k) ⊎ IsIn k mid) × (((p, n) ≡ k) ⊎ IsIn k mid → IsIn k new)) →
+    (k : ℕ × ℕ) → (IsIn k new → ((p, n) ≡ k) ⊎ (IsIn k old × (k.0 ≡ p → ⊥)))
+    × (((p, n) ≡ k) ⊎ (IsIn k old × (k.0 ≡ p → ⊥)) → IsIn k new)
 key_put old mid new p n f g k = (
   λ m. elim ((g k).0 m) [ inl e ↦ inl e | inr i ↦ inr ((f k).0 i) ],
   λ m. (g k).1 (elim m [ inl e ↦ inl e | inr i ↦ inr ((f k).1 i) ]),
 )
 
 -- no key is that of a vertex that was taken out
-pub taken_out : (old mid ks : Keys) (p i : ℕ) → ((k : ℕ × ℕ) → (IsIn k mid → IsIn k old × (k.0 ≡ p → ⊥)) × (IsIn k old × (k.0 ≡ p → ⊥) → IsIn k mid)) → ks ≡ mid → (i < length ks) × (slice_index (vertices ks) i ≡ p) → ⊥
+pub taken_out : (old mid ks : Keys) (p i : ℕ) →
+    ((k : ℕ × ℕ) → (IsIn k mid → IsIn k old × (k.0 ≡ p → ⊥)) × (IsIn k old × (k.0 ≡ p → ⊥) → IsIn k mid)) → ks ≡ mid →
+    (i < length ks) × (slice_index (vertices ks) i ≡ p) → ⊥
 taken_out old mid ks p i f e h = by (at_vertex ks i h.0) h.1
   where
     at_vertex : (ks : Keys) (i : ℕ) → i < length ks → (k : ℕ × ℕ) × IsIn k ks × (slice_index (vertices ks) i ≡ k.0)
@@ -221,23 +307,39 @@ same_or_not x y = by (x == y) refl
     by false e = inr (λ q. (let t = same_true x y q in absurd (cc (e, t))))
 
 -- where the star's key is there, nothing changes
-pub keyed_same : (ks : Keys) (n : ℕ) (s : ℕ × List ℕ) → IsAscending (vertices ks) → IsKeyed ks n s → (k : ℕ × ℕ) → (IsIn k ks → IsKeyAfter ks n s k) × (IsKeyAfter ks n s k → IsIn k ks)
+pub keyed_same : (ks : Keys) (n : ℕ) (s : ℕ × List ℕ) → IsAscending (vertices ks) → IsKeyed ks n s → (k : ℕ × ℕ) →
+    (IsIn k ks → IsKeyAfter ks n s k) × (IsKeyAfter ks n s k → IsIn k ks)
 keyed_same ks n s a h k = (
-  λ m. elim (same_or_not k.0 s.0) [ inl e ↦ inl (one_key ks (s.0, n) k a h.key m (sym e), (h.place, h.filled)) | inr d ↦ inr (m, d) ],
+  λ m. elim (same_or_not k.0 s.0) [
+    | inl e ↦ inl (one_key ks (s.0, n) k a h.key m (sym e), (h.place, h.filled))
+    | inr d ↦
+        inr (m, d)
+  ],
   λ m. elim m [ inl e ↦ subst (λ (x : ℕ × ℕ). IsIn x ks) e.0 h.key | inr i ↦ i.0 ],
 )
 
 -- where it has no place, its vertex goes
-pub unkeyed : (old new : Keys) (n p : ℕ) (s : ℕ × List ℕ) → p ≡ s.0 → ((i : ℕ) → IsIn i s.1 → ⊥) → ((k : ℕ × ℕ) → (IsIn k new → IsIn k old × (k.0 ≡ p → ⊥)) × (IsIn k old × (k.0 ≡ p → ⊥) → IsIn k new)) → (k : ℕ × ℕ) → (IsIn k new → IsKeyAfter old n s k) × (IsKeyAfter old n s k → IsIn k new)
+pub unkeyed : (old new : Keys) (n p : ℕ) (s : ℕ × List ℕ) → p ≡ s.0 → ((i : ℕ) → IsIn i s.1 → ⊥) →
+    ((k : ℕ × ℕ) → (IsIn k new → IsIn k old × (k.0 ≡ p → ⊥)) × (IsIn k old × (k.0 ≡ p → ⊥) → IsIn k new)) →
+    (k : ℕ × ℕ) → (IsIn k new → IsKeyAfter old n s k) × (IsKeyAfter old n s k → IsIn k new)
 unkeyed old new n p s e f g k = (
   λ m. (let r = (g k).0 m in inr (r.0, λ q. r.1 (q ∙ sym e))),
   λ m. elim m [ inl q ↦ absurd (f q.1.0 q.1.1) | inr i ↦ (g k).1 (i.0, λ q. i.1 (q ∙ e)) ],
 )
 
 -- where it has one, its vertex comes
-pub rekeyed : (old new : Keys) (n p : ℕ) (s : ℕ × List ℕ) → p ≡ s.0 → (i : ℕ) × IsIn i s.1 → ((k : ℕ × ℕ) → (IsIn k new → ((p, n) ≡ k) ⊎ (IsIn k old × (k.0 ≡ p → ⊥))) × (((p, n) ≡ k) ⊎ (IsIn k old × (k.0 ≡ p → ⊥)) → IsIn k new)) → (k : ℕ × ℕ) → (IsIn k new → IsKeyAfter old n s k) × (IsKeyAfter old n s k → IsIn k new)
+pub rekeyed : (old new : Keys) (n p : ℕ) (s : ℕ × List ℕ) → p ≡ s.0 → (i : ℕ) × IsIn i s.1 →
+    ((k : ℕ × ℕ) → (IsIn k new → ((p, n) ≡ k) ⊎ (IsIn k old × (k.0 ≡ p → ⊥)))
+    × (((p, n) ≡ k) ⊎ (IsIn k old × (k.0 ≡ p → ⊥)) → IsIn k new)) → (k : ℕ × ℕ) →
+    (IsIn k new → IsKeyAfter old n s k) × (IsKeyAfter old n s k → IsIn k new)
 rekeyed old new n p s e f g k = (
-  λ m. elim ((g k).0 m) [ inl q ↦ inl (ap (λ (x : ℕ). (x, n)) (sym e) ∙ q, f) | inr r ↦ inr (r.0, λ q. r.1 (q ∙ sym e)) ],
+  λ m. elim ((g k).0 m) [
+    | inl q ↦ inl (ap (λ (x : ℕ). (x, n)) (sym e) ∙ q, f)
+    | inr r ↦ inr (
+      r.0,
+      λ q. r.1 (q ∙ sym e),
+    )
+  ],
   λ m. (g k).1 (elim m [ inl q ↦ inl (ap (λ (x : ℕ). (x, n)) e ∙ q.0) | inr i ↦ inr (i.0, λ q. i.1 (q ∙ e)) ]),
 )
 
@@ -248,8 +350,10 @@ Writes = List (ℕ × (ℕ × List ℕ))
 -- the same for the first writes
 pub record KeysSoFar (old : Keys) (writes : Writes) (n : ℕ) (new : Keys) : Type 0 where
   pub order : IsAscending (vertices new)
-  pub from : (p m : ℕ) → IsIn (p, m) new → IsWritten (take n writes) p m ⊎ (IsIn (p, m) old × ((j : ℕ) (s : List ℕ) → IsIn (j, (p, s)) (take n writes) → ⊥))
-  pub kept : (p m : ℕ) → IsIn (p, m) old → ((j : ℕ) (s : List ℕ) → IsIn (j, (p, s)) (take n writes) → ⊥) → IsIn (p, m) new
+  pub from : (p m : ℕ) → IsIn (p, m) new → IsWritten (take n writes) p m
+      ⊎ (IsIn (p, m) old × ((j : ℕ) (s : List ℕ) → IsIn (j, (p, s)) (take n writes) → ⊥))
+  pub kept : (p m : ℕ) → IsIn (p, m) old → ((j : ℕ) (s : List ℕ) → IsIn (j, (p, s)) (take n writes) → ⊥) →
+      IsIn (p, m) new
   pub written : (p m : ℕ) → IsWritten (take n writes) p m → IsIn (p, m) new
 
 -- none of the first no stars was written
@@ -257,7 +361,8 @@ none_yet : (writes : Writes) (x : ℕ × (ℕ × List ℕ)) → IsIn x (take 0 w
 none_yet writes x m = each_none (λ y. ⊥) writes x m
 
 -- before the first the keys are as they were
-pub keys_begin : (old new : Keys) (writes : Writes) → new ≡ old → IsAscending (vertices old) → KeysSoFar old writes 0 new
+pub keys_begin : (old new : Keys) (writes : Writes) → new ≡ old → IsAscending (vertices old) →
+    KeysSoFar old writes 0 new
 keys_begin old new writes e a = rw e (record {
   order = a;
   from = λ p m i. inr (i, λ j s k. none_yet writes (j, (p, s)) k);
@@ -273,52 +378,93 @@ widen writes n y m = subst (λ k. IsIn y (take k writes)) (one n) (more_one writ
     one n = omega arith
 
 -- and so is the one behind them
-last_in : (writes : Writes) (n : ℕ) (x d : ℕ × (ℕ × List ℕ)) → n < length writes → x ≡ slice_index_or writes n d → IsIn x (take (n + 1) writes)
+last_in : (writes : Writes) (n : ℕ) (x d : ℕ × (ℕ × List ℕ)) → n < length writes → x ≡ slice_index_or writes n d →
+    IsIn x (take (n + 1) writes)
 last_in writes n x d h e = subst (λ k. IsIn x (take k writes)) (one n) (last_one writes n x d h e)
   where
     one : (n : ℕ) → suc n ≡ n + 1
     one n = omega arith
 
 -- and each of those is one or the other
-one_or : (writes : Writes) (n : ℕ) (x d y : ℕ × (ℕ × List ℕ)) → n < length writes → x ≡ slice_index_or writes n d → IsIn y (take (n + 1) writes) → IsIn y (take n writes) ⊎ (x ≡ y)
+one_or : (writes : Writes) (n : ℕ) (x d y : ℕ × (ℕ × List ℕ)) → n < length writes → x ≡ slice_index_or writes n d →
+    IsIn y (take (n + 1) writes) → IsIn y (take n writes) ⊎ (x ≡ y)
 one_or writes n x d y h e m = in_more writes n x d y h e (subst (λ k. IsIn y (take k writes)) (one n) m)
   where
     one : (n : ℕ) → n + 1 ≡ suc n
     one n = omega arith
 
 -- with the next star written the keys are those after it
-pub keys_step : (old list new : Keys) (writes : Writes) (n : ℕ) (x d : ℕ × (ℕ × List ℕ)) → AreAgreed writes → n < length writes → x ≡ slice_index_or writes n d → IsAscending (vertices new) → ((k : ℕ × ℕ) → (IsIn k new → IsKeyAfter list x.0 x.1 k) × (IsKeyAfter list x.0 x.1 k → IsIn k new)) → KeysSoFar old writes n list → KeysSoFar old writes (n + 1) new
+pub keys_step : (old list new : Keys) (writes : Writes) (n : ℕ) (x d : ℕ × (ℕ × List ℕ)) → AreAgreed writes →
+    n < length writes → x ≡ slice_index_or writes n d → IsAscending (vertices new) →
+    ((k : ℕ × ℕ) → (IsIn k new → IsKeyAfter list x.0 x.1 k) × (IsKeyAfter list x.0 x.1 k → IsIn k new)) →
+    KeysSoFar old writes n list → KeysSoFar old writes (n + 1) new
 keys_step old list new writes n x d g h e a f s = record { order = a; from = from; kept = kept; written = written }
   where
     here : IsIn x writes
     here = at_place writes n x d h e
 
-    from : (p m : ℕ) → IsIn (p, m) new → IsWritten (take (n + 1) writes) p m ⊎ (IsIn (p, m) old × ((j : ℕ) (s : List ℕ) → IsIn (j, (p, s)) (take (n + 1) writes) → ⊥))
+    from : (p m : ℕ) → IsIn (p, m) new → IsWritten (take (n + 1) writes) p m
+        ⊎ (IsIn (p, m) old × ((j : ℕ) (s : List ℕ) → IsIn (j, (p, s)) (take (n + 1) writes) → ⊥))
     from p m i = elim ((f (p, m)).0 i) [
-      | inl q ↦ inl (record { places = x.1.1; listed = subst (λ (k : ℕ × ℕ). IsIn (k.1, (k.0, x.1.1)) (take (n + 1) writes)) q.0 (last_in writes n x d h e); place = q.1.0; filled = q.1.1 })
+      | inl q ↦ inl (record {
+        places = x.1.1;
+        listed =
+            subst (λ (k : ℕ × ℕ). IsIn (k.1, (k.0, x.1.1)) (take (n + 1) writes)) q.0 (last_in writes n x d h e);
+        place =
+            q.1.0;
+        filled = q.1.1;
+      })
       | inr r ↦ elim (s.from p m r.0) [
-        | inl w ↦ inl (record { places = w.places; listed = widen writes n (m, (p, w.places)) w.listed; place = w.place; filled = w.filled })
-        | inr o ↦ inr (o.0, λ j t k. elim (one_or writes n x d (j, (p, t)) h e k) [ inl u ↦ o.1 j t u | inr q ↦ r.1 (sym (ap (λ y. y.1.0) q)) ])
+        | inl w ↦ inl (record {
+          places = w.places;
+          listed = widen writes n (m, (p, w.places)) w.listed;
+          place =
+              w.place;
+          filled = w.filled;
+        })
+        | inr o ↦ inr (
+          o.0,
+          λ j t k. elim (one_or writes n x d (j, (p, t)) h e k)
+              [ inl u ↦ o.1 j t u | inr q ↦ r.1 (sym (ap (λ y. y.1.0) q)) ],
+        )
       ]
     ]
 
-    kept : (p m : ℕ) → IsIn (p, m) old → ((j : ℕ) (s : List ℕ) → IsIn (j, (p, s)) (take (n + 1) writes) → ⊥) → IsIn (p, m) new
-    kept p m i none = (f (p, m)).1 (inr (s.kept p m i (λ j t k. none j t (widen writes n (j, (p, t)) k)), λ q. none x.0 x.1.1 (subst (λ (v : ℕ). IsIn (x.0, (v, x.1.1)) (take (n + 1) writes)) (sym q) (last_in writes n x d h e))))
+    kept : (p m : ℕ) → IsIn (p, m) old → ((j : ℕ) (s : List ℕ) → IsIn (j, (p, s)) (take (n + 1) writes) → ⊥) →
+        IsIn (p, m) new
+    kept p m i none = (f (p, m)).1 (inr (
+      s.kept p m i (λ j t k. none j t (widen writes n (j, (p, t)) k)),
+      λ q. none x.0 x.1.1 (subst (λ (v : ℕ). IsIn (x.0, (v, x.1.1)) (take (n + 1) writes)) (sym q)
+          (last_in writes n x d h e)),
+    ))
 
     written : (p m : ℕ) → IsWritten (take (n + 1) writes) p m → IsIn (p, m) new
     written p m w = elim (one_or writes n x d (m, (p, w.places)) h e w.listed) [
       | inl u ↦ elim (same_or_not p x.1.0) [
         | inl q ↦ (
-            let r = g m x.0 p w.places x.1.1 (in_take n writes (m, (p, w.places)) u) (subst (λ (v : ℕ). IsIn (x.0, (v, x.1.1)) writes) (sym q) here) in
-            (f (p, m)).1 (inl (ap (λ (v : ℕ). (v, x.0)) (sym q) ∙ ap (λ (v : ℕ). (p, v)) (sym r.0), (w.place, r.1 w.place w.filled))))
-        | inr q ↦ (f (p, m)).1 (inr (s.written p m (record { places = w.places; listed = u; place = w.place; filled = w.filled }), q))
+            let r = g m x.0 p w.places x.1.1 (in_take n writes (m, (p, w.places)) u)
+            (subst (λ (v : ℕ). IsIn (x.0, (v, x.1.1)) writes) (sym q) here) in
+            (f (p, m)).1 (inl (
+              ap (λ (v : ℕ). (v, x.0)) (sym q) ∙ ap (λ (v : ℕ). (p, v)) (sym r.0),
+              (w.place, r.1 w.place w.filled),
+            )))
+        | inr q ↦ (f (p, m)).1 (inr (
+          s.written p m
+              (record { places = w.places; listed = u; place = w.place; filled = w.filled }),
+          q,
+        ))
       ]
-      | inr q ↦ (f (p, m)).1 (inl (ap (λ (y : ℕ × (ℕ × List ℕ)). (y.1.0, y.0)) q, (w.place, subst (λ (y : ℕ × (ℕ × List ℕ)). IsIn w.place y.1.1) (sym q) w.filled)))
+      | inr q ↦ (f (p, m)).1 (inl (
+        ap (λ (y : ℕ × (ℕ × List ℕ)). (y.1.0, y.0)) q,
+        (w.place, subst (λ (y : ℕ × (ℕ × List ℕ)). IsIn w.place y.1.1) (sym q) w.filled),
+      ))
     ]
 
 -- at the end they are those after all
-pub keys_end : (old new : Keys) (writes : Writes) (n : ℕ) → length writes ≤ n → KeysSoFar old writes n new → AreKeysAfter old writes new
-keys_end old new writes n h s = subst (λ w. All w) (taken writes n h) (record { order = s.order; from = s.from; kept = s.kept; written = s.written })
+pub keys_end : (old new : Keys) (writes : Writes) (n : ℕ) → length writes ≤ n → KeysSoFar old writes n new →
+    AreKeysAfter old writes new
+keys_end old new writes n h s = subst (λ w. All w) (taken writes n h)
+    (record { order = s.order; from = s.from; kept = s.kept; written = s.written })
   where
     All : Writes → Type 0
     All w = AreKeysAfter old w new
@@ -330,7 +476,8 @@ keys_end old new writes n h s = subst (λ w. All w) (taken writes n h) (record {
     taken (x ∷ w) (suc n) h = ap (λ (l : Writes). x ∷ l) (taken w n (omega arith))
 
 -- a vertex has a star that is written, or not
-written_or_not : (writes : Writes) (p : ℕ) → ((j : ℕ) × (s : List ℕ) × IsIn (j, (p, s)) writes) ⊎ ((j : ℕ) (s : List ℕ) → IsIn (j, (p, s)) writes → ⊥)
+written_or_not : (writes : Writes) (p : ℕ) → ((j : ℕ) × (s : List ℕ) × IsIn (j, (p, s)) writes)
+    ⊎ ((j : ℕ) (s : List ℕ) → IsIn (j, (p, s)) writes → ⊥)
 written_or_not [] p = inr (λ j s m. m)
 written_or_not (x ∷ w) p = elim (same_or_not x.1.0 p) [
   | inl e ↦ inl (x.0, x.1.1, inl (ap (λ (v : ℕ). (x.0, (v, x.1.1))) e))
@@ -341,22 +488,46 @@ written_or_not (x ∷ w) p = elim (same_or_not x.1.0 p) [
 ]
 
 -- where all keys are there, they stay
-pub keys_stay : (old : Keys) (writes : Writes) → IsAscending (vertices old) → ((n : ℕ) (s : ℕ × List ℕ) → IsIn (n, s) writes → IsKeyed old n s) → AreKeysAfter old writes old
-keys_stay old writes a f = record { order = a; from = from; kept = λ p m i none. i; written = λ p m w. (f m (p, w.places) w.listed).key }
+pub keys_stay : (old : Keys) (writes : Writes) → IsAscending (vertices old) →
+    ((n : ℕ) (s : ℕ × List ℕ) → IsIn (n, s) writes → IsKeyed old n s) → AreKeysAfter old writes old
+keys_stay old writes a f = record {
+  order = a;
+  from = from;
+  kept = λ p m i none. i;
+  written =
+      λ p m w. (f m (p, w.places) w.listed).key;
+}
   where
-    from : (p n : ℕ) → IsIn (p, n) old → IsWritten writes p n ⊎ (IsIn (p, n) old × ((m : ℕ) (s : List ℕ) → IsIn (m, (p, s)) writes → ⊥))
+    from : (p n : ℕ) → IsIn (p, n) old → IsWritten writes p n
+        ⊎ (IsIn (p, n) old × ((m : ℕ) (s : List ℕ) → IsIn (m, (p, s)) writes → ⊥))
     from p n i = elim (written_or_not writes p) [
       | inl r ↦ (
           let k = f r.0 (p, r.1) r.2 in
           let e : n ≡ r.0 = ap (λ y. y.1) (one_key old (p, n) (p, r.0) a i k.key refl) in
-          inl (record { places = r.1; listed = subst (λ (m : ℕ). IsIn (m, (p, r.1)) writes) (sym e) r.2; place = k.place; filled = k.filled }))
+          inl (record {
+            places = r.1;
+            listed = subst (λ (m : ℕ). IsIn (m, (p, r.1)) writes) (sym e) r.2;
+            place =
+                k.place;
+            filled = k.filled;
+          }))
       | inr n ↦ inr (i, n)
     ]
 
--- a key that was found with its number
-pub key_there : (ks : Keys) (p n i : ℕ) (k : ℕ × ℕ) → (i < length ks) × (slice_index (vertices ks) i ≡ p) → k ≡ slice_index_or ks i k → ((slice_index_or ks i k).1 == n) ≡ true → IsIn (p, n) ks
-key_there ks p n i k h e t =
-    let r = at_key ks i k h.0 e in
-    let a : k.0 ≡ p = sym r.1 ∙ h.1 in
-    let b : k.1 ≡ n = ap (λ y. y.1) e ∙ same_from (slice_index_or ks i k).1 n t in
-    subst (λ (x : ℕ × ℕ). IsIn x ks) (ap (λ (v : ℕ). (v, k.1)) a ∙ ap (λ (v : ℕ). (p, v)) b) r.0
+-- where the next star's key was there at first, it is there yet
+pub keyed_yet : (old list : Keys) (writes : Writes) (n : ℕ) (x d : ℕ × (ℕ × List ℕ)) → AreAgreed writes →
+    n < length writes → x ≡ slice_index_or writes n d → KeysSoFar old writes n list → IsKeyed old x.0 x.1 →
+    IsKeyed list x.0 x.1
+keyed_yet old list writes n x d g h e s k = record { key = key; place = k.place; filled = k.filled }
+  where
+    here : IsIn x writes
+    here = at_place writes n x d h e
+
+    key : IsIn (x.1.0, x.0) list
+    key = elim (written_or_not (take n writes) x.1.0) [
+      | inl w ↦ (
+          let r = g x.0 w.0 x.1.0 x.1.1 w.1 here (in_take n writes (w.0, (x.1.0, w.1)) w.2) in
+          subst (λ (m : ℕ). IsIn (x.1.0, m) list) (sym r.0)
+          (s.written x.1.0 w.0 (record { places = w.1; listed = w.2; place = k.place; filled = r.1 k.place k.filled })))
+      | inr none ↦ s.kept x.1.0 x.0 k.key none
+    ]

@@ -8,7 +8,15 @@ use Rattle.point_order.specs.Sets.{IsIn}
 use Rattle.del_laws.proofs.Cited.{same_members}
 use Rattle.cell_stars.specs.Swaps.{touches, swapped}
 use Rattle.cell_stars.specs.Places.{Placed, IsMoved, live, at, cells_of, touches_in}
-use Rattle.cell_stars.proofs.CellLaws.{in_withs, withs_new, withs_sorted, swapped_sorted, swapped_from, swapped_new, swapped_kept}
+use Rattle.cell_stars.proofs.CellLaws.{
+  in_withs,
+  withs_new,
+  withs_sorted,
+  swapped_sorted,
+  swapped_from,
+  swapped_new,
+  swapped_kept,
+}
 use Rattle.cell_stars.proofs.Least.{live_at, at_live}
 
 -- the cells of places, by their members
@@ -27,9 +35,11 @@ unfolding cells_of IsStrictlySortedBy
 placed_sorted slots = withs_sorted (live slots) [] tt
 
 -- so after an exchange by places the cells are those of the exchange of lists
-pub moved_is_swapped : (w : ℕ × ℕ) (gone fresh : List Cell) (old new : Placed) → old.place ≡ Some w → IsMoved gone fresh old new → cells_of new.slots ≡ swapped w.0 w.1 gone fresh (cells_of old.slots)
+pub moved_is_swapped : (w : ℕ × ℕ) (gone fresh : List Cell) (old new : Placed) → old.place ≡ Some w →
+    IsMoved gone fresh old new → cells_of new.slots ≡ swapped w.0 w.1 gone fresh (cells_of old.slots)
 moved_is_swapped w gone fresh old new e m =
-    same_members (cells_of new.slots) (swapped w.0 w.1 gone fresh (cells_of old.slots)) (placed_sorted new.slots) (swapped_sorted w.0 w.1 gone fresh (cells_of old.slots) (placed_sorted old.slots)) there back
+    same_members (cells_of new.slots) (swapped w.0 w.1 gone fresh (cells_of old.slots)) (placed_sorted new.slots)
+    (swapped_sorted w.0 w.1 gone fresh (cells_of old.slots) (placed_sorted old.slots)) there back
   where
     touches_is : (c : Cell) → touches_in old.place c ≡ touches w.0 w.1 c
     touches_is c = ap (λ o. touches_in o c) e
@@ -39,11 +49,13 @@ moved_is_swapped w gone fresh old new e m =
         let t = in_placed new.slots c k in
         elim (m.only t.0 c t.1) [
           | inl f ↦ swapped_new w.0 w.1 gone fresh (cells_of old.slots) c f.0 (sym (touches_is c) ∙ f.1)
-          | inr o ↦ swapped_kept w.0 w.1 gone fresh (cells_of old.slots) c (placed_in old.slots t.0 c o.0) (λ i q. o.1 i (touches_is c ∙ q))
+          | inr o ↦ swapped_kept w.0 w.1 gone fresh (cells_of old.slots) c (placed_in old.slots t.0 c o.0)
+              (λ i q. o.1 i (touches_is c ∙ q))
         ]
 
     back : (c : Cell) → IsIn c (swapped w.0 w.1 gone fresh (cells_of old.slots)) → IsIn c (cells_of new.slots)
     back c k = elim (swapped_from w.0 w.1 gone fresh (cells_of old.slots) c k) [
       | inl f ↦ (let t = m.comes c f.0 (touches_is c ∙ f.1) in placed_in new.slots t.0 c t.1)
-      | inr o ↦ (let t = in_placed old.slots c o.0 in placed_in new.slots t.0 c (m.stays t.0 c t.1 (λ i q. o.1 i (sym (touches_is c) ∙ q))))
+      | inr o ↦ (let t = in_placed old.slots c o.0 in
+          placed_in new.slots t.0 c (m.stays t.0 c t.1 (λ i q. o.1 i (sym (touches_is c) ∙ q))))
     ]

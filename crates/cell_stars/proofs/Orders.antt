@@ -14,10 +14,15 @@ use Rattle.cell_stars.specs.Swaps.{Differ}
 pub sorted_differ : (l : List Cell) → IsStrictlySortedBy cell_cmp l → Differ l
 unfolding IsStrictlySortedBy
 sorted_differ [] s = tt
-sorted_differ (c ∷ l) s = (λ m. (let t = each_by (λ d. cell_cmp c d ≡ Less) l s.0 c m in let e = cell_self c in absurd (cc (t, e))), sorted_differ l s.1)
+sorted_differ (c ∷ l) s = (
+  λ m. (let t = each_by (λ d. cell_cmp c d ≡ Less) l s.0 c m in let e = cell_self c in
+      absurd (cc (t, e))),
+  sorted_differ l s.1,
+)
 
 -- one cell more before those that differ
-pub differ_more : (rest others all : List Cell) (c : Cell) → rest ≡ c ∷ others → (IsIn c others → ⊥) → (Differ rest → Differ all) → Differ others → Differ all
+pub differ_more : (rest others all : List Cell) (c : Cell) → rest ≡ c ∷ others → (IsIn c others → ⊥) →
+    (Differ rest → Differ all) → Differ others → Differ all
 differ_more rest others all c e n f d = f (subst Differ (sym e) (n, d))
 
 -- none are left

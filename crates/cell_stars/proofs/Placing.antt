@@ -4,7 +4,13 @@ use Rattle.std.specs.Ordering.{match_ordering}
 use Rattle.std.specs.declared.cmp.Ordering.{Ordering}
 use Rattle.std.specs.declared.cmp.Ordering.TheVariants.{Less, Equal, Greater}
 use Rattle.std.proofs.Common.{refl, sym, ◌∙◌, ap, subst, inl, inr, arith}
-use Rattle.std.proofs.lemmas.List.Sorted.{IsPermutation-refl, IsPermutation-cons, IsPermutation-trans, IsPermutation-middle, IsPermutation-append_right}
+use Rattle.std.proofs.lemmas.List.Sorted.{
+  IsPermutation-refl,
+  IsPermutation-cons,
+  IsPermutation-trans,
+  IsPermutation-middle,
+  IsPermutation-append_right,
+}
 use Rattle.point_order.proofs.Cited.{cell_same}
 use Rattle.point_order.specs.declared.cell.Cell.{Cell}
 use Rattle.point_order.specs.CellOrder.{cell_cmp}
@@ -32,37 +38,53 @@ stands_new w b e s = record {
     free i c q = (let t = ap (λ o. touches_in o c) (sym e) ∙ s.touching i c q in absurd (cc t))
 
 -- so it is where a bucket is new or stands there already
-pub stands_at : (w : ℕ × ℕ) (b : Placed) → (b.place ≡ None) ⊎ (b.place ≡ Some w) → AreStars b → AreStars (record b { place = Some w })
+pub stands_at : (w : ℕ × ℕ) (b : Placed) → (b.place ≡ None) ⊎ (b.place ≡ Some w) → AreStars b →
+    AreStars (record b { place = Some w })
 stands_at w b (inl e) s = stands_new w b e s
 stands_at w b (inr e) s = subst (λ o. AreStars (record b { place = o })) e s
 
 -- ---- the list of the cells
 
 -- where no cell stands at two places, the cells of the places differ
-all_differ : (slots : List (Option Cell)) → ((i j : ℕ) (c : Cell) → at slots i ≡ Some c → at slots j ≡ Some c → i ≡ j) → Differ (live slots)
+all_differ : (slots : List (Option Cell)) → ((i j : ℕ) (c : Cell) → at slots i ≡ Some c → at slots j ≡ Some c → i ≡ j) →
+    Differ (live slots)
 all_differ [] o = tt
 all_differ (None ∷ l) o = all_differ l (λ i j c p q. (let e = o (suc i) (suc j) c p q in omega (arith, e)))
-all_differ (Some c ∷ l) o = (λ m. (let t = at_live l c m in let e = o 0 (suc t.0) c refl t.1 in absurd (omega (arith, e))), all_differ l (λ i j d p q. (let e = o (suc i) (suc j) d p q in omega (arith, e))))
+all_differ (Some c ∷ l) o = (
+  λ m. (let t = at_live l c m in let e = o 0 (suc t.0) c refl t.1 in
+      absurd (omega (arith, e))),
+  all_differ l (λ i j d p q. (let e = o (suc i) (suc j) d p q in omega (arith, e))),
+)
 
 -- one more cell, somewhere
 one_more : (c : Cell) (l : List Cell) → (IsIn c l → ⊥) → IsPermutation (with_cell c l) (c ∷ l)
 one_more c [] n = IsPermutation-refl (c ∷ [])
 one_more c (d ∷ l) n = by (cell_cmp c d) refl (λ k. one_more c l k)
   where
-    by : (o : Ordering) → cell_cmp c d ≡ o → ((IsIn c l → ⊥) → IsPermutation (with_cell c l) (c ∷ l)) → IsPermutation (match_ordering o (c ∷ d ∷ l) (d ∷ l) (d ∷ with_cell c l)) (c ∷ d ∷ l)
+    by : (o : Ordering) → cell_cmp c d ≡ o → ((IsIn c l → ⊥) → IsPermutation (with_cell c l) (c ∷ l)) →
+        IsPermutation (match_ordering o (c ∷ d ∷ l) (d ∷ l) (d ∷ with_cell c l)) (c ∷ d ∷ l)
     by Less e r = IsPermutation-refl (c ∷ d ∷ l)
     by Equal e r = absurd (n (inl (sym (cell_same c d e))))
-    by Greater e r = IsPermutation-trans (d ∷ with_cell c l) (d ∷ c ∷ l) (c ∷ d ∷ l) (IsPermutation-cons d (with_cell c l) (c ∷ l) (r (λ m. n (inr m)))) (IsPermutation-middle (d ∷ []) c l)
+    by Greater e r = IsPermutation-trans (d ∷ with_cell c l) (d ∷ c ∷ l) (c ∷ d ∷ l)
+        (IsPermutation-cons d (with_cell c l) (c ∷ l) (r (λ m. n (inr m)))) (IsPermutation-middle (d ∷ []) c l)
 
 -- so it is with several cells more
-more : (cs l : List Cell) → Differ cs → ((c : Cell) → IsIn c cs → IsIn c l → ⊥) → IsPermutation (with_cells cs l) (cs ++ l)
+more : (cs l : List Cell) → Differ cs → ((c : Cell) → IsIn c cs → IsIn c l → ⊥) →
+    IsPermutation (with_cells cs l) (cs ++ l)
 more [] l f n = IsPermutation-refl l
 more (c ∷ cs) l f n =
-    IsPermutation-trans (with_cells cs (with_cell c l)) (cs ++ with_cell c l) (c ∷ (cs ++ l)) (more cs (with_cell c l) f.1 apart)
-    (IsPermutation-trans (cs ++ with_cell c l) (cs ++ c ∷ l) (c ∷ (cs ++ l)) (IsPermutation-append_right cs (with_cell c l) (c ∷ l) (one_more c l (n c (inl refl)))) (IsPermutation-middle cs c l))
+    IsPermutation-trans (with_cells cs (with_cell c l)) (cs ++ with_cell c l) (c ∷ (cs ++ l))
+    (more cs (with_cell c l) f.1 apart)
+    (IsPermutation-trans (cs ++ with_cell c l) (cs ++ c ∷ l) (c ∷ (cs ++ l))
+    (IsPermutation-append_right cs (with_cell c l) (c ∷ l) (one_more c l (n c (inl refl))))
+    (IsPermutation-middle cs c l))
   where
     apart : (d : Cell) → IsIn d cs → IsIn d (with_cell c l) → ⊥
-    apart d i m = elim (in_with c d l m) [ inl e ↦ f.0 (subst (λ (x : Cell). IsIn x cs) (sym e) i) | inr k ↦ n d (inr i) k ]
+    apart d i m = elim (in_with c d l m) [
+      | inl e ↦ f.0 (subst (λ (x : Cell). IsIn x cs) (sym e) i)
+      | inr k ↦ n d (inr i)
+          k
+    ]
 
 -- nothing behind a list leaves it
 without_end : (l : List Cell) → l ++ [] ≡ l
@@ -72,4 +94,5 @@ without_end (c ∷ l) = ap (λ (m : List Cell). c ∷ m) (without_end l)
 -- the cells of the places, each once
 pub all_once : (b : Placed) → AreStars b → IsPermutation (cells_of b.slots) (live b.slots)
 unfolding cells_of
-all_once b s = subst (IsPermutation (with_cells (live b.slots) [])) (without_end (live b.slots)) (more (live b.slots) [] (all_differ b.slots s.once) (λ c i m. m))
+all_once b s = subst (IsPermutation (with_cells (live b.slots) [])) (without_end (live b.slots))
+    (more (live b.slots) [] (all_differ b.slots s.once) (λ c i m. m))

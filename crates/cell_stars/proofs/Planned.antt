@@ -1,12 +1,45 @@
 -- Exchanges that were planned, carried out.
-use Rattle.std.specs.Prelude.{◌≡◌, ℕ, zero, suc, ◌<◌, Bool, true, false, List, [], ◌∷◌, ◌++◌, ◌⊎◌, length, map, Option, None, Some, slice_index_or, slice_set}
+use Rattle.std.specs.Prelude.{
+  ◌≡◌,
+  ℕ,
+  zero,
+  suc,
+  ◌<◌,
+  Bool,
+  true,
+  false,
+  List,
+  [],
+  ◌∷◌,
+  ◌++◌,
+  ◌⊎◌,
+  length,
+  map,
+  Option,
+  None,
+  Some,
+  slice_index_or,
+  slice_set,
+}
 use Rattle.std.proofs.Common.{refl, sym, ◌∙◌, ap, subst, inl, inr, arith, append_assoc, take, ◌+◌, ◌≤◌}
 use Rattle.std.proofs.lemmas.List.{get_or-set_same, get_or-set_other, map-append, take_all, take_more}
 use Rattle.list_laws.proofs.Cited.{among_from, among_true, len_set, mapped_from, mapped_true, take_next}
 use Rattle.point_order.specs.declared.cell.Cell.{Cell}
 use Rattle.point_order.specs.Sets.{IsIn, is_among}
 use Rattle.cell_stars.specs.Places.{Placed, AreStars, IsStarred, IsMoved, at, cells_of, touches_in, star_at, swapped_at}
-use Rattle.cell_stars.specs.Plans.{PlanView, Allows, IsPlanFor, AreFor, ArePut, AreRewritten, StarsAfter, AreBelow, or_else, set_all, done}
+use Rattle.cell_stars.specs.Plans.{
+  PlanView,
+  Allows,
+  IsPlanFor,
+  AreFor,
+  ArePut,
+  AreRewritten,
+  StarsAfter,
+  AreBelow,
+  or_else,
+  set_all,
+  done,
+}
 use Rattle.cell_stars.specs.Moves.{IsRewriting, AreKeysAfter, AreAgreed, HasSameCells, HasSameStars}
 use Rattle.cell_stars.proofs.KeyLaws.{same_or_not}
 use Rattle.cell_stars.proofs.Moved.{moved_is_swapped, placed_in, in_placed, placed_sorted}
@@ -37,15 +70,24 @@ below_append n (c ∷ a) b p q = (p.0, below_append n a b p.1 q)
 
 -- what stands at a place after: what was put there last, or what stood there
 pub look : {X : Type 0} (cs : List (ℕ × X)) (l : List X) (n : ℕ) (d : X) → AreBelow (length l) cs →
-    ((x : X) × IsIn (n, x) cs × (slice_index_or (set_all cs l) n d ≡ x)) ⊎ (((x : X) → IsIn (n, x) cs → ⊥) × (slice_index_or (set_all cs l) n d ≡ slice_index_or l n d))
+    ((x : X) × IsIn (n, x) cs × (slice_index_or (set_all cs l) n d ≡ x))
+    ⊎ (((x : X) → IsIn (n, x) cs → ⊥) × (slice_index_or (set_all cs l) n d ≡ slice_index_or l n d))
 look [] l n d b = inr (λ x m. m, refl)
-look {X} (c ∷ cs) l n d b = elim (look cs (slice_set l c.0 c.1) n d (subst (λ k. AreBelow k cs) (sym (len_set l c.0 c.1)) b.1)) [
-  | inl r ↦ inl (r.0, inr r.1, r.2)
-  | inr r ↦ elim (same_or_not c.0 n) [
-    | inl e ↦ inl (c.1, inl (ap (λ (k : ℕ). (k, c.1)) e), r.1 ∙ ap (λ k. slice_index_or (slice_set l c.0 c.1) k d) (sym e) ∙ get_or-set_same l c.0 c.1 d b.0)
-    | inr e ↦ inr (λ x m. elim m [ inl q ↦ e (ap (λ y. y.0) q) | inr k ↦ r.0 x k ], r.1 ∙ get_or-set_other l c.0 n c.1 d (λ q. e (sym q)))
-  ]
-]
+look {X} (c ∷ cs) l n d b = elim (look cs (slice_set l c.0 c.1) n d
+    (subst (λ k. AreBelow k cs) (sym (len_set l c.0 c.1)) b.1)) [
+      | inl r ↦ inl (r.0, inr r.1, r.2)
+      | inr r ↦ elim (same_or_not c.0 n) [
+        | inl e ↦ inl (
+          c.1,
+          inl (ap (λ (k : ℕ). (k, c.1)) e),
+          r.1 ∙ ap (λ k. slice_index_or (slice_set l c.0 c.1) k d) (sym e) ∙ get_or-set_same l c.0 c.1 d b.0,
+        )
+        | inr e ↦ inr (
+          λ x m. elim m [ inl q ↦ e (ap (λ y. y.0) q) | inr k ↦ r.0 x k ],
+          r.1 ∙ get_or-set_other l c.0 n c.1 d (λ q. e (sym q)),
+        )
+      ]
+    ]
 
 -- a place with a cell is one of the list
 at_within : (l : List (Option Cell)) (i : ℕ) (c : Cell) → at l i ≡ Some c → i < length l
@@ -73,22 +115,29 @@ one_cell c d e = cc e
 
 -- what is freed is one of the places, and has no cell
 freeing_from : (freed : List ℕ) (i : ℕ) (x : Option Cell) → IsIn (i, x) (freeing freed) → IsIn i freed × (x ≡ None)
-freeing_from freed i x m = (let r = mapped_from emptied (i, x) freed m in (subst (λ (k : ℕ). IsIn k freed) (ap (λ y. y.0) r.2) r.1, sym (ap (λ y. y.1) r.2)))
+freeing_from freed i x m = (let r = mapped_from emptied (i, x) freed m in
+    (subst (λ (k : ℕ). IsIn k freed) (ap (λ y. y.0) r.2) r.1, sym (ap (λ y. y.1) r.2)))
 
 -- what is put is one of the cells, at its place
-putting_from : (placed : List (ℕ × Cell)) (i : ℕ) (x : Option Cell) → IsIn (i, x) (putting placed) → (c : Cell) × IsIn (i, c) placed × (x ≡ Some c)
-putting_from placed i x m = (let r = mapped_from (λ (m : ℕ × Cell). (m.0, Some m.1)) (i, x) placed m in (r.0.1, subst (λ (k : ℕ). IsIn (k, r.0.1) placed) (ap (λ y. y.0) r.2) r.1, sym (ap (λ y. y.1) r.2)))
+putting_from : (placed : List (ℕ × Cell)) (i : ℕ) (x : Option Cell) → IsIn (i, x) (putting placed) →
+    (c : Cell) × IsIn (i, c) placed × (x ≡ Some c)
+putting_from placed i x m = (let r = mapped_from (λ (m : ℕ × Cell). (m.0, Some m.1)) (i, x) placed m in
+    (r.0.1, subst (λ (k : ℕ). IsIn (k, r.0.1) placed) (ap (λ y. y.0) r.2) r.1, sym (ap (λ y. y.1) r.2)))
 
 -- with these put into a list that is long enough, the cells stand as they should after the exchange
-pub are_put : (gone fresh : List Cell) (freed : List ℕ) (placed : List (ℕ × Cell)) (b : Placed) (grown : List (Option Cell)) → AreFor gone fresh freed placed b → HasSameCells b.slots grown → ((i : ℕ) (c : Cell) → IsIn (i, c) placed → i < length grown) →
-    AreBelow (length grown) (freeing freed ++ putting placed) × ArePut freed placed b.slots (set_all (freeing freed ++ putting placed) grown)
+pub are_put : (gone fresh : List Cell) (freed : List ℕ) (placed : List (ℕ × Cell)) (b : Placed)
+    (grown : List (Option Cell)) → AreFor gone fresh freed placed b → HasSameCells b.slots grown →
+    ((i : ℕ) (c : Cell) → IsIn (i, c) placed → i < length grown) →
+    AreBelow (length grown) (freeing freed ++ putting placed)
+    × ArePut freed placed b.slots (set_all (freeing freed ++ putting placed) grown)
 are_put gone fresh freed placed b grown f s h = (
   below_append (length grown) (freeing freed) (putting placed) frees puts,
   rw (set_append (freeing freed) (putting placed) grown) (record { put = put; kept = kept; only = only }),
 )
   where
     frees : AreBelow (length grown) (freeing freed)
-    frees = below_all (length grown) (freeing freed) (λ i x m. (let r = freeing_from freed i x m in let t = f.there i r.0 in at_within grown i t.0 (s i ∙ t.1)))
+    frees = below_all (length grown) (freeing freed)
+        (λ i x m. (let r = freeing_from freed i x m in let t = f.there i r.0 in at_within grown i t.0 (s i ∙ t.1)))
 
     puts : AreBelow (length grown) (putting placed)
     puts = below_all (length grown) (putting placed) (λ i x m. (let r = putting_from placed i x m in h i r.0 r.1))
@@ -105,7 +154,8 @@ are_put gone fresh freed placed b grown f s h = (
       | inr r ↦ absurd (r.0 (Some c) (mapped_true (λ (m : ℕ × Cell). (m.0, Some m.1)) (i, c) placed m))
     ]
 
-    kept : (i : ℕ) (c : Cell) → at b.slots i ≡ Some c → (IsIn i freed → ⊥) → at (set_all (putting placed) mid) i ≡ Some c
+    kept : (i : ℕ) (c : Cell) → at b.slots i ≡ Some c → (IsIn i freed → ⊥) →
+        at (set_all (putting placed) mid) i ≡ Some c
     kept i c e n = elim (look (putting placed) mid i None puts_mid) [
       | inl r ↦ (let t = putting_from placed i r.0 r.1 in absurd (n (f.vacant i t.0 c t.1 e)))
       | inr r ↦ elim (look (freeing freed) grown i None frees) [
@@ -114,9 +164,11 @@ are_put gone fresh freed placed b grown f s h = (
       ]
     ]
 
-    only : (i : ℕ) (c : Cell) → at (set_all (putting placed) mid) i ≡ Some c → IsIn (i, c) placed ⊎ ((at b.slots i ≡ Some c) × (IsIn i freed → ⊥))
+    only : (i : ℕ) (c : Cell) → at (set_all (putting placed) mid) i ≡ Some c →
+        IsIn (i, c) placed ⊎ ((at b.slots i ≡ Some c) × (IsIn i freed → ⊥))
     only i c e = elim (look (putting placed) mid i None puts_mid) [
-      | inl r ↦ (let t = putting_from placed i r.0 r.1 in inl (subst (λ (x : Cell). IsIn (i, x) placed) (one_cell t.0 c (sym t.2 ∙ sym r.2 ∙ e)) t.1))
+      | inl r ↦ (let t = putting_from placed i r.0 r.1 in
+          inl (subst (λ (x : Cell). IsIn (i, x) placed) (one_cell t.0 c (sym t.2 ∙ sym r.2 ∙ e)) t.1))
       | inr r ↦ elim (look (freeing freed) grown i None frees) [
         | inl q ↦ (let t = freeing_from freed i q.0 q.1 in let u = sym t.1 ∙ sym q.2 ∙ sym r.1 ∙ e in absurd (cc u))
         | inr q ↦ inr (sym (s i) ∙ sym q.1 ∙ sym r.1 ∙ e, λ m. q.0 None (mapped_true emptied i freed m))
@@ -126,15 +178,20 @@ are_put gone fresh freed placed b grown f s h = (
 -- ---- the stars
 
 -- what was written agrees
-pub agreed : (b : Placed) (freed : List ℕ) (placed : List (ℕ × Cell)) (writes : List (ℕ × (ℕ × List ℕ))) → IsRewriting b freed placed writes → AreAgreed writes
+pub agreed : (b : Placed) (freed : List ℕ) (placed : List (ℕ × Cell)) (writes : List (ℕ × (ℕ × List ℕ))) →
+    IsRewriting b freed placed writes → AreAgreed writes
 agreed b freed placed writes r n m p s t i j = (
   r.numbered.single n m p (r.after.each n (p, s) i) (r.after.each m (p, t) j),
   λ x k. (r.after.places m x (p, t) j).1 ((r.after.places n x (p, s) i).0 k),
 )
 
 -- with the written stars put into a list that is long enough, the stars are those after the exchange
-pub are_rewritten : (gone fresh : List Cell) (freed : List ℕ) (placed : List (ℕ × Cell)) (b : Placed) (writes : List (ℕ × (ℕ × List ℕ))) (keys : List (ℕ × ℕ)) (more : List (ℕ × List ℕ)) → AreStars b → AreFor gone fresh freed placed b → IsRewriting b freed placed writes → AreKeysAfter b.keys writes keys → HasSameStars b.stars more → AreBelow (length more) writes → AreRewritten freed placed b keys (set_all writes more)
-are_rewritten gone fresh freed placed b writes keys more a f r k s h = record { order = k.order; starred = λ p i. (there p i, back p i); filled = filled }
+pub are_rewritten : (gone fresh : List Cell) (freed : List ℕ) (placed : List (ℕ × Cell)) (b : Placed)
+    (writes : List (ℕ × (ℕ × List ℕ))) (keys : List (ℕ × ℕ)) (more : List (ℕ × List ℕ)) → AreStars b →
+    AreFor gone fresh freed placed b → IsRewriting b freed placed writes → AreKeysAfter b.keys writes keys →
+    HasSameStars b.stars more → AreBelow (length more) writes → AreRewritten freed placed b keys (set_all writes more)
+are_rewritten gone fresh freed placed b writes keys more a f r k s h =
+    record { order = k.order; starred = λ p i. (there p i, back p i); filled = filled }
   where
     new : List (ℕ × List ℕ)
     new = set_all writes more
@@ -156,9 +213,21 @@ are_rewritten gone fresh freed placed b writes keys more a f r k s h = record { 
       | inr w ↦ elim (k.from p q.number q.key) [
         | inl x ↦ absurd (w.0 (p, x.places) x.listed)
         | inr x ↦ (
-            let same : star_at more q.number ≡ star_at b.stars q.number = s.back q.number i (subst (λ (y : ℕ × List ℕ). IsIn i y.1) w.1 q.listed) in
-            let old : IsStarred b.keys b.stars p i = record { number = q.number; key = x.0; owned = ap (λ y. y.0) (sym (w.1 ∙ same)) ∙ q.owned; listed = subst (λ (y : ℕ × List ℕ). IsIn i y.1) (w.1 ∙ same) q.listed } in
-            inl (old, untouched p i (λ m. (let t = r.numbered.all p m in let u = r.after.all t.0 p t.1 in x.1 t.0 u.0 u.1)) old))
+            let same : star_at more q.number ≡ star_at b.stars q.number =
+            s.back q.number i (subst (λ (y : ℕ × List ℕ). IsIn i y.1) w.1 q.listed) in
+            let old : IsStarred b.keys b.stars p i =
+            record {
+              number = q.number;
+              key = x.0;
+              owned = ap (λ y. y.0) (sym (w.1 ∙ same)) ∙ q.owned;
+              listed =
+                  subst (λ (y : ℕ × List ℕ). IsIn i y.1) (w.1 ∙ same) q.listed;
+            } in
+            inl (
+              old,
+              untouched p i (λ m. (let t = r.numbered.all p m in let u = r.after.all t.0 p t.1 in
+                  x.1 t.0 u.0 u.1)) old,
+            ))
       ]
     ]
 
@@ -175,7 +244,8 @@ are_rewritten gone fresh freed placed b writes keys more a f r k s h = record { 
                 number = n.0;
                 key = k.written p n.0 (record { places = w.0; listed = w.1; place = i; filled = j });
                 owned = ap (λ y. y.0) x.2 ∙ e;
-                listed = subst (λ (y : ℕ × List ℕ). IsIn i y.1) (sym x.2) ((r.after.places n.0 i x.0 x.1).1 (subst (λ v. StarsAfter freed placed b v i) (sym e) t));
+                listed = subst (λ (y : ℕ × List ℕ). IsIn i y.1) (sym x.2)
+                    ((r.after.places n.0 i x.0 x.1).1 (subst (λ v. StarsAfter freed placed b v i) (sym e) t));
               })
           | inr x ↦ absurd (x.0 (p, w.0) w.1)
         ]
@@ -225,7 +295,8 @@ are_rewritten gone fresh freed placed b writes keys more a f r k s h = record { 
 -- ---- the plan
 
 -- the cells after an exchange in a bucket that may be new
-pub moved_at : (gone fresh : List Cell) (old new : Placed) → IsMoved gone fresh old new → cells_of new.slots ≡ swapped_at old.place gone fresh (cells_of old.slots)
+pub moved_at : (gone fresh : List Cell) (old new : Placed) → IsMoved gone fresh old new →
+    cells_of new.slots ≡ swapped_at old.place gone fresh (cells_of old.slots)
 moved_at gone fresh old new m = by old.place refl
   where
     none : old.place ≡ None → (c : Cell) → touches_in old.place c ≡ true → ⊥
@@ -235,20 +306,33 @@ moved_at gone fresh old new m = by old.place refl
     by (Some w) e = moved_is_swapped w gone fresh old new e m
     by None e =
         same_members (cells_of new.slots) (cells_of old.slots) (placed_sorted new.slots) (placed_sorted old.slots)
-        (λ c k. (let t = in_placed new.slots c k in elim (m.only t.0 c t.1) [ inl f ↦ absurd (none e c f.1) | inr o ↦ placed_in old.slots t.0 c o.0 ]))
+        (λ c k. (let t = in_placed new.slots c k in
+        elim (m.only t.0 c t.1) [ inl f ↦ absurd (none e c f.1) | inr o ↦ placed_in old.slots t.0 c o.0 ]))
         (λ c k. (let t = in_placed old.slots c k in placed_in new.slots t.0 c (m.stays t.0 c t.1 (λ i q. none e c q))))
 
 -- so what stands at some places then, and what some stars are, is a plan for the exchange
-pub is_plan : (gone fresh : List Cell) (b : Placed) (p : PlanView) (freed : List ℕ) (placed : List (ℕ × Cell)) → AreStars b → AreFor gone fresh freed placed b → IsRewriting b freed placed p.stars → AreKeysAfter b.keys p.stars (or_else p.keys b.keys) →
-    HasSameCells b.slots (or_else p.grown b.slots) → ((i : ℕ) (c : Cell) → IsIn (i, c) placed → i < length (or_else p.grown b.slots)) → p.slots ≡ freeing freed ++ putting placed →
-    HasSameStars b.stars (or_else p.more b.stars) → ((n : ℕ) (s : ℕ × List ℕ) → IsIn (n, s) p.stars → n < length (or_else p.more b.stars)) → IsPlanFor gone fresh b p
+pub is_plan : (gone fresh : List Cell) (b : Placed) (p : PlanView) (freed : List ℕ) (placed : List (ℕ × Cell)) →
+    AreStars b → AreFor gone fresh freed placed b → IsRewriting b freed placed p.stars →
+    AreKeysAfter b.keys p.stars (or_else p.keys b.keys) →
+    HasSameCells b.slots (or_else p.grown b.slots) →
+    ((i : ℕ) (c : Cell) → IsIn (i, c) placed → i < length (or_else p.grown b.slots)) →
+    p.slots ≡ freeing freed ++ putting placed →
+    HasSameStars b.stars (or_else p.more b.stars) →
+    ((n : ℕ) (s : ℕ × List ℕ) → IsIn (n, s) p.stars → n < length (or_else p.more b.stars)) → IsPlanFor gone fresh b p
 is_plan gone fresh b p freed placed a f r k s h e t g =
     let u = are_put gone fresh freed placed b (or_else p.grown b.slots) f s h in
     let below = below_all (length (or_else p.more b.stars)) p.stars g in
-    let v = are_rewritten gone fresh freed placed b p.stars (or_else p.keys b.keys) (or_else p.more b.stars) a f r k t below in
-    let m = rewritten_is_moved gone fresh freed placed b (done p b) refl a f (subst (λ cs. ArePut freed placed b.slots (set_all cs (or_else p.grown b.slots))) (sym e) u.1) v in
+    let v = are_rewritten gone fresh freed placed b p.stars (or_else p.keys b.keys) (or_else p.more b.stars) a f r k t
+    below in
+    let m = rewritten_is_moved gone fresh freed placed b (done p b) refl a f
+    (subst (λ cs. ArePut freed placed b.slots (set_all cs (or_else p.grown b.slots))) (sym e) u.1) v in
     record {
-      allows = record { slots = subst (λ cs. AreBelow (length (or_else p.grown b.slots)) cs) (sym e) u.0; stars = below; after = m.0 };
+      allows = record {
+        slots = subst (λ cs. AreBelow (length (or_else p.grown b.slots)) cs) (sym e) u.0;
+        stars =
+            below;
+        after = m.0;
+      };
       cells = moved_at gone fresh b (done p b) m.1;
     }
 
@@ -259,7 +343,8 @@ pub stars_same : (l : List (ℕ × List ℕ)) → HasSameStars l l
 stars_same l = record { there = λ n i m. refl; back = λ n i m. refl }
 
 -- and with an empty one behind it
-pub stars_more : (old l new : List (ℕ × List ℕ)) (s : ℕ × List ℕ) → s.1 ≡ [] → new ≡ l ++ s ∷ [] → HasSameStars old l → HasSameStars old new
+pub stars_more : (old l new : List (ℕ × List ℕ)) (s : ℕ × List ℕ) → s.1 ≡ [] → new ≡ l ++ s ∷ [] → HasSameStars old l →
+    HasSameStars old new
 stars_more old l new s e q h = rw q (record {
   there = λ n i m. there l n i (subst (λ (y : ℕ × List ℕ). IsIn i y.1) (sym (h.there n i m)) m) ∙ h.there n i m;
   back = λ n i m. (let t = back l n i m in t ∙ h.back n i (subst (λ (y : ℕ × List ℕ). IsIn i y.1) t m));
@@ -270,7 +355,8 @@ stars_more old l new s e q h = rw q (record {
     there (x ∷ l) zero i m = refl
     there (x ∷ l) (suc n) i m = there l n i m
 
-    back : (l : List (ℕ × List ℕ)) (n i : ℕ) → IsIn i (star_at (l ++ s ∷ []) n).1 → star_at (l ++ s ∷ []) n ≡ star_at l n
+    back : (l : List (ℕ × List ℕ)) (n i : ℕ) → IsIn i (star_at (l ++ s ∷ []) n).1 →
+        star_at (l ++ s ∷ []) n ≡ star_at l n
     back [] zero i m = absurd (subst (λ (k : List ℕ). IsIn i k) e m)
     back [] (suc n) i m = refl
     back (x ∷ l) zero i m = refl
@@ -279,22 +365,32 @@ stars_more old l new s e q h = rw q (record {
 -- ---- lists that are made element by element
 
 -- one element more is made and put last
-made_next : {X Y : Type 0} (f : X → Y) (l : List X) (n : ℕ) (x : X) (front list new : List Y) → take (n + 1) l ≡ take n l ++ x ∷ [] → new ≡ list ++ f x ∷ [] → list ≡ front ++ map f (take n l) → new ≡ front ++ map f (take (n + 1) l)
+made_next : {X Y : Type 0} (f : X → Y) (l : List X) (n : ℕ) (x : X) (front list new : List Y) →
+    take (n + 1) l ≡ take n l ++ x ∷ [] → new ≡ list ++ f x ∷ [] → list ≡ front ++ map f (take n l) →
+    new ≡ front ++ map f (take (n + 1) l)
 made_next f l n x front list new t e i =
-    e ∙ ap (λ v. v ++ f x ∷ []) i ∙ append_assoc front (map f (take n l)) (f x ∷ []) ∙ ap (λ v. front ++ v) (sym (map-append f (take n l) (x ∷ [])) ∙ ap (map f) (sym t))
+    e ∙ ap (λ v. v ++ f x ∷ []) i ∙ append_assoc front (map f (take n l)) (f x ∷ [])
+    ∙ ap (λ v. front ++ v) (sym (map-append f (take n l) (x ∷ [])) ∙ ap (map f) (sym t))
 
 -- one more place is freed
-pub freeing_more : (l : List ℕ) (n : ℕ) (list new : List (ℕ × Option Cell)) → n < length l → new ≡ list ++ (slice_index_or l n 0, None) ∷ [] → list ≡ freeing (take n l) → new ≡ freeing (take (n + 1) l)
+pub freeing_more : (l : List ℕ) (n : ℕ) (list new : List (ℕ × Option Cell)) → n < length l →
+    new ≡ list ++ (slice_index_or l n 0, None) ∷ [] → list ≡ freeing (take n l) → new ≡ freeing (take (n + 1) l)
 freeing_more l n list new h e i = made_next emptied l n (slice_index_or l n 0) [] list new (take_more l n 0 h) e i
 
 -- one more cell is put
-pub putting_more : (l : List (ℕ × Cell)) (n : ℕ) (x : ℕ × Cell) (front list new : List (ℕ × Option Cell)) → n < length l → x ≡ slice_index_or l n x → new ≡ list ++ (x.0, Some x.1) ∷ [] → list ≡ front ++ putting (take n l) → new ≡ front ++ putting (take (n + 1) l)
-putting_more l n x front list new h s e i = made_next (λ (m : ℕ × Cell). (m.0, Some m.1)) l n x front list new (take_next l n x h s) e i
+pub putting_more : (l : List (ℕ × Cell)) (n : ℕ) (x : ℕ × Cell) (front list new : List (ℕ × Option Cell)) →
+    n < length l → x ≡ slice_index_or l n x → new ≡ list ++ (x.0, Some x.1) ∷ [] → list ≡ front ++ putting (take n l) →
+    new ≡ front ++ putting (take (n + 1) l)
+putting_more l n x front list new h s e i = made_next (λ (m : ℕ × Cell). (m.0, Some m.1)) l n x front list new
+    (take_next l n x h s) e i
 
 -- all are
-pub changes_are : (freed us : List ℕ) (placed ps : List (ℕ × Cell)) (n m : ℕ) (list new : List (ℕ × Option Cell)) → us ≡ freed → ps ≡ placed → length us ≤ n → length ps ≤ m → list ≡ freeing (take n us) → new ≡ list ++ putting (take m ps) → new ≡ freeing freed ++ putting placed
+pub changes_are : (freed us : List ℕ) (placed ps : List (ℕ × Cell)) (n m : ℕ) (list new : List (ℕ × Option Cell)) →
+    us ≡ freed → ps ≡ placed → length us ≤ n → length ps ≤ m → list ≡ freeing (take n us) →
+    new ≡ list ++ putting (take m ps) → new ≡ freeing freed ++ putting placed
 changes_are freed us placed ps n m list new e f h k i j =
-    j ∙ ap (λ (v : List (ℕ × Option Cell)). v ++ putting (take m ps)) (i ∙ ap freeing (take_all n us h ∙ e)) ∙ ap (λ (v : List (ℕ × Cell)). freeing freed ++ putting v) (take_all m ps k ∙ f)
+    j ∙ ap (λ (v : List (ℕ × Option Cell)). v ++ putting (take m ps)) (i ∙ ap freeing (take_all n us h ∙ e))
+    ∙ ap (λ (v : List (ℕ × Cell)). freeing freed ++ putting v) (take_all m ps k ∙ f)
 
 -- one more star is copied
 -- one more open place is put at the end
@@ -309,15 +405,25 @@ slots_more old l new s e q h i = ap (λ v. at v i) (q ∙ ap (λ x. l ++ x ∷ [
     there (x ∷ l) (suc i) = there l i
 
 -- one element more is copied
-pub copied_more : {X : Type 0} (l : List X) (n : ℕ) (x y : X) (list new : List X) → n < length l → x ≡ slice_index_or l n x → new ≡ list ++ y ∷ [] → y ≡ x → list ≡ take n l → new ≡ take (n + 1) l
-copied_more l n x y list new h s e q i = e ∙ ap (λ v. v ++ y ∷ []) i ∙ ap (λ v. take n l ++ v ∷ []) q ∙ sym (take_next l n x h s)
+pub copied_more : {X : Type 0} (l : List X) (n : ℕ) (x y : X) (list new : List X) → n < length l →
+    x ≡ slice_index_or l n x → new ≡ list ++ y ∷ [] → y ≡ x → list ≡ take n l → new ≡ take (n + 1) l
+copied_more l n x y list new h s e q i = e ∙ ap (λ v. v ++ y ∷ []) i ∙ ap (λ v. take n l ++ v ∷ []) q
+    ∙ sym (take_next l n x h s)
 
 -- one more element is put at its place
-pub put_next : {X : Type 0} (w v : List (ℕ × X)) (i : ℕ) (x : X) (l all : List X) → w ≡ (i, x) ∷ v → AreBelow (length l) w → set_all w l ≡ all → AreBelow (length (slice_set l i x)) v × (set_all v (slice_set l i x) ≡ all)
-put_next w v i x l all e b m = (subst (λ n. AreBelow n v) (sym (len_set l i x)) (subst (λ u. AreBelow (length l) u) e b).1, ap (λ u. set_all u l) (sym e) ∙ m)
+pub put_next : {X : Type 0} (w v : List (ℕ × X)) (i : ℕ) (x : X) (l all : List X) → w ≡ (i, x) ∷ v →
+    AreBelow (length l) w → set_all w l ≡ all →
+    AreBelow (length (slice_set l i x)) v × (set_all v (slice_set l i x) ≡ all)
+put_next w v i x l all e b m = (
+  subst (λ n. AreBelow n v) (sym (len_set l i x))
+      (subst (λ u. AreBelow (length l) u) e b).1,
+  ap (λ u. set_all u l) (sym e) ∙ m,
+)
 
 -- a bucket with the same lists is the same
-pub same_bucket : (p : Option (ℕ × ℕ)) (s s' : List (Option Cell)) (k k' : List (ℕ × ℕ)) (t t' : List (ℕ × List ℕ)) → s ≡ s' → k ≡ k' → t ≡ t' → ◌≡◌ {A = Placed} (record { place = p; slots = s; keys = k; stars = t }) (record { place = p; slots = s'; keys = k'; stars = t' })
+pub same_bucket : (p : Option (ℕ × ℕ)) (s s' : List (Option Cell)) (k k' : List (ℕ × ℕ)) (t t' : List (ℕ × List ℕ)) →
+    s ≡ s' → k ≡ k' → t ≡ t' → ◌≡◌ {A = Placed} (record { place = p; slots = s; keys = k; stars = t })
+    (record { place = p; slots = s'; keys = k'; stars = t' })
 same_bucket p s s' k k' t t' e f g = rw (e, f, g)
 
 -- none is left to put

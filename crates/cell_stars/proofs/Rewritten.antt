@@ -11,7 +11,13 @@ use Rattle.cell_stars.specs.Plans.{RewrittenIsMoved}
 pub rewritten_is_moved : RewrittenIsMoved
 rewritten_is_moved gone fresh freed placed old new e s f r w = (
   record { order = w.order; names = names; listed = listed; filled = w.filled; once = once; touching = touching },
-  record { place = e; stays = λ i c q n. r.kept i c q (λ m. (let g = f.freed_gone i c m q in n g.0 g.1)); comes = comes; only = only },
+  record {
+    place = e;
+    stays = λ i c q n. r.kept i c q (λ m. (let g = f.freed_gone i c m q in n g.0 g.1));
+    comes =
+        comes;
+    only = only;
+  },
 )
   where
     at_home : (p : ℕ) → lies_in old.place p ≡ true → lies_in new.place p ≡ true
@@ -19,11 +25,18 @@ rewritten_is_moved gone fresh freed placed old new e s f r w = (
 
     names : (p i : ℕ) → IsStarred new.keys new.stars p i → IsNamed new.place new.slots p i
     names p i m = elim ((w.starred p i).0 m) [
-      | inl o ↦ (let t = s.names p i o.0 in record { cell = t.cell; there = r.kept i t.cell t.there o.1; has = t.has; inside = at_home p t.inside })
+      | inl o ↦ (let t = s.names p i o.0 in record {
+        cell = t.cell;
+        there = r.kept i t.cell t.there o.1;
+        has =
+            t.has;
+        inside = at_home p t.inside;
+      })
       | inr q ↦ record { cell = q.cell; there = r.put i q.cell q.put; has = q.has; inside = at_home p q.inside }
     ]
 
-    listed : (p i : ℕ) (c : Cell) → at new.slots i ≡ Some c → IsIn p (points_of c) → lies_in new.place p ≡ true → IsStarred new.keys new.stars p i
+    listed : (p i : ℕ) (c : Cell) → at new.slots i ≡ Some c → IsIn p (points_of c) → lies_in new.place p ≡ true →
+        IsStarred new.keys new.stars p i
     listed p i c q m n =
         let home = ap (λ o. lies_in o p) (sym e) ∙ n in
         elim (r.only i c q) [
@@ -38,7 +51,8 @@ rewritten_is_moved gone fresh freed placed old new e s f r w = (
     ]
 
     touching : (i : ℕ) (c : Cell) → at new.slots i ≡ Some c → touches_in new.place c ≡ true
-    touching i c p = ap (λ o. touches_in o c) e ∙ elim (r.only i c p) [ inl a ↦ (f.placed_fresh i c a).1 | inr a ↦ s.touching i c a.0 ]
+    touching i c p = ap (λ o. touches_in o c) e
+        ∙ elim (r.only i c p) [ inl a ↦ (f.placed_fresh i c a).1 | inr a ↦ s.touching i c a.0 ]
 
     comes : (c : Cell) → IsIn c fresh → touches_in old.place c ≡ true → (i : ℕ) × (at new.slots i ≡ Some c)
     comes c m t = elim (f.fresh_placed c m t) [
@@ -46,7 +60,9 @@ rewritten_is_moved gone fresh freed placed old new e s f r w = (
       | inr o ↦ (o.0, r.kept o.0 c o.1 o.2)
     ]
 
-    only : (i : ℕ) (c : Cell) → at new.slots i ≡ Some c → (IsIn c fresh × (touches_in old.place c ≡ true)) ⊎ ((at old.slots i ≡ Some c) × (IsIn c gone → touches_in old.place c ≡ true → ⊥))
+    only : (i : ℕ) (c : Cell) → at new.slots i ≡ Some c →
+        (IsIn c fresh × (touches_in old.place c ≡ true))
+        ⊎ ((at old.slots i ≡ Some c) × (IsIn c gone → touches_in old.place c ≡ true → ⊥))
     only i c q = elim (r.only i c q) [
       | inl o ↦ inl (f.placed_fresh i c o)
       | inr o ↦ inr (o.0, λ m t. o.1 (f.gone_freed i c o.0 m t))

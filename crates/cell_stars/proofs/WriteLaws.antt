@@ -1,9 +1,42 @@
 -- The stars after an exchange.
-use Rattle.std.specs.Prelude.{◌≡◌, ℕ, ◌+◌, ◌<◌, ◌≤◌, Bool, true, false, not, List, [], ◌∷◌, ◌++◌, ◌⊎◌, length, map, slice_index, slice_index_or, MatchBool, ◌==◌}
+use Rattle.std.specs.Prelude.{
+  ◌≡◌,
+  ℕ,
+  ◌+◌,
+  ◌<◌,
+  ◌≤◌,
+  Bool,
+  true,
+  false,
+  not,
+  List,
+  [],
+  ◌∷◌,
+  ◌++◌,
+  ◌⊎◌,
+  length,
+  map,
+  slice_index,
+  slice_index_or,
+  MatchBool,
+  ◌==◌,
+}
 use Rattle.std.specs.List.{filter}
 use Rattle.std.proofs.Common.{refl, sym, ◌∙◌, ap, subst, inl, inr, arith, take}
 use Rattle.std.proofs.lemmas.List.{map-append, take_all}
-use Rattle.list_laws.proofs.Cited.{Gathered, below_each, filtered_from, filtered_true, gather_all, gather_step, in_pushed, mapped_from, mapped_true, same_from, take_next}
+use Rattle.list_laws.proofs.Cited.{
+  Gathered,
+  below_each,
+  filtered_from,
+  filtered_true,
+  gather_all,
+  gather_step,
+  in_pushed,
+  mapped_from,
+  mapped_true,
+  same_from,
+  take_next,
+}
 use Rattle.point_order.specs.declared.cell.Cell.{Cell}
 use Rattle.point_order.specs.Facets.{points_of}
 use Rattle.point_order.specs.Sets.{IsIn, IsAscending}
@@ -17,25 +50,43 @@ use Rattle.cell_stars.proofs.KeyLaws.{owned_by, in_owned, owned_in, Keys, vertic
 
 -- the new list has the old one's points and the cell's
 abbrev pub AddsPoints : Cell → List ℕ → List ℕ → Type 0
-AddsPoints c old new = (p : ℕ) → (IsIn p new → IsIn p old ⊎ IsIn p (points_of c)) × (IsIn p old ⊎ IsIn p (points_of c) → IsIn p new)
+AddsPoints c old new = (p : ℕ) → (IsIn p new → IsIn p old ⊎ IsIn p (points_of c))
+    × (IsIn p old ⊎ IsIn p (points_of c) → IsIn p new)
 
 -- the next point is gathered
-pub point_in : (ps : List ℕ) (n : ℕ) (old list new : List ℕ) (x : ℕ) → n < length ps → x ≡ slice_index_or ps n x → ((p : ℕ) → (IsIn p new → IsIn p list ⊎ (x ≡ p)) × (IsIn p list ⊎ (x ≡ p) → IsIn p new)) → Gathered FromPoint ps n old list → Gathered FromPoint ps (n + 1) old new
-point_in ps n old list new x h e f s = gather_step FromPoint ps n old list new x x h e (λ p m. (f p).0 m) (λ p m. (f p).1 (inl m)) (λ p t. (f p).1 (inr t)) s
+pub point_in : (ps : List ℕ) (n : ℕ) (old list new : List ℕ) (x : ℕ) → n < length ps → x ≡ slice_index_or ps n x →
+    ((p : ℕ) → (IsIn p new → IsIn p list ⊎ (x ≡ p)) × (IsIn p list ⊎ (x ≡ p) → IsIn p new)) →
+    Gathered FromPoint ps n old list → Gathered FromPoint ps (n + 1) old new
+point_in ps n old list new x h e f s = gather_step FromPoint ps n old list new x x h e (λ p m. (f p).0 m)
+    (λ p m. (f p).1 (inl m)) (λ p t. (f p).1 (inr t)) s
 
 -- at the end all points of the cell are
-pub points_added : (c : Cell) (ps : List ℕ) (n : ℕ) (old new : List ℕ) → ps ≡ points_of c → length ps ≤ n → Gathered FromPoint ps n old new → AddsPoints c old new
+pub points_added : (c : Cell) (ps : List ℕ) (n : ℕ) (old new : List ℕ) → ps ≡ points_of c → length ps ≤ n →
+    Gathered FromPoint ps n old new → AddsPoints c old new
 points_added c ps n old new e h g p = (
-  λ m. elim (g.each p m) [ inl k ↦ inl k | inr r ↦ inr (subst (λ (l : List ℕ). IsIn p l) e (subst (λ q. IsIn q ps) r.2 r.1)) ],
-  λ m. elim m [ inl k ↦ g.kept p k | inr r ↦ gather_all FromPoint ps n old new h g p (subst (λ (l : List ℕ). IsIn p l) (sym e) r) p refl ],
+  λ m. elim (g.each p m) [
+    | inl k ↦ inl k
+    | inr r ↦ inr
+        (subst (λ (l : List ℕ). IsIn p l) e (subst (λ q. IsIn q ps) r.2 r.1))
+  ],
+  λ m. elim m [
+    | inl k ↦ g.kept p k
+    | inr r ↦ gather_all FromPoint ps n old new h g p
+        (subst (λ (l : List ℕ). IsIn p l) (sym e) r) p refl
+  ],
 )
 
 -- and so those of the next cell
-pub cell_step : (cells : List Cell) (n : ℕ) (old list new : List ℕ) (x d : Cell) → n < length cells → x ≡ slice_index_or cells n d → AddsPoints x list new → Gathered FromCell cells n old list → Gathered FromCell cells (n + 1) old new
-cell_step cells n old list new x d h e g s = gather_step FromCell cells n old list new x d h e (λ p m. (g p).0 m) (λ p m. (g p).1 (inl m)) (λ p r. (g p).1 (inr r)) s
+pub cell_step : (cells : List Cell) (n : ℕ) (old list new : List ℕ) (x d : Cell) → n < length cells →
+    x ≡ slice_index_or cells n d → AddsPoints x list new → Gathered FromCell cells n old list →
+    Gathered FromCell cells (n + 1) old new
+cell_step cells n old list new x d h e g s = gather_step FromCell cells n old list new x d h e (λ p m. (g p).0 m)
+    (λ p m. (g p).1 (inl m)) (λ p r. (g p).1 (inr r)) s
 
 -- all vertices of an exchange
-pub are_vertices : (gone fresh : List Cell) (none first second all : List ℕ) → none ≡ [] → Gathers FromCell gone none first → Gathers FromCell fresh first second → ((p : ℕ) → (IsIn p all → IsIn p second) × (IsIn p second → IsIn p all)) → AreVertices gone fresh all
+pub are_vertices : (gone fresh : List Cell) (none first second all : List ℕ) → none ≡ [] →
+    Gathers FromCell gone none first → Gathers FromCell fresh first second →
+    ((p : ℕ) → (IsIn p all → IsIn p second) × (IsIn p second → IsIn p all)) → AreVertices gone fresh all
 are_vertices gone fresh none first second all e f g o = record {
   each = λ p i. elim (g.each p ((o p).0 i)) [
     | inl j ↦ elim (f.each p j) [ inl k ↦ absurd (subst (λ (l : List ℕ). IsIn p l) e k) | inr r ↦ (r.0, inl r.1, r.2) ]
@@ -45,7 +96,9 @@ are_vertices gone fresh none first second all e f g o = record {
 }
 
 -- those of them that lie in the bucket are touched
-pub are_touched : (gone fresh : List Cell) (b : Placed) (freed : List ℕ) (placed : List (ℕ × Cell)) (vertices : List ℕ) → AreFor gone fresh freed placed b → AreVertices gone fresh vertices → AreTouched b freed placed (filter (lies_in b.place) vertices)
+pub are_touched : (gone fresh : List Cell) (b : Placed) (freed : List ℕ) (placed : List (ℕ × Cell)) (vertices : List ℕ)
+    → AreFor gone fresh freed placed b → AreVertices gone fresh vertices →
+    AreTouched b freed placed (filter (lies_in b.place) vertices)
 are_touched gone fresh b freed placed vertices f v = record {
   inside = λ p i. (filtered_from (lies_in b.place) vertices p i).1;
   gone = λ i p c j t q l. filtered_true (lies_in b.place) vertices p (v.all p c (inl (f.freed_gone i c j t).0) q) l;
@@ -55,17 +108,21 @@ are_touched gone fresh b freed placed vertices f v = record {
 -- ---- the numbers of stars
 
 -- the places of a star that is the vertex's own are found to be some or none
-pub full_by : (s : ℕ × List ℕ) (p : ℕ) (l : List ℕ) (r : Bool) → l ≡ owned_by p s → r ≡ (length l == 0) → MatchBool (not r) ((s.0 ≡ p) × ((i : ℕ) × IsIn i s.1)) (s.0 ≡ p → (i : ℕ) → IsIn i s.1 → ⊥)
+pub full_by : (s : ℕ × List ℕ) (p : ℕ) (l : List ℕ) (r : Bool) → l ≡ owned_by p s → r ≡ (length l == 0) →
+    MatchBool (not r) ((s.0 ≡ p) × ((i : ℕ) × IsIn i s.1)) (s.0 ≡ p → (i : ℕ) → IsIn i s.1 → ⊥)
 full_by s p [] true e f = λ q i m. subst (λ (k : List ℕ). IsIn i k) (sym e) (owned_in p i s q m)
 full_by s p (x ∷ l) true e f = (let t = same_from (length (x ∷ l)) 0 (sym f) in absurd (omega (arith, t)))
 full_by s p [] false e f = absurd (yes f)
   where
     yes : false ≡ true → ⊥
     yes g = cc g
-full_by s p (x ∷ l) false e f = (let r = in_owned p x s (subst (λ (k : List ℕ). IsIn x k) e (inl refl)) in (r.0, (x, r.1)))
+full_by s p (x ∷ l) false e f = (let r = in_owned p x s (subst (λ (k : List ℕ). IsIn x k) e (inl refl)) in
+    (r.0, (x, r.1)))
 
 -- a key with a star of its own that has places has the vertex's own number
-pub own_number : (b : Placed) (ks : Keys) (stars : List (ℕ × List ℕ)) (p i : ℕ) (k : ℕ × ℕ) → ks ≡ b.keys → stars ≡ b.stars → (i < length ks) × (slice_index (vertices ks) i ≡ p) → k ≡ slice_index_or ks i k → ((star_at stars k.1).0 ≡ p) × ((j : ℕ) × IsIn j (star_at stars k.1).1) → IsOwnNumber b p k.1
+pub own_number : (b : Placed) (ks : Keys) (stars : List (ℕ × List ℕ)) (p i : ℕ) (k : ℕ × ℕ) → ks ≡ b.keys →
+    stars ≡ b.stars → (i < length ks) × (slice_index (vertices ks) i ≡ p) → k ≡ slice_index_or ks i k →
+    ((star_at stars k.1).0 ≡ p) × ((j : ℕ) × IsIn j (star_at stars k.1).1) → IsOwnNumber b p k.1
 own_number b ks stars p i k ek es f e o =
     let t = at_key ks i k f.0 e in
     let same : k.0 ≡ p = sym t.1 ∙ f.1 in
@@ -77,17 +134,24 @@ own_number b ks stars p i k ek es f e o =
     }
 
 -- where the star beside the key has none, the vertex is in no star
-pub no_own : (b : Placed) (ks : Keys) (stars : List (ℕ × List ℕ)) (p i : ℕ) (k : ℕ × ℕ) → ks ≡ b.keys → stars ≡ b.stars → IsAscending (vertices ks) → (i < length ks) × (slice_index (vertices ks) i ≡ p) → k ≡ slice_index_or ks i k → ((star_at stars k.1).0 ≡ p → (j : ℕ) → IsIn j (star_at stars k.1).1 → ⊥) → (j : ℕ) → IsStarred b.keys b.stars p j → ⊥
+pub no_own : (b : Placed) (ks : Keys) (stars : List (ℕ × List ℕ)) (p i : ℕ) (k : ℕ × ℕ) → ks ≡ b.keys →
+    stars ≡ b.stars → IsAscending (vertices ks) → (i < length ks) × (slice_index (vertices ks) i ≡ p) →
+    k ≡ slice_index_or ks i k → ((star_at stars k.1).0 ≡ p → (j : ℕ) → IsIn j (star_at stars k.1).1 → ⊥) → (j : ℕ) →
+    IsStarred b.keys b.stars p j → ⊥
 no_own b ks stars p i k ek es a f e n j s =
     let t = at_key ks i k f.0 e in
     let same : k.0 ≡ p = sym t.1 ∙ f.1 in
-    let q : (p, s.number) ≡ k = one_key ks (p, s.number) k a (subst (λ (l : Keys). IsIn (p, s.number) l) (sym ek) s.key) t.0 (sym same) in
+    let q : (p, s.number) ≡ k = one_key ks (p, s.number) k a (subst (λ (l : Keys). IsIn (p, s.number) l) (sym ek) s.key)
+    t.0 (sym same) in
     let m : s.number ≡ k.1 = ap (λ y. y.1) q in
-    n (ap (λ l. (star_at l k.1).0) es ∙ ap (λ y. (star_at b.stars y).0) (sym m) ∙ s.owned) j (subst (λ l. IsIn j (star_at l k.1).1) (sym es) (subst (λ y. IsIn j (star_at b.stars y).1) m s.listed))
+    n (ap (λ l. (star_at l k.1).0) es ∙ ap (λ y. (star_at b.stars y).0) (sym m) ∙ s.owned) j
+    (subst (λ l. IsIn j (star_at l k.1).1) (sym es) (subst (λ y. IsIn j (star_at b.stars y).1) m s.listed))
 
 -- nor where it has no key
-pub no_own_at : (b : Placed) (ks : Keys) (p i : ℕ) → ks ≡ b.keys → BelongsAt ks p i → (j : ℕ) → IsStarred b.keys b.stars p j → ⊥
-no_own_at b ks p i e f j s = no_key ks p i f (p, s.number) (subst (λ (l : Keys). IsIn (p, s.number) l) (sym e) s.key) refl
+pub no_own_at : (b : Placed) (ks : Keys) (p i : ℕ) → ks ≡ b.keys → BelongsAt ks p i → (j : ℕ) →
+    IsStarred b.keys b.stars p j → ⊥
+no_own_at b ks p i e f j s = no_key ks p i f (p, s.number) (subst (λ (l : Keys). IsIn (p, s.number) l) (sym e) s.key)
+    refl
 
 -- ---- the numbers that they have after an exchange
 

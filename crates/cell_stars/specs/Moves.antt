@@ -1,5 +1,24 @@
 -- What goes and comes in an exchange, and where.
-use Rattle.std.specs.Prelude.{◌≡◌, ◌⊎◌, ◌%◌, ◌<◌, ◌≤◌, ℕ, Bool, true, false, List, [], ◌∷◌, ◌++◌, length, Option, Some, map, slice_index_or}
+use Rattle.std.specs.Prelude.{
+  ◌≡◌,
+  ◌⊎◌,
+  ◌%◌,
+  ◌<◌,
+  ◌≤◌,
+  ℕ,
+  Bool,
+  true,
+  false,
+  List,
+  [],
+  ◌∷◌,
+  ◌++◌,
+  length,
+  Option,
+  Some,
+  map,
+  slice_index_or,
+}
 use Rattle.point_order.specs.declared.cell.Cell.{Cell}
 use Rattle.point_order.specs.Facets.{points_of}
 use Rattle.point_order.specs.Sets.{IsIn, IsAscending}
@@ -162,5 +181,5 @@ pub record AreCellsMarked (marks : List Bool) (list : List Cell) : Type 0 where
 
 -- each number of the list has a mark other than 0
 pub record AreMarked (marks list : List ℕ) : Type 0 where
-  pub count : length marks ≡ 512
-  pub each : (i : ℕ) → IsIn i list → 0 < slice_index_or marks (i % 512) 0
+  pub count : length marks ≡ 2048
+  pub each : (i : ℕ) → IsIn i list → 0 < slice_index_or marks (i % 2048) 0

@@ -1,27 +1,14 @@
 //! The places of the cells that are put, which are added to the stars of their vertices.
 
-ghost use Rattle.std.specs.Prelude.{
-  ◌≡◌,
-  ◌<◌,
-  ◌++◌,
-  ◌∷◌,
-  [],
-  ℕ,
-  List,
-  OnOk,
-  MatchBool,
-  MatchOption,
-  length,
-  slice_set,
-};
+ghost use Rattle.std.specs.Prelude.{◌≡◌, ◌<◌, ◌++◌, ◌∷◌, [], ℕ, List, OnOk, MatchBool, MatchOption, length, slice_set};
 ghost use Rattle.point_order.specs.declared.cell.Cell.{Cell};
 ghost use Rattle.point_order.specs.Facets.{points_of};
 ghost use Rattle.point_order.specs.Sets.{IsIn};
 ghost use Rattle.cell_stars.specs.Adding.{AddsPlaces, AreStarsHere, HasStarAt, IsOneMore};
 
+use crate::around::Around;
 use crate::cells::Cells;
-use crate::plan::Around;
-use crate::writes::rest_of;
+use crate::vertices::rest_of;
 use point_order::{Cell, Point};
 use std::alloc::AllocError;
 
@@ -146,7 +133,8 @@ impl Cells {
         cell: &Cell,
     ) -> Result<(), AllocError>
         requires { AreStarsHere self.now.place writes.old.items }
-        ensures { OnOk result (AddsPlaces (λ q j. IsIn q (points_of cell.now) × (i ≡ j)) writes.old.items writes.new.items) }
+        ensures { OnOk result (AddsPlaces (λ q j. IsIn q (points_of cell.now) × (i ≡ j)) writes.old.items
+            writes.new.items) }
     {
         for p in cell.points() {
             self.add_to_star(writes, seen, *p, i)?;
@@ -161,8 +149,8 @@ impl Cells {
         placed: &[(u32, Cell)],
     ) -> Result<(), AllocError>
         requires { AreStarsHere self.now.place writes.old.items }
-        ensures { OnOk result (AddsPlaces (λ q j. (c : Cell) × IsIn (j, c) placed.now × IsIn q (points_of c)) writes.old.items
-            writes.new.items) }
+        ensures { OnOk result (AddsPlaces (λ q j. (c : Cell) × IsIn (j, c) placed.now × IsIn q (points_of c))
+            writes.old.items writes.new.items) }
     {
         let seen = seen_of(writes);
         for (i, c) in placed {

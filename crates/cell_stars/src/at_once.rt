@@ -6,25 +6,18 @@ ghost use Rattle.point_order.specs.declared.cell.Cell.{Cell};
 ghost use Rattle.point_order.specs.CellOrder.{cell_cmp};
 ghost use Rattle.point_order.specs.Facets.{points_of};
 ghost use Rattle.point_order.specs.Sets.{IsIn, IsAscending};
-ghost use Rattle.cell_stars.specs.AtOnce.{
-  AreKeyed,
-  AreNumberedTo,
-  FromCellHere,
-  GainsPlaces,
-  HaveKeys,
-  StandsAtHere,
-  StandsHere,
-};
+ghost use Rattle.cell_stars.specs.AtOnce.{AreKeyed, AreNumberedTo, FromCellHere, GainsPlaces, HaveKeys, StandsAtHere, StandsHere};
 ghost use Rattle.cell_stars.specs.Gathering.{Gathers};
 ghost use Rattle.cell_stars.specs.Places.{cells_of};
 ghost use Rattle.cell_stars.specs.Swaps.{touches as touches_of};
 
+use crate::around::Around;
 use crate::cells::Cells;
 use crate::doors::links_of;
 use crate::grid::Grid;
+use crate::links::{Around4, Links};
 use crate::numbers::as_number;
-use crate::plan::Around;
-use crate::slots::{Around4, Slot};
+use crate::slots::Slot;
 use crate::steps::place_of;
 use point_order::{Cell, Point, points_in_order};
 use std::alloc::{AllocError, Global};
@@ -35,7 +28,7 @@ fn linked_slot(cell: &Cell, links: &[Around4], number: usize) -> Slot
 {
     let mut slot = Slot::new(Some(*cell));
     if let Some(around) = links.get(number) {
-        slot.link(*around);
+        slot.link(Links { around: *around });
     }
     slot
 }

@@ -1,40 +1,17 @@
 //! The cells of a bucket.
 
-ghost use Rattle.std.specs.Prelude.{
-  ◌≡◌,
-  ◌↔◌,
-  ◌⊎◌,
-  ◌+◌,
-  ◌*◌,
-  ◌-◌,
-  ◌≤◌,
-  ◌^◌,
-  ℕ,
-  None,
-  Some,
-  IsSome,
-  IfSome,
-  true,
-  [],
-  length,
-  MatchOption,
-  IsPermutation,
-  IfOk,
-  if◌then◌else◌,
-  ◌==◌,
-};
+ghost use Rattle.std.specs.Prelude.{◌≡◌, ◌↔◌, ◌⊎◌, ◌+◌, ◌*◌, ◌-◌, ◌≤◌, ◌^◌, ℕ, None, Some, IfSome, true, [], length, IsPermutation, IfOk, if◌then◌else◌, ◌==◌};
 ghost use Rattle.std.specs.List.{filter};
 ghost use Rattle.point_order.specs.Facets.{points_of};
 ghost use Rattle.point_order.specs.Sets.{IsIn, is_among};
-ghost use Rattle.cell_stars.specs.Places.{at, cells_of, lies_in, touches_in, star_at, IsStarred, AreStars};
-ghost use Rattle.cell_stars.specs.Plans.{done, Allows, IsPlanFor};
+ghost use Rattle.cell_stars.specs.Places.{cells_of, lies_in, star_at, IsStarred, AreStars};
 ghost use Rattle.cell_stars.specs.Stars.{cells_left, cells_around, cells_to_come};
 
+use crate::around::{Around, copied_stars};
 use crate::grid::Grid;
-use crate::moves::place_among;
-use crate::plan::{Around, Plan};
-use crate::planner::{copied_slots, copied_stars};
-use crate::slots::{NONE, Slot, across, cell_at, loaded_around, side_of};
+use crate::guesses::{links_at, loaded_around};
+use crate::links::{NONE, side_of};
+use crate::slots::{Slot, cell_at, copied_slots, place_among};
 use crate::star::{BucketCells, Star, StarCells};
 use crate::steps::{Steps, place_counted, place_of};
 use point_order::{Cell, Facet, Point};
@@ -209,13 +186,13 @@ impl Cells {
 
     /// The place at which the other cell on a facet is likely to stand, where the given cell stands at the given place.
     pub fn place_across(&self, place: u32, cell: &Cell, facet: &Facet) -> u32 {
-        across(&self.slots, place, side_of(cell, facet))
+        links_at(&self.slots, place).across(side_of(cell, facet))
     }
 
     /// A number that depends on what stands across the facets of the cell at the place: whoever adds it up has these
     /// places loaded before they are looked at.
     pub fn loaded_around(&self, place: u32) -> u32 {
-        loaded_around(&self.slots, place)
+        loaded_around(&self.slots, links_at(&self.slots, place))
     }
 
     /// The cell at a place, if there is one.
@@ -253,14 +230,5 @@ impl Cells {
             used: self.used,
             used_stars: self.used_stars,
         })
-    }
-
-    /// Carries a plan out, without memory.
-    pub fn carry_out(&mut self, plan: Plan)
-        requires { Allows plan self.old }
-        ensures { self.new ≡ done plan self.old }
-    {
-        let mut plan = plan;
-        self.turn(&mut plan);
     }
 }

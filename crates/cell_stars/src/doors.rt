@@ -1,7 +1,7 @@
 //! The links of all cells of a bucket at once. No clause speaks of them.
 
-use crate::slots::{Around4, NONE};
-use crate::writes::hash_of;
+use crate::links::{Around4, NONE};
+use crate::vertices::hash_of;
 use point_order::{Cell, Point};
 use std::alloc::{AllocError, Global};
 

@@ -1,12 +1,34 @@
-//! Where the cells that go are likely to stand: across the facets of those before them.
+//! Where cells are likely to stand, by the links of others: what lies across their facets, and the cells that go, which
+//! lie across the facets of those before them.
 
 ghost use Rattle.std.specs.Prelude.{◌≡◌, IfSome, Some};
 ghost use Rattle.cell_stars.specs.Places.{at};
 
+use crate::links::{Links, NONE};
 use crate::matched::{Joined, Side};
-use crate::slots::{NONE, Slot, across, loaded_around, stands_at};
+use crate::slots::{Slot, stands_at};
 use point_order::Cell;
 use std::alloc::{AllocError, Global};
+
+/// The links of the cell at the place.
+pub(crate) fn links_at(slots: &[Slot], place: u32) -> Links {
+    match slots.get(place as usize) {
+        Some(slot) => slot.links(),
+        None => Links::NOWHERE,
+    }
+}
+
+/// A number that depends on what stands at the places across the facets. It is added up, and read by nobody: so these
+/// places are loaded early, and all at once.
+pub(crate) fn loaded_around(slots: &[Slot], links: Links) -> u32 {
+    let mut sum: u32 = 0;
+    for other in &links.around {
+        if let Some(slot) = slots.get(*other as usize) {
+            sum = sum.wrapping_add(slot.loaded());
+        }
+    }
+    sum
+}
 
 /// The places of the cells that go, as far as they were looked for: none for those that were not found.
 ///
@@ -44,7 +66,7 @@ impl Guesses {
     // The place across the side of a cell before, if that was found.
     fn place_across(&self, slots: &[Slot], side: Side) -> u32 {
         match self.places.get(side.cell as usize) {
-            Some(found) => across(slots, *found, usize::from(side.side)),
+            Some(found) => links_at(slots, *found).across(usize::from(side.side)),
             None => NONE,
         }
     }
@@ -52,7 +74,8 @@ impl Guesses {
     /// The next cell was looked for: where it stands, if it was found. What stands around it is loaded.
     pub(crate) fn add(&mut self, slots: &[Slot], place: Option<u32>) -> Result<(), AllocError> {
         let place = place.unwrap_or(NONE);
-        self.loaded = self.loaded.wrapping_add(loaded_around(slots, place));
+        let links = links_at(slots, place);
+        self.loaded = self.loaded.wrapping_add(loaded_around(slots, links));
         self.places.push(place)?;
         Ok(())
     }

@@ -2,10 +2,12 @@
 
 ghost use Rattle.std.specs.Prelude.{◌≡◌, OnOk};
 
+use crate::guesses::links_at;
+use crate::links::{Links, NONE};
 use crate::matched::{Beside, Joined};
 use crate::moves::Moves;
 use crate::order::are_same;
-use crate::slots::{NONE, Slot, across, around};
+use crate::slots::Slot;
 use point_order::Cell;
 use std::alloc::{AllocError, Global};
 
@@ -109,8 +111,8 @@ impl Joins<'_> {
             Beside::Nothing => Ok(NONE),
             Beside::Fresh(other) => Ok(self.place_of(other)),
             Beside::Behind(behind) => {
-                let freed = number_at(&self.moves.gone, behind.cell);
-                let outside = across(self.slots, freed, usize::from(behind.side));
+                let freed = number_at(&self.moves.gone.places, behind.cell);
+                let outside = links_at(self.slots, freed).across(usize::from(behind.side));
                 self.add_rim(rim, freed, outside, place)?;
                 Ok(outside)
             }
@@ -128,7 +130,7 @@ impl Joins<'_> {
         if outside == NONE {
             return Ok(());
         }
-        for (side, place) in around(self.slots, outside).iter().enumerate() {
+        for (side, place) in links_at(self.slots, outside).around.iter().enumerate() {
             if *place == freed {
                 rim.push(Joint {
                     place: outside,
@@ -157,7 +159,7 @@ impl Joins<'_> {
             self.across(rim, place, c)?,
             self.across(rim, place, d)?,
         ];
-        put.1.link(around);
+        put.1.link(Links { around });
         Ok(())
     }
 

@@ -6,31 +6,12 @@ ghost use Rattle.point_order.specs.Sets.{IsIn, IsAscending};
 ghost use Rattle.cell_stars.specs.Plans.{or_else};
 ghost use Rattle.cell_stars.specs.Moves.{AreKeysAfter, AreAgreed, IsKeyed, IsKeyAfter, IsNumberFor};
 
+use crate::around::Around;
 use crate::cells::Cells;
-use crate::plan::Around;
 use crate::steps::place_of;
 use crate::writes::is_own;
 use point_order::Point;
 use std::alloc::{AllocError, Global};
-
-// Whether the number stands beside the vertex.
-fn has_key(keys: &[(Point, u32)], p: Point, n: u32) -> bool
-    requires { IsAscending (map (λ k. k.0) keys.now) }
-    ensures { IsTrue result → IsIn (p, n) keys.now }
-{
-    match place_of(keys, p) {
-        Ok(i) => keys[i].1 == n,
-        Err(_) => false,
-    }
-}
-
-// Whether the star has a place and its number stands beside its vertex.
-fn is_keyed(keys: &[(Point, u32)], n: u32, around: &Around) -> bool
-    requires { IsAscending (map (λ k. k.0) keys.now) }
-    ensures { IsTrue result → IsKeyed keys.now n around.now }
-{
-    around.has_places() && has_key(keys, around.vertex(), n)
-}
 
 // Takes the vertex out.
 fn drop_key(keys: &mut Vec<(Point, u32)>, p: Point)
@@ -67,33 +48,12 @@ fn write_key(keys: &mut Vec<(Point, u32)>, n: u32, around: &Around) -> Result<()
     ensures order { OnOk result (IsAscending (map (λ k. k.0) keys.new.items)) }
     ensures keys { OnOk result ((k : ℕ × ℕ) → IsIn k keys.new.items ↔ IsKeyAfter keys.old.items n around.now k) }
 {
-    if is_keyed(keys, n, around) {
-        return Ok(());
-    }
     if !around.has_places() {
         drop_key(keys, around.vertex());
         return Ok(());
     }
     put_key(keys, around.vertex(), n)?;
     Ok(())
-}
-
-// The vertices with a star after the stars were written.
-fn changed_keys(
-    alloc: Global,
-    keys: &[(Point, u32)],
-    writes: &[(u32, Around)],
-) -> Result<Vec<(Point, u32)>, AllocError>
-    requires order { IsAscending (map (λ k. k.0) keys.now) }
-    requires agreed { AreAgreed writes.now }
-    ensures { IfOk result (λ list. AreKeysAfter keys.now writes.now list.items) }
-{
-    let mut list = Vec::with_capacity(alloc, keys.len().saturating_add(writes.len()))?;
-    list.extend_from_slice(keys)?;
-    for (n, around) in writes {
-        write_key(&mut list, *n, around)?;
-    }
-    Ok(list)
 }
 
 impl Cells {
@@ -118,6 +78,46 @@ impl Cells {
         true
     }
 
+    // Puts the vertex of a star in, or takes it out where the star has no place. A star that had a place before has its
+    // vertex there yet.
+    fn change_key(
+        &self,
+        list: &mut Vec<(Point, u32)>,
+        n: u32,
+        around: &Around,
+    ) -> Result<(), AllocError>
+        requires order { IsAscending (map (λ k. k.0) list.old.items) }
+        requires number { IsNumberFor self.now around.now.0 n }
+        requires there { IsKeyed self.now.keys n around.now → IsKeyed list.old.items n around.now }
+        ensures order { OnOk result (IsAscending (map (λ k. k.0) list.new.items)) }
+        ensures keys { OnOk result ((k : ℕ × ℕ) → IsIn k list.new.items ↔ IsKeyAfter list.old.items n around.now k) }
+    {
+        if self.is_keyed(n, around) {
+            return Ok(());
+        }
+        write_key(list, n, around)
+    }
+
+    // The vertices with a star after the stars were written.
+    fn changed_keys(
+        &self,
+        alloc: Global,
+        writes: &[(u32, Around)],
+    ) -> Result<Vec<(Point, u32)>, AllocError>
+        requires order { IsAscending (map (λ k. k.0) self.now.keys) }
+        requires numbers { (n : ℕ) (s : ℕ × List ℕ) → IsIn (n, s) writes.now → IsNumberFor self.now s.0 n }
+        requires agreed { AreAgreed writes.now }
+        ensures { IfOk result (λ list. AreKeysAfter self.now.keys writes.now list.items) }
+    {
+        let keys = &self.keys;
+        let mut list = Vec::with_capacity(alloc, keys.len().saturating_add(writes.len()))?;
+        list.extend_from_slice(keys)?;
+        for (n, around) in writes {
+            self.change_key(&mut list, *n, around)?;
+        }
+        Ok(list)
+    }
+
     // The vertices with a star after the stars were written, or none where they stay.
     pub(crate) fn keys_after(
         &self,
@@ -133,6 +133,6 @@ impl Cells {
         if self.are_keyed(writes) {
             return Ok(None);
         }
-        Ok(Some(changed_keys(alloc, &self.keys, writes)?))
+        Ok(Some(self.changed_keys(alloc, writes)?))
     }
 }

@@ -16,6 +16,7 @@
 #![tactic(auto)]
 
 mod adding;
+mod around;
 mod at_once;
 mod cells;
 mod doors;
@@ -23,6 +24,7 @@ mod grid;
 mod guesses;
 mod joins;
 mod keys;
+mod links;
 mod marks;
 mod matched;
 mod moves;
@@ -34,6 +36,8 @@ mod slots;
 mod star;
 mod steps;
 mod turns;
+mod vacant;
+mod vertices;
 mod writes;
 
 pub use cells::Cells;

@@ -4,11 +4,11 @@ ghost use Rattle.std.specs.Prelude.{◌≡◌, ◌<◌, not, IsTrue};
 ghost use Rattle.point_order.specs.Sets.{IsIn, IsAscending, is_among};
 ghost use Rattle.cell_stars.specs.Moves.{AreMarked};
 
-use crate::moves::is_listed;
+use crate::numbers::is_listed;
 
-// The marks of numbers, each at the rest of a division by 512: where in the list the last number with that rest is
+// The marks of numbers, each at the rest of a division by 2048: where in the list the last number with that rest is
 // likely to stand, counted from 1, and 0 where there is none.
-pub(crate) type Marks = [u8; 512];
+pub(crate) type Marks = [u8; 2048];
 
 // The mark of a number that stands at a place.
 fn mark_of(at: usize) -> u8
@@ -21,9 +21,9 @@ fn mark_of(at: usize) -> u8
 pub(crate) fn marks_of(list: &[u32]) -> Marks
     ensures { AreMarked result list.now }
 {
-    let mut marks = [0; 512];
+    let mut marks = [0; 2048];
     for (at, i) in list.iter().enumerate() {
-        marks[(*i % 512) as usize] = mark_of(at);
+        marks[(*i % 2048) as usize] = mark_of(at);
     }
     marks
 }
@@ -44,7 +44,7 @@ fn is_at_mark(list: &[u32], mark: u8, i: u32) -> bool
 pub(crate) fn is_unmarked(list: &[u32], marks: &Marks, i: u32) -> bool
     ensures { IsAscending list.now → AreMarked marks.now list.now → result ≡ not (is_among i list.now) }
 {
-    let mark = marks[(i % 512) as usize];
+    let mark = marks[(i % 2048) as usize];
     if mark == 0 {
         return true;
     }

@@ -5,9 +5,9 @@ ghost use Rattle.std.specs.Prelude.{◌≡◌, IfOk};
 ghost use Rattle.point_order.specs.Sets.{IsAscending};
 ghost use Rattle.cell_stars.specs.Plans.{AreVertices, IsOnceFor};
 
+use crate::links::NONE;
 use crate::order::do_differ;
-use crate::slots::NONE;
-use crate::writes::add_vertices;
+use crate::vertices::add_vertices;
 use point_order::{Cell, Point, points_in_order};
 use std::alloc::{AllocError, Global};
 use std::fmt::{self, Debug, Formatter};

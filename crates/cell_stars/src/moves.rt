@@ -1,23 +1,6 @@
 //! What goes and comes in an exchange, by places.
 
-ghost use Rattle.std.specs.Prelude.{
-  ◌≡◌,
-  ◌↔◌,
-  ◌⊎◌,
-  ◌≤◌,
-  ◌<◌,
-  ℕ,
-  true,
-  None,
-  Some,
-  IfOk,
-  IfSome,
-  OnOk,
-  length,
-  MatchOption,
-  MatchBool,
-  IsTrue,
-};
+ghost use Rattle.std.specs.Prelude.{◌≡◌, ◌⊎◌, ◌<◌, ℕ, true, None, Some, IfOk, IfSome, OnOk, MatchOption, MatchBool, IsTrue};
 ghost use Rattle.std.specs.List.{zip};
 ghost use Rattle.point_order.specs.declared.cell.Cell.{Cell};
 ghost use Rattle.point_order.specs.Facets.{points_of};
@@ -25,14 +8,15 @@ ghost use Rattle.point_order.specs.Sets.{IsIn, IsAscending, is_among};
 ghost use Rattle.cell_stars.specs.Places.{at, lies_in, touches_in};
 ghost use Rattle.cell_stars.specs.Plans.{AreFor, IsOnceFor};
 ghost use Rattle.cell_stars.specs.Swaps.{Differ};
-ghost use Rattle.cell_stars.specs.Moves.{IsStarFor, AreFreed, AreComing, AreNew, IsVacant, IsClear, Stays};
+ghost use Rattle.cell_stars.specs.Moves.{IsStarFor, AreFreed, AreComing, AreNew, IsClear, Stays};
 
 use crate::cells::Cells;
 use crate::guesses::Guesses;
 use crate::matched::{Joined, Matched};
-use crate::numbers::number_behind;
-use crate::order::{are_same, cells_once, has_vertex, numbers_in_order, touches};
-use crate::slots::{Slot, cell_at, is_open};
+use crate::numbers::has_number;
+use crate::order::{cells_once, has_vertex, numbers_in_order, touches};
+use crate::slots::{Slot, cell_at, place_among};
+use crate::vacant::places_for;
 use point_order::{Cell, Point};
 use std::alloc::{AllocError, Global};
 
@@ -48,45 +32,9 @@ pub(crate) struct Moves {
     pub(crate) freed: Vec<u32>,
     pub(crate) placed: Vec<(u32, Cell)>,
     // Where each of the gone cells is likely to stand.
-    pub(crate) gone: Vec<u32>,
-    // What was loaded early, added up.
-    pub(crate) loaded: u32,
+    pub(crate) gone: Guesses,
     // Whether the cells are put as they are listed; else in order, where they are many.
     pub(crate) listed: bool,
-}
-
-// Whether the number is one of these.
-pub(crate) fn has_number(list: &[u32], i: u32) -> bool
-    requires { IsAscending list.now }
-    ensures { result ≡ is_among i list.now }
-{
-    is_listed(list, i)
-}
-
-// The same of any list, as far as it ascends.
-pub(crate) fn is_listed(list: &[u32], i: u32) -> bool
-    ensures { IsAscending list.now → result ≡ is_among i list.now }
-{
-    if list.len() <= FEW {
-        list.contains(&i)
-    } else {
-        list.binary_search(&i).is_ok()
-    }
-}
-
-// The place of the cell among these, if it stands at one of them.
-pub(crate) fn place_among(slots: &[Slot], star: &[u32], cell: &Cell) -> Option<u32>
-    ensures { MatchOption result ((i : ℕ) → IsIn i star.now → at slots.now i ≡ Some cell.now → ⊥) (λ i. at slots.now i
-        ≡ Some cell.now) }
-{
-    for i in star {
-        if let Some(other) = cell_at(slots, *i) {
-            if are_same(other, cell) {
-                return Some(*i);
-            }
-        }
-    }
-    None
 }
 
 // Whether no cell at these places has the point.
@@ -114,79 +62,6 @@ fn meets(cell: &Cell, points: &[Point]) -> bool
         }
     }
     false
-}
-
-// Adds open places from a number on, until there are so many places. All that are there are to be before it.
-fn add_open(list: &mut Vec<u32>, slots: &[Slot], count: usize, first: u32) -> Result<(), AllocError>
-    requires order { IsAscending list.old.items }
-    requires before { (i : ℕ) → IsIn i list.old.items → i < first }
-    requires few { length list.old.items ≤ count }
-    ensures order { OnOk result (IsAscending list.new.items) }
-    ensures count { OnOk result (length list.new.items ≡ count) }
-    ensures open { OnOk result ((i : ℕ) → IsIn i list.new.items → IsIn i list.old.items ⊎ (at slots.now i ≡ None)) }
-{
-    let mut next = first;
-    while list.len() < count {
-        if is_open(slots, next) {
-            list.push(next)?;
-        }
-        next = number_behind(next)?;
-    }
-    Ok(())
-}
-
-// Places that are likely to be open, and those that are freed, as far as so many are wanted.
-fn likely_places(
-    alloc: Global,
-    slots: &[Slot],
-    free: &[u32],
-    freed: &[u32],
-    count: usize,
-) -> Result<Vec<u32>, AllocError>
-    ensures { IfOk result (λ list. (i : ℕ) → IsIn i list.items → IsIn i freed.now ⊎ (at slots.now i ≡ None)) }
-{
-    let mut list = Vec::with_capacity(alloc, count.max(freed.len()))?;
-    list.extend_from_slice(freed)?;
-    for i in free {
-        if list.len() >= count {
-            break;
-        }
-        if is_open(slots, *i) {
-            list.push(*i)?;
-        }
-    }
-    Ok(list)
-}
-
-// The number behind the last of these.
-fn behind_last(list: &[u32]) -> Result<u32, AllocError>
-    requires { IsAscending list.now }
-    ensures { IfOk result (λ n. (i : ℕ) → IsIn i list.now → i < n) }
-{
-    match list.split_last() {
-        Some((last, _)) => number_behind(*last),
-        None => Ok(0),
-    }
-}
-
-// So many places, ascending, each freed or open. New ones begin at the first number or behind it.
-pub(crate) fn places_for(
-    alloc: Global,
-    slots: &[Slot],
-    free: &[u32],
-    freed: &[u32],
-    count: usize,
-    first: u32,
-) -> Result<Vec<u32>, AllocError>
-    ensures order { IfOk result (λ list. IsAscending list.items) }
-    ensures count { IfOk result (λ list. length list.items ≡ count) }
-    ensures vacant { IfOk result (λ list. (i : ℕ) → IsIn i list.items → IsVacant slots.now freed.now i) }
-{
-    let mut list = numbers_in_order(likely_places(alloc, slots, free, freed, count)?);
-    list.truncate(count);
-    let last = behind_last(&list)?;
-    add_open(&mut list, slots, count, last.max(first))?;
-    Ok(list)
 }
 
 // Each number beside the element at its place in the other list.
@@ -491,8 +366,7 @@ impl Cells {
         Ok(Moves {
             freed,
             placed,
-            gone: guesses.places,
-            loaded: guesses.loaded,
+            gone: guesses,
             listed: matched.is_single(),
         })
     }

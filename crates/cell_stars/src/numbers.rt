@@ -1,6 +1,7 @@
 //! Numbers of 32 bits, in which places and stars are counted.
 
-ghost use Rattle.std.specs.Prelude.{◌≡◌, ◌+◌, ◌<◌, ◌≤◌, ◌^◌, IfOk, OnOk, OnErr};
+ghost use Rattle.std.specs.Prelude.{◌≡◌, ◌+◌, ◌<◌, ◌≤◌, ◌^◌, IfOk, OnOk, OnErr, None, Some};
+ghost use Rattle.point_order.specs.Sets.{IsAscending, is_among};
 
 use std::alloc::AllocError;
 
@@ -27,5 +28,27 @@ pub(crate) fn number_behind(n: u32) -> Result<u32, AllocError>
     match n.checked_add(1) {
         Some(next) => Ok(next),
         None => Err(AllocError),
+    }
+}
+
+// Up to so many numbers are looked through in turn.
+const FEW: usize = 32;
+
+// Whether the number is one of these.
+pub(crate) fn has_number(list: &[u32], i: u32) -> bool
+    requires { IsAscending list.now }
+    ensures { result ≡ is_among i list.now }
+{
+    is_listed(list, i)
+}
+
+// The same of any list, as far as it ascends.
+pub(crate) fn is_listed(list: &[u32], i: u32) -> bool
+    ensures { IsAscending list.now → result ≡ is_among i list.now }
+{
+    if list.len() <= FEW {
+        list.contains(&i)
+    } else {
+        list.binary_search(&i).is_ok()
     }
 }

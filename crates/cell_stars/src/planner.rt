@@ -5,17 +5,18 @@ ghost use Rattle.std.specs.List.{filter};
 ghost use Rattle.std.specs.Option.{option_map};
 ghost use Rattle.point_order.specs.declared.cell.Cell.{Cell};
 ghost use Rattle.point_order.specs.Sets.{IsIn, IsAscending};
-ghost use Rattle.cell_stars.specs.Places.{AreStars, at, cells_of, lies_in};
+ghost use Rattle.cell_stars.specs.Places.{AreStars, cells_of, lies_in};
 ghost use Rattle.cell_stars.specs.Plans.{or_else, IsOnceFor, IsPlanFor};
 ghost use Rattle.cell_stars.specs.Turns.{AreReady};
 ghost use Rattle.cell_stars.specs.Moves.{AreKeysAfter, AreTouched, HasSameCells, HasSameStars, IsRewriting};
 
+use crate::around::{Around, copied_stars};
 use crate::cells::Cells;
 use crate::joins::{Joint, join};
 use crate::matched::{Joined, Matched};
 use crate::moves::Moves;
-use crate::plan::{Around, PlacesPlan, Plan, StarsPlan};
-use crate::slots::Slot;
+use crate::plan::{PlacesPlan, Plan, StarsPlan};
+use crate::slots::{Slot, copied_slots};
 use point_order::{Cell, Point};
 use std::alloc::{AllocError, Global};
 
@@ -28,21 +29,6 @@ fn behind_numbers<T>(list: &[(u32, T)]) -> usize
         end = end.max(*i as usize + 1);
     }
     end
-}
-
-// A copy of the places, with room for so many.
-pub(crate) fn copied_slots(
-    alloc: Global,
-    slots: &[Slot],
-    count: usize,
-) -> Result<Vec<Slot>, AllocError>
-    ensures { IfOk result (λ list. list.items ≡ slots.now) }
-{
-    let mut list = Vec::with_capacity(alloc, count)?;
-    for slot in slots {
-        list.push(slot.copied())?;
-    }
-    Ok(list)
 }
 
 // Adds open places until there are so many.
@@ -68,31 +54,6 @@ fn grown_slots(alloc: Global, slots: &[Slot], end: usize) -> Result<Option<Vec<S
     let mut list = copied_slots(alloc, slots, count)?;
     add_slots(&mut list, count)?;
     Ok(Some(list))
-}
-
-// A copy of the star.
-fn copied_star(alloc: Global, around: &Around) -> Result<Around, AllocError>
-    ensures { IfOk result (λ copy. copy ≡ around.now) }
-{
-    Ok(Around {
-        vertex: around.vertex,
-        places: Vec::from_slice(alloc, &around.places)?,
-    })
-}
-
-// A copy of the stars, with room for so many.
-pub(crate) fn copied_stars(
-    alloc: Global,
-    stars: &[Around],
-    count: usize,
-) -> Result<Vec<Around>, AllocError>
-    ensures { IfOk result (λ list. list.items ≡ stars.now) }
-{
-    let mut list = Vec::with_capacity(alloc, count)?;
-    for around in stars {
-        list.push(copied_star(alloc, around)?)?;
-    }
-    Ok(list)
 }
 
 // Adds stars without places of the vertex until there are so many.
@@ -263,7 +224,7 @@ impl Cells {
             free: open_after(alloc, &self.free, moves)?,
             used: self.used.max(u32::try_from(end).unwrap_or(u32::MAX)),
             rim,
-            loaded: moves.loaded,
+            loaded: moves.gone.loaded,
         })
     }
 

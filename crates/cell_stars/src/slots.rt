@@ -1,20 +1,15 @@
-//! Places with their cells. Beside each cell stands at which places the cells across its facets are likely to be: no
-//! clause speaks of these links, and a cell is looked at before it is taken for one.
+//! Places with their cells, and beside each cell its links.
 
-ghost use Rattle.std.specs.Prelude.{◌≡◌, None, Some, MatchOption, IfSome, IsTrue, true, length, ◌≤◌};
+ghost use Rattle.std.specs.Prelude.{◌≡◌, None, Some, MatchOption, IsTrue, true, length, ◌≤◌, ◌<◌, ℕ, IfOk};
 ghost use Rattle.cell_stars.specs.Places.{at};
+ghost use Rattle.point_order.specs.declared.cell.Cell.{Cell};
+ghost use Rattle.point_order.specs.Sets.{IsIn};
 
+use crate::links::Links;
 use crate::order::are_same;
-use point_order::{Cell, Facet};
+use point_order::Cell;
+use std::alloc::{AllocError, Global};
 use std::marker::Model;
-use std::mem::swap;
-
-/// In place of a place, where there is none.
-pub(crate) const NONE: u32 = u32::MAX;
-
-/// The places across the facets of a cell, in the order of its facets: across the one without its first point comes
-/// first.
-pub(crate) type Around4 = [u32; 4];
 
 /// A place: its cell with the links of that, or none.
 ///
@@ -23,7 +18,7 @@ pub(crate) type Around4 = [u32; 4];
 #[derive(Debug, Drop)]
 pub struct Slot {
     cell: Option<Cell>,
-    around: Around4,
+    links: Links,
 }
 
 impl Model for Slot {
@@ -42,7 +37,7 @@ impl Slot {
     {
         Slot {
             cell,
-            around: [NONE; 4],
+            links: Links::NOWHERE,
         }
     }
 
@@ -52,7 +47,7 @@ impl Slot {
     {
         Slot {
             cell: self.cell,
-            around: self.around,
+            links: self.links,
         }
     }
 
@@ -68,23 +63,26 @@ impl Slot {
 
     // A number that depends on it.
     pub(crate) fn loaded(&self) -> u32 {
-        u32::from(self.cell.is_some()).wrapping_add(self.around[0])
+        u32::from(self.cell.is_some()).wrapping_add(self.links.around[0])
+    }
+
+    // The links of its cell.
+    pub(crate) fn links(&self) -> Links {
+        self.links
     }
 
     // Links its cell so.
-    pub(crate) fn link(&mut self, around: Around4)
+    pub(crate) fn link(&mut self, links: Links)
         ensures { self.new ≡ self.old }
     {
-        self.around = around;
+        self.links = links;
     }
 
     // Exchanges the place across a facet of its cell.
     pub(crate) fn turn_side(&mut self, side: usize, other: &mut u32)
         ensures { self.new ≡ self.old }
     {
-        if side < 4 {
-            swap(&mut self.around[side], other);
-        }
+        self.links.turn_side(side, other);
     }
 }
 
@@ -119,63 +117,32 @@ pub(crate) fn is_open(slots: &[Slot], i: u32) -> bool
     }
 }
 
-/// A number that depends on what stands across the facets of the cell at the place. It is added up, and read by nobody:
-/// so these places are loaded early, and all at once.
-pub(crate) fn loaded_around(slots: &[Slot], place: u32) -> u32 {
-    let mut sum: u32 = 0;
-    for other in &around(slots, place) {
-        if let Some(slot) = slots.get(*other as usize) {
-            sum = sum.wrapping_add(slot.loaded());
+// The place of the cell among these, if it stands at one of them.
+pub(crate) fn place_among(slots: &[Slot], star: &[u32], cell: &Cell) -> Option<u32>
+    ensures { MatchOption result ((i : ℕ) → IsIn i star.now → at slots.now i ≡ Some cell.now → ⊥) (λ i. at slots.now i
+        ≡ Some cell.now) }
+{
+    for i in star {
+        if let Some(other) = cell_at(slots, *i) {
+            if are_same(other, cell) {
+                return Some(*i);
+            }
         }
     }
-    sum
+    None
 }
 
-/// The places across the facets of the cell at the place.
-pub(crate) fn around(slots: &[Slot], place: u32) -> Around4 {
-    match slots.get(place as usize) {
-        Some(slot) => slot.around,
-        None => [NONE; 4],
+// A copy of the places, with room for so many.
+pub(crate) fn copied_slots(
+    alloc: Global,
+    slots: &[Slot],
+    count: usize,
+) -> Result<Vec<Slot>, AllocError>
+    ensures { IfOk result (λ list. list.items ≡ slots.now) }
+{
+    let mut list = Vec::with_capacity(alloc, count)?;
+    for slot in slots {
+        list.push(slot.copied())?;
     }
-}
-
-/// The place across a facet of the cell at the place.
-pub(crate) fn across(slots: &[Slot], place: u32, side: usize) -> u32 {
-    let [a, b, c, d] = around(slots, place);
-    match side {
-        0 => a,
-        1 => b,
-        2 => c,
-        _ => d,
-    }
-}
-
-/// Which facet of the cell this one is, if it is one, counted from 0.
-pub(crate) fn side_of(cell: &Cell, facet: &Facet) -> usize {
-    match (cell, facet) {
-        (Cell::Full(quad), Facet::Three(tri)) => {
-            let (a, b, c, _) = quad.corners();
-            let (x, y, z) = tri.corners();
-            side_without(a == x, b == y, c == z)
-        }
-        (Cell::Open(tri), Facet::Two(pair)) => {
-            let (a, b, _) = tri.corners();
-            let (x, y) = pair.corners();
-            side_without(a == x, b == y, false)
-        }
-        _ => 3,
-    }
-}
-
-// The side without the first point that does not stand where it stands in the cell.
-fn side_without(has_first: bool, has_second: bool, has_third: bool) -> usize {
-    if !has_first {
-        0
-    } else if !has_second {
-        1
-    } else if !has_third {
-        2
-    } else {
-        3
-    }
+    Ok(list)
 }

@@ -1,9 +1,10 @@
 //! Exchanges that are made and turned back, without memory.
 
-ghost use Rattle.std.specs.Prelude.{◌≡◌, length};
+ghost use Rattle.std.specs.Prelude.{◌≡◌, length, ◌*◌, Some};
 ghost use Rattle.std.specs.Option.{option_map};
-ghost use Rattle.cell_stars.specs.Plans.{Allows, AreBelow, or_else, set_all};
+ghost use Rattle.cell_stars.specs.Plans.{Allows, AreBelow, or_else, set_all, done};
 ghost use Rattle.cell_stars.specs.Turns.{IsPart, IsTurn, WasPart, WasTurned, kept, stood};
+ghost use Rattle.cell_stars.specs.Places.{at};
 
 use crate::cells::Cells;
 use crate::joins::Joint;
@@ -119,6 +120,15 @@ fn turn_back_slots(slots: &mut Vec<Slot>, plan: &mut PlacesPlan)
 }
 
 impl Cells {
+    /// Carries a plan out, without memory.
+    pub fn carry_out(&mut self, plan: Plan)
+        requires { Allows plan self.old }
+        ensures { self.new ≡ done plan self.old }
+    {
+        let mut plan = plan;
+        self.turn(&mut plan);
+    }
+
     /// Carries a plan out, without memory. The plan has then what stood in the places that it changes.
     pub fn turn(&mut self, plan: &mut Plan)
         requires { Allows plan.old self.old }

@@ -1,52 +1,19 @@
 //! The stars after an exchange.
 
-ghost use Rattle.std.specs.Prelude.{
-  ◌≡◌,
-  ◌↔◌,
-  ◌⊎◌,
-  ◌<◌,
-  ◌≤◌,
-  ◌++◌,
-  ℕ,
-  true,
-  Some,
-  IfOk,
-  IfSome,
-  OnOk,
-  length,
-  List,
-  map,
-  MatchBool,
-  MatchOption,
-  IsTrue,
-};
+ghost use Rattle.std.specs.Prelude.{◌≡◌, ◌↔◌, ◌<◌, ◌≤◌, ℕ, true, Some, IfOk, IfSome, OnOk, length, List, map, MatchBool, MatchOption, IsTrue};
 ghost use Rattle.std.specs.List.{filter};
-ghost use Rattle.point_order.specs.declared.cell.Cell.{Cell};
-ghost use Rattle.point_order.specs.Facets.{points_of};
 ghost use Rattle.point_order.specs.Sets.{IsIn, IsAscending};
-ghost use Rattle.cell_stars.specs.Places.{at, lies_in, star_at, IsStarred};
+ghost use Rattle.cell_stars.specs.Places.{lies_in, star_at, IsStarred};
 ghost use Rattle.cell_stars.specs.Adding.{head_of, IsStaying};
-ghost use Rattle.cell_stars.specs.Gathering.{FromCell, Gathers};
-ghost use Rattle.cell_stars.specs.Moves.{
-  AreMarked,
-  AreTouched,
-  AreNumbered,
-  AreStarsAfter,
-  IsNumberFor,
-  IsOwnNumber,
-  IsSpare,
-  IsTurnAdded,
-  IsRewriting,
-};
+ghost use Rattle.cell_stars.specs.Moves.{AreMarked, AreTouched, AreNumbered, AreStarsAfter, IsNumberFor, IsOwnNumber, IsSpare, IsTurnAdded, IsRewriting};
 
+use crate::around::Around;
 use crate::cells::{Cells, places_in};
 use crate::marks::{Marks, is_unmarked, marks_of};
 use crate::moves::Moves;
 use crate::numbers::number_behind;
-use crate::order::has_vertex;
-use crate::plan::Around;
 use crate::steps::place_of;
-use point_order::{Cell, Point};
+use point_order::Point;
 use std::alloc::{AllocError, Global};
 
 // As many places come to a star as a rule: room for them is made at once.
@@ -98,67 +65,6 @@ fn spare_behind(stars: &[Around], first: u32) -> Result<u32, AllocError>
     Ok(n)
 }
 
-// A number of 32 bits for the point that depends on all of its bits.
-pub(crate) fn hash_of(p: Point) -> u64 {
-    p.key().wrapping_mul(0x9E37_79B9_7F4A_7C15) >> 32
-}
-
-// For each rest of a division, where in a list of points the last one with this rest is likely to be.
-pub(crate) type Seen = [u16; 512];
-
-// The rest of the point.
-pub(crate) fn rest_of(p: Point) -> usize
-    ensures { result < 512 }
-{
-    (hash_of(p) % 512) as usize
-}
-
-// Whether the point is where the last one with its rest was put.
-fn is_seen(list: &[Point], seen: &Seen, p: Point) -> bool
-    ensures { IsTrue result → IsIn p list.now }
-{
-    let at = usize::from(seen[rest_of(p)]);
-    if at >= list.len() {
-        return false;
-    }
-    list[at] == p
-}
-
-// Adds the point, where it is not seen.
-fn add_point(list: &mut Vec<Point>, seen: &mut Seen, p: Point) -> Result<(), AllocError>
-    ensures { OnOk result ((q : ℕ) → IsIn q list.new.items ↔ (IsIn q list.old.items ⊎ (p ≡ q))) }
-{
-    if !is_seen(list, seen, p) {
-        seen[rest_of(p)] = u16::try_from(list.len()).unwrap_or(u16::MAX);
-        list.push(p)?;
-    }
-    Ok(())
-}
-
-// Adds the vertices of the cell.
-fn add_points(list: &mut Vec<Point>, seen: &mut Seen, cell: &Cell) -> Result<(), AllocError>
-    ensures { OnOk result ((p : ℕ) → IsIn p list.new.items ↔ (IsIn p list.old.items ⊎ IsIn p (points_of cell.now))) }
-{
-    for p in cell.points() {
-        add_point(list, seen, *p)?;
-    }
-    Ok(())
-}
-
-// Adds those of the cells.
-pub(crate) fn add_vertices(
-    list: &mut Vec<Point>,
-    seen: &mut Seen,
-    cells: &[Cell],
-) -> Result<(), AllocError>
-    ensures { OnOk result (Gathers FromCell cells.now list.old.items list.new.items) }
-{
-    for cell in cells {
-        add_points(list, seen, cell)?;
-    }
-    Ok(())
-}
-
 impl Cells {
     // Those of the vertices that lie in the bucket, where they are ascending.
     fn vertices_here(&self, alloc: Global, vertices: &[Point]) -> Result<Vec<Point>, AllocError>
@@ -200,8 +106,8 @@ impl Cells {
         Ok(n)
     }
 
-    // Adds the number that the vertex's star has after an exchange: its own, or else a spare one. That is not before the
-    // least, which is behind it then.
+    // Adds the number that the vertex's star has after an exchange: its own, or else a spare one. That is not before
+    // the least, which is behind it then.
     fn add_turn(
         &self,
         turns: &mut Vec<(u32, Point)>,

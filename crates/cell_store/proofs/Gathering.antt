@@ -1,11 +1,21 @@
 -- Lists that are gathered bucket by bucket.
-use Rattle.std.specs.Prelude.{◌≡◌, ℕ, ◌+◌, ◌<◌, ◌≤◌, ◌==◌, Bool, true, false, List, [], ◌∷◌, ◌++◌, length, take, Option, Some, None, IsSome}
+use Rattle.std.specs.Prelude.{◌≡◌, ℕ, ◌+◌, ◌<◌, ◌≤◌, Bool, true, false, List, [], ◌∷◌, ◌++◌, length, take, Option, Some, None, IsSome}
 use Rattle.std.specs.List.{filter, flat_map}
 use Rattle.std.specs.List.Sorted.{IsPermutation}
 use Rattle.std.proofs.Common.{ap, sym, subst, refl, ◌∙◌, add-one, append_assoc, inl, inr, arith}
 use Rattle.std.proofs.lemmas.List.{append-nil, take_all}
 use Rattle.std.proofs.lemmas.List.Sorted.{IsPermutation-refl, IsPermutation-sym}
-use Rattle.list_laws.proofs.Cited.{filtered_from, filtered_true, from_append, in_left, in_moved, in_right, one_below, same_true, some_of}
+use Rattle.list_laws.proofs.Cited.{
+  filtered_from,
+  filtered_true,
+  from_append,
+  in_left,
+  in_moved,
+  in_right,
+  one_below,
+  same_true,
+  some_of,
+}
 use Rattle.point_order.specs.declared.cell.Cell.{Cell}
 use Rattle.point_order.specs.declared.cell.Cell.TheVariants.{Full, Open}
 use Rattle.point_order.specs.Complex.{complex}
@@ -27,39 +37,55 @@ use Rattle.cell_store.proofs.ShareLaws.{touched}
 
 -- nothing is gathered at first
 pub gathered_none : (hold : InHand) (list : List Cell) → list ≡ [] → AreGathered hold 0 list
-gathered_none hold list e = record { each = λ c i. absurd (subst (λ (v : List Cell). IsIn c v) e i); all = λ c x h f i. absurd (omega (arith, h)) }
+gathered_none hold list e = record {
+  each = λ c i. absurd (subst (λ (v : List Cell). IsIn c v) e i);
+  all =
+      λ c x h f i. absurd (omega (arith, h));
+}
 
 -- the cells of one more bucket are
-pub gathered_next : (hold : InHand) (n : ℕ) (x : BucketContent) (old new : List Cell) → n < length hold.places → bucket_at hold.places n ≡ Some x → HasHome hold.grid n x.cells old new → AreGathered hold n old → AreGathered hold (n + 1) new
+pub gathered_next : (hold : InHand) (n : ℕ) (x : BucketContent) (old new : List Cell) → n < length hold.places →
+    bucket_at hold.places n ≡ Some x → HasHome hold.grid n x.cells old new → AreGathered hold n old →
+    AreGathered hold (n + 1) new
 gathered_next hold n x old new h e (come, p, m) s = record {
   each = λ c i. elim (from_append c old m.0 (subst (λ (v : List Cell). IsIn c v) m.2 i)) [
     | inl j ↦ s.each c j
-    | inr j ↦ in_flat cells_of hold.places n None c h (subst (λ o. IsIn c (cells_of o)) (sym e) (in_moved x.cells come c p (filtered_from (is_home hold.grid n) come c (in_moved (filter (is_home hold.grid n) come) m.0 c m.1 j)).0))
+    | inr j ↦ in_flat cells_of hold.places n None c h
+        (subst (λ o. IsIn c (cells_of o)) (sym e) (in_moved x.cells come c p
+        (filtered_from (is_home hold.grid n) come c (in_moved (filter (is_home hold.grid n) come) m.0 c m.1 j)).0))
   ];
   all = λ c y l f i. subst (λ (v : List Cell). IsIn c v) (sym m.2) (elim (one_below n (home_of hold.grid c) l) [
     | inl k ↦ in_left c old m.0 (s.all c y k f i)
-    | inr k ↦ in_right c old m.0 (in_moved m.0 (filter (is_home hold.grid n) come) c (IsPermutation-sym (filter (is_home hold.grid n) come) m.0 m.1)
-        (filtered_true (is_home hold.grid n) come c (in_moved come x.cells c (IsPermutation-sym x.cells come p) (known c y k f i)) (same_true (home_of hold.grid c) n k)))
+    | inr k ↦ in_right c old m.0 (in_moved m.0 (filter (is_home hold.grid n) come) c
+        (IsPermutation-sym (filter (is_home hold.grid n) come) m.0 m.1)
+        (filtered_true (is_home hold.grid n) come c
+        (in_moved come x.cells c (IsPermutation-sym x.cells come p) (known c y k f i))
+        (same_true (home_of hold.grid c) n k)))
   ]);
 }
   where
     same_content : (y z : BucketContent) → ◌≡◌ {A = Option BucketContent} (Some y) (Some z) → y ≡ z
     same_content y z q = cc q
 
-    known : (c : Cell) (y : BucketContent) → home_of hold.grid c ≡ n → bucket_at hold.places (home_of hold.grid c) ≡ Some y → IsIn c y.cells → IsIn c x.cells
-    known c y k f i = subst (λ (z : BucketContent). IsIn c z.cells) (same_content y x (sym f ∙ ap (bucket_at hold.places) k ∙ e)) i
+    known : (c : Cell) (y : BucketContent) → home_of hold.grid c ≡ n →
+        bucket_at hold.places (home_of hold.grid c) ≡ Some y → IsIn c y.cells → IsIn c x.cells
+    known c y k f i = subst (λ (z : BucketContent). IsIn c z.cells)
+        (same_content y x (sym f ∙ ap (bucket_at hold.places) k ∙ e)) i
 
 -- so many buckets or more are all
-pub gathered_past : (hold : InHand) (n : ℕ) (list : List Cell) → length hold.places ≤ n → AreGathered hold n list → AreGathered hold (length hold.places) list
+pub gathered_past : (hold : InHand) (n : ℕ) (list : List Cell) → length hold.places ≤ n → AreGathered hold n list →
+    AreGathered hold (length hold.places) list
 gathered_past hold n list h s = record { each = s.each; all = λ c x l f i. s.all c x (omega (arith, h, l)) f i }
 
 -- the first point of a cell of a complex, which is its home
-first_is : (s : List ℕ) (c : Cell) → IsListed s c → (p : ℕ) × IsIn p (points_of c) × ((g : ℕ) → home_of g c ≡ bucket_of g p)
+first_is : (s : List ℕ) (c : Cell) → IsListed s c →
+    (p : ℕ) × IsIn p (points_of c) × ((g : ℕ) → home_of g c ≡ bucket_of g p)
 first_is s (Full q) l = (l.a, subst (IsIn l.a) (sym l.is) (inl refl), λ g. ap (bucket_of_first g) l.is)
 first_is s (Open t) l = (l.a, subst (IsIn l.a) (sym l.is) (inl refl), λ g. ap (bucket_of_first g) l.is)
 
 -- those of all buckets are all cells of the set that the hold shows
-pub gathered_all : (hold : InHand) (s : List ℕ) (list : List Cell) → IsWhole hold → Shows hold s → AreGathered hold (length hold.places) list → AreSameCells (all_cells hold.places) list
+pub gathered_all : (hold : InHand) (s : List ℕ) (list : List Cell) → IsWhole hold → Shows hold s →
+    AreGathered hold (length hold.places) list → AreSameCells (all_cells hold.places) list
 gathered_all hold s list w sh g = (back, g.each)
   where
     back : (c : Cell) → IsIn c (all_cells hold.places) → IsIn c list
@@ -68,9 +94,12 @@ gathered_all hold s list w sh g = (back, g.each)
         let p = first_is s c (listed_is_cell s c sh.ascending k) in
         let h = home_of hold.grid c in
         let same : bucket_of hold.grid p.0 ≡ h = sym (p.2 hold.grid) in
-        let x = some_of (bucket_at hold.places h) (subst (λ n. IsSome (bucket_at hold.places n)) same (point_held hold p.0 w.has w.all)) in
-        let below : h < length hold.places = subst (λ (n : ℕ). n < length hold.places) same (subst (λ n. bucket_of hold.grid p.0 < n) (sym w.has.places) (bucket_below hold.grid p.0 w.has.size)) in
-        g.all c x.0 below x.1 (subst (IsIn c) (sym ((sh.sights h x.0 x.1).cells)) (filtered_true (touches hold.grid h) (complex s) c k (touched hold.grid p.0 h c (p.2 hold.grid) p.1)))
+        let x = some_of (bucket_at hold.places h)
+        (subst (λ n. IsSome (bucket_at hold.places n)) same (point_held hold p.0 w.has w.all)) in
+        let below : h < length hold.places = subst (λ (n : ℕ). n < length hold.places) same
+        (subst (λ n. bucket_of hold.grid p.0 < n) (sym w.has.places) (bucket_below hold.grid p.0 w.has.size)) in
+        g.all c x.0 below x.1 (subst (IsIn c) (sym ((sh.sights h x.0 x.1).cells))
+        (filtered_true (touches hold.grid h) (complex s) c k (touched hold.grid p.0 h c (p.2 hold.grid) p.1)))
 
 -- ---- the cells of one bucket, one after another
 
@@ -83,12 +112,15 @@ filter_next P x l = by (P x) refl
     by false e = rw e refl
 
 -- one is put behind the others, if it passes a test
-pub come_step : (P : Cell → Bool) (x : Cell) (list new to rest all : List Cell) → to ≡ x ∷ rest → new ≡ list ++ filter P (x ∷ []) → list ++ filter P to ≡ all → new ++ filter P rest ≡ all
+pub come_step : (P : Cell → Bool) (x : Cell) (list new to rest all : List Cell) → to ≡ x ∷ rest →
+    new ≡ list ++ filter P (x ∷ []) → list ++ filter P to ≡ all → new ++ filter P rest ≡ all
 come_step P x list new to rest all e n i =
-    ap (λ v. v ++ filter P rest) n ∙ append_assoc list (filter P (x ∷ [])) (filter P rest) ∙ ap (λ v. list ++ v) (filter_next P x rest ∙ ap (filter P) (sym e)) ∙ i
+    ap (λ v. v ++ filter P rest) n ∙ append_assoc list (filter P (x ∷ [])) (filter P rest)
+    ∙ ap (λ v. list ++ v) (filter_next P x rest ∙ ap (filter P) (sym e)) ∙ i
 
 -- that is so
-pub one_comes : (P : Cell → Bool) (x : Cell) (list new : List Cell) → P x ≡ true → new ≡ list ++ x ∷ [] → new ≡ list ++ filter P (x ∷ [])
+pub one_comes : (P : Cell → Bool) (x : Cell) (list new : List Cell) → P x ≡ true → new ≡ list ++ x ∷ [] →
+    new ≡ list ++ filter P (x ∷ [])
 one_comes P x list new t e = e ∙ ap (λ v. list ++ v) (sym (yes t))
   where
     yes : P x ≡ true → filter P (x ∷ []) ≡ x ∷ []
@@ -102,17 +134,29 @@ none_comes P x list t = sym (append-nil list) ∙ ap (λ v. list ++ v) (sym (no 
     no f = rw f refl
 
 -- at the end none is left, and those that passed are behind the others
-pub come_all : (g b : ℕ) (cells come old list to : List Cell) → IsPermutation cells come → to ≡ [] → list ++ filter (is_home g b) to ≡ old ++ filter (is_home g b) come → HasHome g b cells old list
-come_all g b cells come old list to p e i =
-    (come, p, (filter (is_home g b) come, IsPermutation-refl (filter (is_home g b) come), sym (append-nil list) ∙ ap (λ v. list ++ filter (is_home g b) v) (sym e) ∙ i))
+pub come_all : (g b : ℕ) (cells come old list to : List Cell) → IsPermutation cells come → to ≡ [] →
+    list ++ filter (is_home g b) to ≡ old ++ filter (is_home g b) come → HasHome g b cells old list
+come_all g b cells come old list to p e i = (
+  come,
+  p,
+  (
+    filter (is_home g b) come,
+    IsPermutation-refl (filter (is_home g b) come),
+    sym (append-nil list) ∙ ap (λ v. list ++ filter (is_home g b) v) (sym e) ∙ i,
+  ),
+)
 
 -- a list with the part of one more bucket
-pub list_next : {Y : Type 0} (f : Option BucketContent → List Y) (l : List (Option BucketContent)) (n : ℕ) (x : BucketContent) (old more new : List Y) → n < length l → bucket_at l n ≡ Some x → old ≡ flat_map f (take n l) → more ≡ f (Some x) → new ≡ old ++ more → new ≡ flat_map f (take (n + 1) l)
-list_next {Y} f l n x old more new h e o m k = k ∙ ap (λ (v : List Y). v ++ more) o ∙ ap (λ (v : List Y). flat_map f (take n l) ++ v) (m ∙ ap f (sym e)) ∙ sym next
+pub list_next : {Y : Type 0} (f : Option BucketContent → List Y) (l : List (Option BucketContent)) (n : ℕ)
+    (x : BucketContent) (old more new : List Y) → n < length l → bucket_at l n ≡ Some x → old ≡ flat_map f (take n l) →
+    more ≡ f (Some x) → new ≡ old ++ more → new ≡ flat_map f (take (n + 1) l)
+list_next {Y} f l n x old more new h e o m k =
+    k ∙ ap (λ (v : List Y). v ++ more) o ∙ ap (λ (v : List Y). flat_map f (take n l) ++ v) (m ∙ ap f (sym e)) ∙ sym next
   where
     next : flat_map f (take (n + 1) l) ≡ flat_map f (take n l) ++ f (bucket_at l n)
     next = rw add-one (next_gathered f l n h)
 
 -- and with those of all
-pub list_all : {Y : Type 0} (f : Option BucketContent → List Y) (l : List (Option BucketContent)) (n : ℕ) (list : List Y) → length l ≤ n → list ≡ flat_map f (take n l) → list ≡ flat_map f l
+pub list_all : {Y : Type 0} (f : Option BucketContent → List Y) (l : List (Option BucketContent)) (n : ℕ)
+    (list : List Y) → length l ≤ n → list ≡ flat_map f (take n l) → list ≡ flat_map f l
 list_all f l n list h e = e ∙ ap (flat_map f) (take_all n l h)

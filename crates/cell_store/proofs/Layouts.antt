@@ -1,5 +1,21 @@
 -- Buckets as they are kept, and what they show.
-use Rattle.std.specs.Prelude.{◌≡◌, ℕ, zero, suc, ◌≤◌, List, [], ◌∷◌, length, Option, None, Some, is_some, replicate, slice_set}
+use Rattle.std.specs.Prelude.{
+  ◌≡◌,
+  ℕ,
+  zero,
+  suc,
+  ◌≤◌,
+  List,
+  [],
+  ◌∷◌,
+  length,
+  Option,
+  None,
+  Some,
+  is_some,
+  replicate,
+  slice_set,
+}
 use Rattle.std.specs.Option.{option_map}
 use Rattle.std.proofs.Common.{refl, ◌∙◌, ap, arith}
 use Rattle.cell_store.specs.Buckets.{BucketContent, Layout, StandAtPlaces, bucket_at, content_of, layout_at, shown}
@@ -11,11 +27,13 @@ shown_at (x ∷ l) zero = refl
 shown_at (x ∷ l) (suc b) = shown_at l b
 
 -- where a bucket stands its content is shown
-pub shown_is : (l : List (Option Layout)) (b : ℕ) (c : Layout) → layout_at l b ≡ Some c → bucket_at (shown l) b ≡ Some (content_of c)
+pub shown_is : (l : List (Option Layout)) (b : ℕ) (c : Layout) → layout_at l b ≡ Some c →
+    bucket_at (shown l) b ≡ Some (content_of c)
 shown_is l b c e = shown_at l b ∙ ap (option_map content_of) e
 
 -- with one bucket set, its content is shown there
-pub shown_set : (l : List (Option Layout)) (b : ℕ) (x : Option Layout) → shown (slice_set l b x) ≡ slice_set (shown l) b (option_map content_of x)
+pub shown_set : (l : List (Option Layout)) (b : ℕ) (x : Option Layout) →
+    shown (slice_set l b x) ≡ slice_set (shown l) b (option_map content_of x)
 shown_set [] b x = refl
 shown_set (y ∷ l) zero x = refl
 shown_set (y ∷ l) (suc b) x = ap (λ (m : List (Option BucketContent)). option_map content_of y ∷ m) (shown_set l b x)
@@ -50,7 +68,8 @@ len_none zero = refl
 len_none (suc n) = ap suc (len_none n)
 
 -- empty places that are filled in one by one, up to a number, are that many
-pub empty_places : (l : List (Option Layout)) (i c n : ℕ) → l ≡ replicate i None → c ≤ i → i ≤ c → c ≡ n → l ≡ replicate n None
+pub empty_places : (l : List (Option Layout)) (i c n : ℕ) → l ≡ replicate i None → c ≤ i → i ≤ c → c ≡ n →
+    l ≡ replicate n None
 empty_places l i c n e h k q = e ∙ ap (λ m. replicate m None) (let t : i ≡ c = omega (arith, h, k) in t ∙ q)
 
 -- no bucket stands anywhere

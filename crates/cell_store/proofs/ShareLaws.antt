@@ -1,9 +1,36 @@
 -- What the buckets of a hold have of the set that it shows, and of its complex.
-use Rattle.std.specs.Prelude.{◌≡◌, ℕ, ◌+◌, ◌<◌, Bool, true, false, ◌==◌, List, [], ◌∷◌, Option, Some, is_some, length, slice_index_or}
+use Rattle.std.specs.Prelude.{
+  ◌≡◌,
+  ℕ,
+  ◌+◌,
+  ◌<◌,
+  Bool,
+  true,
+  false,
+  ◌==◌,
+  List,
+  [],
+  ◌∷◌,
+  Option,
+  Some,
+  is_some,
+  length,
+  slice_index_or,
+}
 use Rattle.std.specs.List.{filter}
 use Rattle.std.specs.Option.{option_map_or}
 use Rattle.std.proofs.Common.{refl, sym, ◌∙◌, ap, subst, inl, inr, take, add-one}
-use Rattle.list_laws.proofs.Cited.{among_from, any_true, eq_same, filter_twice, filtered_from, filtered_true, in_more, none_is, some_is}
+use Rattle.list_laws.proofs.Cited.{
+  among_from,
+  any_true,
+  eq_same,
+  filter_twice,
+  filtered_from,
+  filtered_true,
+  in_more,
+  none_is,
+  some_is,
+}
 use Rattle.point_order.specs.declared.cell.Cell.{Cell}
 use Rattle.point_order.specs.declared.cell.Cell.TheVariants.{Full, Open}
 use Rattle.point_order.specs.declared.cell.Facet.{Facet}
@@ -20,13 +47,25 @@ use Rattle.cell_store.specs.Grids.{bucket_of}
 use Rattle.cell_store.specs.Buckets.{BucketContent, InHand, bucket_at, cells_in}
 use Rattle.cell_store.specs.Swaps.{touches}
 use Rattle.cell_store.specs.Others.{IsOtherOf, HaveNoOther}
-use Rattle.cell_store.specs.Shares.{Stands, IsSound, StandsShows, ShareIsOne, Shows, ShowsWith, NoneInHand, IsInHandFor, IsAcross, points_on}
+use Rattle.cell_store.specs.Shares.{
+  Stands,
+  IsSound,
+  StandsShows,
+  ShareIsOne,
+  Shows,
+  ShowsWith,
+  NoneInHand,
+  IsInHandFor,
+  IsAcross,
+  points_on,
+}
 
 -- ---- points and buckets
 
 -- a cell with a point has a finite vertex in the bucket of the point
 pub touched : (g p b : ℕ) (c : Cell) → b ≡ bucket_of g p → IsIn p (points_of c) → touches g b c ≡ true
-touched g p b c e i = any_true (λ q. bucket_of g q == b) (points_of c) p i (let s : bucket_of g p ≡ b = sym e in rw s (eq_same b))
+touched g p b c e i = any_true (λ q. bucket_of g q == b) (points_of c) p i (let s : bucket_of g p ≡ b = sym e in
+    rw s (eq_same b))
 
 -- ---- shares and shown sets
 
@@ -54,32 +93,42 @@ sound_of hold h st = record { legal = st.legal; set = solid_set hold (replay h) 
 -- ---- the cells at a point
 
 -- the cells of a bucket in hand that have a point of it are all cells of the complex that have the point
-pub star_is : (hold : InHand) (s : List ℕ) (p g b : ℕ) (c : BucketContent) (cells : List Cell) → Shows hold s → g ≡ hold.grid → b ≡ bucket_of g p → bucket_at hold.places b ≡ Some c → cells ≡ c.cells → filter (λ c. is_among p (points_of c)) cells ≡ filter (λ c. is_among p (points_of c)) (complex s)
+pub star_is : (hold : InHand) (s : List ℕ) (p g b : ℕ) (c : BucketContent) (cells : List Cell) → Shows hold s →
+    g ≡ hold.grid → b ≡ bucket_of g p → bucket_at hold.places b ≡ Some c → cells ≡ c.cells →
+    filter (λ c. is_among p (points_of c)) cells ≡ filter (λ c. is_among p (points_of c)) (complex s)
 star_is hold s p g b c cells st e1 e2 e3 e4 =
     ap (filter (λ c. is_among p (points_of c))) (e4 ∙ (st.sights b c e3).cells)
-    ∙ filter_twice (λ c. is_among p (points_of c)) (touches hold.grid b) (complex s) (λ d t. touched hold.grid p b d (e2 ∙ ap (λ n. bucket_of n p) e1) (among_from p (points_of d) t))
+    ∙ filter_twice (λ c. is_among p (points_of c)) (touches hold.grid b) (complex s)
+    (λ d t. touched hold.grid p b d (e2 ∙ ap (λ n. bucket_of n p) e1) (among_from p (points_of d) t))
 
 -- they are those of the bucket with the point's number
-pub around_in : (hold : InHand) (p g b : ℕ) (c : BucketContent) → g ≡ hold.grid → b ≡ bucket_of g p → bucket_at hold.places b ≡ Some c →
-    filter (λ d. is_among p (points_of d)) c.cells ≡ filter (λ d. is_among p (points_of d)) (cells_in hold.places (bucket_of hold.grid p))
+pub around_in : (hold : InHand) (p g b : ℕ) (c : BucketContent) → g ≡ hold.grid → b ≡ bucket_of g p →
+    bucket_at hold.places b ≡ Some c →
+    filter (λ d. is_among p (points_of d)) c.cells ≡ filter (λ d. is_among p (points_of d))
+    (cells_in hold.places (bucket_of hold.grid p))
 around_in hold p g b c e f h =
-    ap (λ (o : Option BucketContent). filter (λ d. is_among p (points_of d)) (option_map_or (λ x. x.cells) o [])) (sym h)
+    ap (λ (o : Option BucketContent). filter (λ d. is_among p (points_of d)) (option_map_or (λ x. x.cells) o []))
+    (sym h)
     ∙ ap (λ n. filter (λ d. is_among p (points_of d)) (cells_in hold.places n)) (f ∙ ap (λ n. bucket_of n p) e)
 
 -- ---- buckets in hand
 
 -- the bucket of a point of the list is in hand
-pub in_hand_for : (hold : InHand) (ps : List ℕ) (g p b : ℕ) (t : Bool) → g ≡ hold.grid → b ≡ bucket_of g p → IsIn p ps → t ≡ is_some (bucket_at hold.places b) → t ≡ true → IsInHandFor hold ps b
+pub in_hand_for : (hold : InHand) (ps : List ℕ) (g p b : ℕ) (t : Bool) → g ≡ hold.grid → b ≡ bucket_of g p → IsIn p ps →
+    t ≡ is_some (bucket_at hold.places b) → t ≡ true → IsInHandFor hold ps b
 in_hand_for hold ps g p b t e1 e2 i e3 e4 =
     let r = some_is (bucket_at hold.places b) (sym e3 ∙ e4) in
     record { point = p; among = i; number = e2 ∙ ap (λ n. bucket_of n p) e1; content = r.0; held = r.1 }
 
 -- the buckets of the first points and of the next are not in hand
-pub none_more_in_hand : (hold : InHand) (l : List ℕ) (i g p b : ℕ) (t : Bool) → i < length l → p ≡ slice_index_or l i p → g ≡ hold.grid → b ≡ bucket_of g p → t ≡ is_some (bucket_at hold.places b) → t ≡ false → NoneInHand hold (take i l) → NoneInHand hold (take (i + 1) l)
+pub none_more_in_hand : (hold : InHand) (l : List ℕ) (i g p b : ℕ) (t : Bool) → i < length l →
+    p ≡ slice_index_or l i p → g ≡ hold.grid → b ≡ bucket_of g p → t ≡ is_some (bucket_at hold.places b) → t ≡ false →
+    NoneInHand hold (take i l) → NoneInHand hold (take (i + 1) l)
 none_more_in_hand hold l i g p b t h e e1 e2 e3 e4 none q k =
     elim (in_more l i p p q h e (subst (λ n. IsIn q (take n l)) (add-one i) k)) [
       | inl j ↦ none q j
-      | inr f ↦ ap (bucket_at hold.places) (sym (e2 ∙ ap (λ n. bucket_of n p) e1 ∙ ap (bucket_of hold.grid) f)) ∙ none_is (bucket_at hold.places b) (sym e3 ∙ e4)
+      | inr f ↦ ap (bucket_at hold.places) (sym (e2 ∙ ap (λ n. bucket_of n p) e1 ∙ ap (bucket_of hold.grid) f))
+          ∙ none_is (bucket_at hold.places b) (sym e3 ∙ e4)
     ]
 
 -- ---- across a facet
@@ -88,14 +137,21 @@ none_more_in_hand hold l i g p b t h e e1 e2 e3 e4 none q k =
 pub facet_inside : (c : Cell) (f : Facet) (p : ℕ) → IsIn f (facets_of c) → IsIn p (points_on f) → IsIn p (points_of c)
 facet_inside (Full (a ∷ b ∷ c ∷ d ∷ [])) f p i j = full i
   where
-    by : (ps : List ℕ) → Three ps ≡ f → ((q : ℕ) → IsIn q ps → IsIn q (a ∷ b ∷ c ∷ d ∷ [])) → IsIn p (a ∷ b ∷ c ∷ d ∷ [])
+    by : (ps : List ℕ) → Three ps ≡ f → ((q : ℕ) → IsIn q ps → IsIn q (a ∷ b ∷ c ∷ d ∷ [])) →
+        IsIn p (a ∷ b ∷ c ∷ d ∷ [])
     by ps e k = k p (subst (λ g. IsIn p (points_on g)) (sym e) j)
 
     full : IsIn f (full_facets (a ∷ b ∷ c ∷ d ∷ [])) → IsIn p (a ∷ b ∷ c ∷ d ∷ [])
     full (inl e) = by (b ∷ c ∷ d ∷ []) e (λ q m. inr m)
     full (inr (inl e)) = by (a ∷ c ∷ d ∷ []) e (λ q m. elim m [ inl n ↦ inl n | inr n ↦ inr (inr n) ])
-    full (inr (inr (inl e))) = by (a ∷ b ∷ d ∷ []) e (λ q m. elim m [ inl n ↦ inl n | inr n ↦ elim n [ inl o ↦ inr (inl o) | inr o ↦ inr (inr (inr o)) ] ])
-    full (inr (inr (inr (inl e)))) = by (a ∷ b ∷ c ∷ []) e (λ q m. elim m [ inl n ↦ inl n | inr n ↦ elim n [ inl o ↦ inr (inl o) | inr o ↦ elim o [ inl r ↦ inr (inr (inl r)) | inr r ↦ absurd r ] ] ])
+    full (inr (inr (inl e))) = by (a ∷ b ∷ d ∷ []) e
+        (λ q m. elim m [ inl n ↦ inl n | inr n ↦ elim n [ inl o ↦ inr (inl o) | inr o ↦ inr (inr (inr o)) ] ])
+    full (inr (inr (inr (inl e)))) = by (a ∷ b ∷ c ∷ []) e
+        (λ q m. elim m [
+          | inl n ↦ inl n
+          | inr n ↦ elim n
+              [ inl o ↦ inr (inl o) | inr o ↦ elim o [ inl r ↦ inr (inr (inl r)) | inr r ↦ absurd r ] ]
+        ])
     full (inr (inr (inr (inr e)))) = absurd e
 facet_inside (Open (a ∷ b ∷ c ∷ [])) f p i j = of_open i
   where
@@ -105,7 +161,8 @@ facet_inside (Open (a ∷ b ∷ c ∷ [])) f p i j = of_open i
     of_open : IsIn f (open_facets (a ∷ b ∷ c ∷ [])) → IsIn p (a ∷ b ∷ c ∷ [])
     of_open (inl e) = by (Two (b ∷ c ∷ [])) e (λ q m. inr m)
     of_open (inr (inl e)) = by (Two (a ∷ c ∷ [])) e (λ q m. elim m [ inl n ↦ inl n | inr n ↦ inr (inr n) ])
-    of_open (inr (inr (inl e))) = by (Two (a ∷ b ∷ [])) e (λ q m. elim m [ inl n ↦ inl n | inr n ↦ elim n [ inl o ↦ inr (inl o) | inr o ↦ absurd o ] ])
+    of_open (inr (inr (inl e))) = by (Two (a ∷ b ∷ [])) e
+        (λ q m. elim m [ inl n ↦ inl n | inr n ↦ elim n [ inl o ↦ inr (inl o) | inr o ↦ absurd o ] ])
     of_open (inr (inr (inr (inl e)))) = by (Three (a ∷ b ∷ c ∷ [])) e (λ q m. m)
     of_open (inr (inr (inr (inr e)))) = absurd e
 facet_inside (Full []) f p i j = absurd i
@@ -147,16 +204,24 @@ facet_nonempty c f i e = by c i
     by (Open (a ∷ b ∷ c ∷ d ∷ q)) i = i
 
 -- where the bucket of a point of the facet is in hand, it has another cell on the facet
-pub across_there : (hold : InHand) (cell : Cell) (f : Facet) (b : ℕ) (c : BucketContent) (cells : List Cell) → ShowsWith hold cell → IsIn f (facets_of cell) → IsInHandFor hold (points_on f) b → bucket_at hold.places b ≡ Some c → cells ≡ c.cells → HaveNoOther cells cell f → ⊥
+pub across_there : (hold : InHand) (cell : Cell) (f : Facet) (b : ℕ) (c : BucketContent) (cells : List Cell) →
+    ShowsWith hold cell → IsIn f (facets_of cell) → IsInHandFor hold (points_on f) b →
+    bucket_at hold.places b ≡ Some c → cells ≡ c.cells → HaveNoOther cells cell f → ⊥
 across_there hold cell f b c cells w i held e1 e2 none =
     let st = w.1 in
     let o = listed_facets w.0 cell f st.ascending st.keys w.2 i in
     let t = touched hold.grid held.point b o.other held.number (facet_inside o.other f held.point o.has held.among) in
     let k = filtered_true (touches hold.grid b) (complex w.0) o.other o.listed t in
-    none o.other (record { listed = subst (λ (l : List Cell). IsIn o.other l) (sym (e2 ∙ (st.sights b c e1).cells)) k; has = o.has; differs = o.differs })
+    none o.other (record {
+      listed = subst (λ (l : List Cell). IsIn o.other l) (sym (e2 ∙ (st.sights b c e1).cells)) k;
+      has = o.has;
+      differs = o.differs;
+    })
 
 -- another cell on the facet in a bucket in hand is the one of the complex
-pub across_is : (hold : InHand) (cell : Cell) (f : Facet) (b : ℕ) (c : BucketContent) (cells : List Cell) (other : Cell) → bucket_at hold.places b ≡ Some c → cells ≡ c.cells → IsOtherOf cells cell f other → (s : List ℕ) → Shows hold s → IsIn cell (complex s) → IsAcross s cell f other
+pub across_is : (hold : InHand) (cell : Cell) (f : Facet) (b : ℕ) (c : BucketContent) (cells : List Cell) (other : Cell)
+    → bucket_at hold.places b ≡ Some c → cells ≡ c.cells → IsOtherOf cells cell f other → (s : List ℕ) → Shows hold s →
+    IsIn cell (complex s) → IsAcross s cell f other
 across_is hold cell f b c cells other e1 e2 o s st i =
     let k = subst (λ (l : List Cell). IsIn other l) (e2 ∙ (st.sights b c e1).cells) o.listed in
     record { listed = (filtered_from (touches hold.grid b) (complex s) other k).0; has = o.has; differs = o.differs }

@@ -1,67 +1,22 @@
 //! Holds: the buckets in hand.
 
-ghost use Rattle.std.specs.Prelude.{
-  ◌≡◌,
-  ◌↔◌,
-  ℕ,
-  ◌+◌,
-  ◌*◌,
-  ◌-◌,
-  ◌<◌,
-  ◌≤◌,
-  ◌^◌,
-  true,
-  false,
-  None,
-  Some,
-  IsSome,
-  is_some,
-  IfOk,
-  IfSome,
-  OnOk,
-  OnErr,
-  length,
-  slice_set,
-  List,
-  MatchOption,
-};
+ghost use Rattle.std.specs.Prelude.{◌≡◌, ◌↔◌, ℕ, ◌+◌, ◌*◌, ◌-◌, ◌<◌, ◌≤◌, ◌^◌, true, false, None, Some, IsSome, is_some, IfOk, IfSome, length, slice_set, List, MatchOption};
 ghost use Rattle.std.specs.List.{filter};
 ghost use Rattle.point_order.specs.Sets.{IsIn, is_among};
 ghost use Rattle.point_order.specs.Facets.{points_of, facets_of};
 ghost use Rattle.point_order.specs.declared.cell.Cell.{Cell};
 ghost use Rattle.point_order.specs.Complex.{complex};
-ghost use Rattle.edit_history.specs.Edits.{edit_points, point_of};
 ghost use Rattle.cell_store.specs.Grids.{is_grid_size, bucket_of as number_of};
-ghost use Rattle.cell_store.specs.Buckets.{
-  no_room,
-  room_both,
-  room_for,
-  swap_after,
-  empty_hold,
-  bucket_at,
-  points_in,
-  cells_in,
-  at_place,
-  content_of,
-  FitsPlace,
-  StandAtPlaces,
-};
+ghost use Rattle.cell_store.specs.Buckets.{no_room, empty_hold, bucket_at, points_in, cells_in, at_place, content_of, FitsPlace, StandAtPlaces};
 ghost use Rattle.cell_store.specs.Shares.{Shows, ShowsSome, ShowsWith, NoneInHand, IsInHandFor, IsAcross, points_on};
 ghost use Rattle.cell_store.specs.Spots.{IsAcrossIn, SpotGives};
-ghost use Rattle.cell_store.specs.Changes.{IsArrived, IsDropped, IsNoted, IsPut, IsSwapped};
-ghost use Rattle.cell_store.specs.Missing.{ArePointsHeld};
-ghost use Rattle.cell_store.specs.Between.{Enters, HasWay, IsEntered, IsLeft, WasEntered};
-ghost use Rattle.cell_store.specs.Points.{came};
-ghost use Rattle.cell_store.specs.Ready.{AreHeld, CanCome, FindsCells};
 ghost use Rattle.cell_store.specs.Stars.{cells_around, cells_left, AcrossGives};
 
 use crate::bucket::Bucket;
-use crate::note::{came_by, goal, last};
-use crate::room::{Exchange, bucket_in, drop_point_in, made, make_rooms, note_in, put_point_in};
+use crate::room::{Exchange, bucket_in};
 use crate::spot::{Spot, SpotAcross};
 use crate::star::Across;
 use cell_stars::{Grid, Star, StarCells, Steps};
-use edit_history::{Edit, Entry};
 use point_order::{Cell, Facet, Point};
 use std::alloc::{AllocError, Global};
 use std::marker::Model;
@@ -72,12 +27,12 @@ use std::sync::ledger::Ledger;
 /// It has a place for every bucket of its grid.
 #[derive(Debug, Drop)]
 pub struct Hold {
-    grid: Grid,
-    places: Vec<Option<Bucket>>,
-    exchange: Option<Exchange>,
-    note: Option<Point>,
-    point: Option<Point>,
-    back: bool,
+    pub(crate) grid: Grid,
+    pub(crate) places: Vec<Option<Bucket>>,
+    pub(crate) exchange: Option<Exchange>,
+    pub(crate) note: Option<Point>,
+    pub(crate) point: Option<Point>,
+    pub(crate) back: bool,
 }
 
 impl Model for Hold {
@@ -400,207 +355,5 @@ impl Hold {
             Some(p) => self.spot_at(p, spot, facet),
             None => unreachable!(),
         }
-    }
-
-    /// Makes room for one exchange of the gone for the fresh cells and for one entry of the edit, which then take no
-    /// memory; for that of a move also for its new place to come. The buckets of all finite vertices of the cells, and
-    /// of the points of the edit, are to be in hand.
-    ///
-    /// # Errors
-    /// Want of memory. The room is then as before.
-    pub fn reserve(
-        &mut self,
-        alloc: Global,
-        gone: &[Cell],
-        fresh: &[Cell],
-        edit: &Edit,
-    ) -> Result<(), AllocError>
-        requires gone { AreHeld self.old gone.now }
-        requires fresh { AreHeld self.old fresh.now }
-        requires points { ArePointsHeld self.old (edit_points edit.now) }
-        ensures ok { OnOk result (self.new ≡ record self.old { room = room_for gone.now fresh.now edit.now }) }
-        ensures err { OnErr result (self.new ≡ self.old) }
-    {
-        self.make_ready(
-            alloc,
-            gone,
-            fresh,
-            Some(edit.point()),
-            goal(edit),
-            false,
-            false,
-        )
-    }
-
-    /// Makes the room that `reserve` makes, for an exchange that is to find its cells: in the buckets in hand all gone
-    /// cells that touch them are there, and no fresh one is. It looks for no fresh cell.
-    ///
-    /// # Errors
-    /// Want of memory. The room is then as before.
-    pub fn reserve_found(
-        &mut self,
-        alloc: Global,
-        gone: &[Cell],
-        fresh: &[Cell],
-        edit: &Edit,
-    ) -> Result<(), AllocError>
-        requires gone { AreHeld self.old gone.now }
-        requires fresh { AreHeld self.old fresh.now }
-        requires points { ArePointsHeld self.old (edit_points edit.now) }
-        requires found { FindsCells self.old gone.now fresh.now }
-        ensures ok { OnOk result (self.new ≡ record self.old { room = room_for gone.now fresh.now edit.now }) }
-        ensures err { OnErr result (self.new ≡ self.old) }
-    {
-        self.make_ready(
-            alloc,
-            gone,
-            fresh,
-            Some(edit.point()),
-            goal(edit),
-            false,
-            true,
-        )
-    }
-
-    /// Makes room for exchanges of the gone for the fresh cells there and back, and for the last point of the edit to
-    /// come and go: none of this takes memory then, however often it is done, until there is room for something else
-    /// or a bucket is given away. The buckets that `reserve` needs are to be in hand.
-    ///
-    /// # Errors
-    /// Want of memory. The room is then as before.
-    pub fn reserve_both(
-        &mut self,
-        alloc: Global,
-        gone: &[Cell],
-        fresh: &[Cell],
-        edit: &Edit,
-    ) -> Result<(), AllocError>
-        requires gone { AreHeld self.old gone.now }
-        requires fresh { AreHeld self.old fresh.now }
-        requires points { ArePointsHeld self.old (edit_points edit.now) }
-        ensures ok { OnOk result (self.new ≡ record self.old { room = room_both gone.now fresh.now edit.now }) }
-        ensures err { OnErr result (self.new ≡ self.old) }
-    {
-        self.make_ready(alloc, gone, fresh, None, Some(last(edit)), true, false)
-    }
-
-    // Makes room for an exchange, there or there and back, for an entry of a point, and for a point to come and go.
-    // Where it is told that the exchange finds its cells, it is to do so.
-    fn make_ready(
-        &mut self,
-        alloc: Global,
-        gone: &[Cell],
-        fresh: &[Cell],
-        note: Option<Point>,
-        point: Option<Point>,
-        back: bool,
-        found: bool,
-    ) -> Result<(), AllocError>
-        requires gone { AreHeld self.old gone.now }
-        requires fresh { AreHeld self.old fresh.now }
-        requires note { IfSome note (λ p. IsSome (bucket_at self.old.places (number_of self.old.grid p))) }
-        requires point { IfSome point (λ p. IsSome (bucket_at self.old.places (number_of self.old.grid p))) }
-        requires found { found ≡ true → FindsCells self.old gone.now fresh.now }
-        ensures ok { OnOk result (self.new ≡ record self.old {
-          room = record
-              { swap = Some (gone.now, fresh.now); push = note; point = point; back = back };
-        }) }
-        ensures err { OnErr result (self.new ≡ self.old) }
-    {
-        let grid = self.grid();
-        let exchange = Exchange::new(alloc, grid, &self.places, gone, fresh, found)?;
-        make_rooms(&mut self.places, grid, &note, &point)?;
-        self.exchange = Some(exchange);
-        self.note = note;
-        self.point = point;
-        self.back = back;
-        Ok(())
-    }
-
-    /// Takes the gone cells out of the buckets of their finite vertices, and puts the fresh ones in. There is to be
-    /// room for this exchange, which it uses up; or it can be made back, and then it is to find its cells, and there is
-    /// room for the one back. It takes no memory.
-    pub fn swap_cells(&mut self, gone: &[Cell], fresh: &[Cell])
-        requires room { self.old.room.swap ≡ Some (gone.now, fresh.now) }
-        requires found { self.old.room.back ≡ true → FindsCells self.old gone.now fresh.now }
-        ensures swapped { IsSwapped gone.now fresh.now self.old self.new }
-        ensures room { self.new.room ≡ record self.old.room
-            { swap = swap_after self.old.room.back gone.now fresh.now } }
-    {
-        if let Some(exchange) = self.exchange.take() {
-            self.exchange = made(exchange, &mut self.places, self.back);
-        }
-    }
-
-    /// Puts the entry last in the bucket of its point, and the point in or out as its reply says. There is to be room
-    /// for an entry of this point, which it uses up; of the entry of a move that was made the new place is to be there.
-    /// It takes no memory.
-    pub fn push_entry(&mut self, entry: Entry)
-        requires { self.old.room.push ≡ Some (point_of entry.edit) }
-        ensures noted { IsNoted entry self.old self.new }
-        ensures room { self.new.room ≡ record self.old.room { push = None; point = None } }
-    {
-        let b = self.grid().bucket_of(entry.edit.point()) as usize;
-        note_in(&mut self.places[b], entry);
-        self.note = None;
-        self.point = None;
-    }
-
-    /// Puts the point into its bucket, where it is not there. There is to be room for it to come and go. It takes no
-    /// memory.
-    pub fn put_point(&mut self, p: Point)
-        requires room { self.old.room.point ≡ Some p }
-        requires absent { is_among p (points_in self.old.places (number_of self.old.grid p)) ≡ false }
-        ensures put { IsPut p self.old self.new }
-        ensures room { self.new.room ≡ self.old.room }
-    {
-        let b = self.grid().bucket_of(p) as usize;
-        put_point_in(&mut self.places[b], p);
-    }
-
-    /// Takes the point out of its bucket, where it is there. There is to be room for it to come and go.
-    pub fn drop_point(&mut self, p: Point)
-        requires room { self.old.room.point ≡ Some p }
-        requires present { is_among p (points_in self.old.places (number_of self.old.grid p)) ≡ true }
-        ensures dropped { IsDropped p self.old self.new }
-        ensures room { self.new.room ≡ self.old.room }
-    {
-        let b = self.grid().bucket_of(p) as usize;
-        drop_point_in(&mut self.places[b], p);
-    }
-
-    /// Puts the place to which a point has moved into its bucket, if the entry tells of one. There is to be room for
-    /// it, and it is not to be there. It takes no memory.
-    pub fn put_goal(&mut self, entry: &Entry)
-        requires { IfSome (came entry.now.edit entry.now.reply) (CanCome self.old) }
-        ensures arrived { IsArrived entry.now self.old self.new }
-        ensures room { self.new.room ≡ self.old.room }
-    {
-        if let Some(p) = came_by(entry) {
-            self.put_point(p);
-        }
-    }
-
-    /// Makes the exchange and puts the point in, which is new to a set that the hold shows and changes exactly these
-    /// cells of its complex. There is to be room for both, there and back. The hold shows the set with the point then.
-    pub fn enter(&mut self, gone: &[Cell], fresh: &[Cell], p: Point)
-        requires room { HasWay self.old gone.now fresh.now p }
-        requires enters { (s : List ℕ) × Enters self.old s gone.now fresh.now p }
-        ensures entered { IsEntered gone.now fresh.now p self.old self.new }
-        ensures room { self.new.room ≡ record self.old.room { swap = Some (fresh.now, gone.now) } }
-    {
-        self.swap_cells(gone, fresh);
-        self.put_point(p);
-    }
-
-    /// Takes the point out again and makes the exchange back. The hold is then as before it was entered.
-    pub fn leave(&mut self, gone: &[Cell], fresh: &[Cell], p: Point)
-        requires room { HasWay self.old fresh.now gone.now p }
-        requires entered { WasEntered gone.now fresh.now p self.old }
-        ensures left { IsLeft gone.now fresh.now p self.old self.new }
-        ensures room { self.new.room ≡ record self.old.room { swap = Some (gone.now, fresh.now) } }
-    {
-        self.drop_point(p);
-        self.swap_cells(fresh, gone);
     }
 }

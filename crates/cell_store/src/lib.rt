@@ -22,6 +22,7 @@
 #![tactic(auto)]
 
 mod bucket;
+mod exchanges;
 mod gather;
 mod hold;
 pub mod laws;

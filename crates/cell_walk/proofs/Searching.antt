@@ -1,5 +1,33 @@
 -- The least cells of buckets in hand, and the first bucket that is not.
-use Rattle.std.specs.Prelude.{◌≡◌, refl, ℕ, zero, suc, ◌+◌, ◌*◌, ◌%◌, ◌<◌, ◌≤◌, ◌⊎◌, Bool, true, false, List, [], ◌∷◌, Option, None, Some, IsSome, IfSome, IsTrue, MatchBool, ◌↔◌, length, slice_index_or}
+use Rattle.std.specs.Prelude.{
+  ◌≡◌,
+  refl,
+  ℕ,
+  zero,
+  suc,
+  ◌+◌,
+  ◌*◌,
+  ◌%◌,
+  ◌<◌,
+  ◌≤◌,
+  ◌⊎◌,
+  Bool,
+  true,
+  false,
+  List,
+  [],
+  ◌∷◌,
+  Option,
+  None,
+  Some,
+  IsSome,
+  IfSome,
+  IsTrue,
+  MatchBool,
+  ◌↔◌,
+  length,
+  slice_index_or,
+}
 use Rattle.std.specs.declared.cmp.Ordering.{Ordering}
 use Rattle.std.specs.declared.cmp.Ordering.TheVariants.{Less, Equal, Greater}
 use Rattle.std.proofs.Common.{arith, inl, inr, ap, sym, subst, ◌∙◌}
@@ -42,7 +70,8 @@ not_before d m c a b e = by (cell_cmp c m) refl
     by Greater k = b (cell_after c m k)
 
 -- of the least so far
-at_most_chain : (o : Option Cell) (c d : Cell) → IfSome o (λ b. ¬ (cell_cmp b c ≡ Less)) → IsAtMost o d → ¬ (cell_cmp d c ≡ Less)
+at_most_chain : (o : Option Cell) (c d : Cell) → IfSome o (λ b. ¬ (cell_cmp b c ≡ Less)) → IsAtMost o d →
+    ¬ (cell_cmp d c ≡ Less)
 at_most_chain None c d a b = absurd b
 at_most_chain (Some m) c d a b = not_before d m c b a
 
@@ -55,7 +84,8 @@ at_most_both (Some m) (Some c) d a b = not_before d m c b (a m refl)
 -- ---- what fits
 
 -- by the answer for one cell
-pub fits_by : (hold : InHand) (inside r : Bool) (c : Cell) → inside ≡ true → IsTrue r ↔ IsInside hold c → MatchBool r (IsFitting hold inside c) (IsFitting hold inside c → ⊥)
+pub fits_by : (hold : InHand) (inside r : Bool) (c : Cell) → inside ≡ true → IsTrue r ↔ IsInside hold c →
+    MatchBool r (IsFitting hold inside c) (IsFitting hold inside c → ⊥)
 fits_by hold true true c e g = g.0 refl
 fits_by hold true false c e g = λ i. false≢true (g.1 i)
 fits_by hold false r c e g = absurd (cc e)
@@ -75,18 +105,28 @@ pub record IsPartly (hold : InHand) (inside : Bool) (l rest : List Cell) (old ne
   pub kept : (d : Cell) → old ≡ Some d → IsAtMost new d
 
 -- before any
-pub at_first : (hold : InHand) (inside : Bool) (l rest : List Cell) (old : Option Cell) → ((d : Cell) → IsIn d rest → IsIn d l) → ((d : Cell) → IsIn d l → IsIn d rest) → IsPartly hold inside l rest old old
-at_first hold inside l rest old f g = record { among = f; from = λ c e. inl e; below = λ d i. inl (g d i); kept = λ d e. subst (λ (o : Option Cell). IsAtMost o d) (sym e) (not_self d) }
+pub at_first : (hold : InHand) (inside : Bool) (l rest : List Cell) (old : Option Cell) →
+    ((d : Cell) → IsIn d rest → IsIn d l) → ((d : Cell) → IsIn d l → IsIn d rest) → IsPartly hold inside l rest old old
+at_first hold inside l rest old f g = record {
+  among = f;
+  from = λ c e. inl e;
+  below = λ d i. inl (g d i);
+  kept =
+      λ d e. subst (λ (o : Option Cell). IsAtMost o d) (sym e) (not_self d);
+}
 
 -- one more that fits
 pub one_fits :
-    (hold : InHand) (inside : Bool) (l rest m : List Cell) (old best : Option Cell) (x n : Cell) → m ≡ x ∷ rest → IsPartly hold inside l m old best → IsFitting hold inside x →
-    (best ≡ Some n) ⊎ (x ≡ n) → IfSome best (λ b. ¬ (cell_cmp b n ≡ Less)) → ¬ (cell_cmp x n ≡ Less) → IsPartly hold inside l rest old (Some n)
+    (hold : InHand) (inside : Bool) (l rest m : List Cell) (old best : Option Cell) (x n : Cell) → m ≡ x ∷ rest →
+    IsPartly hold inside l m old best → IsFitting hold inside x →
+    (best ≡ Some n) ⊎ (x ≡ n) → IfSome best (λ b. ¬ (cell_cmp b n ≡ Less)) → ¬ (cell_cmp x n ≡ Less) →
+    IsPartly hold inside l rest old (Some n)
 one_fits hold inside l rest m old best x n e k fits one a b = record {
   among = λ d i. k.among d (subst (λ (v : List Cell). IsIn d v) (sym e) (inr i));
   from = λ c i. (let q : n ≡ c = same i in elim one [
     | inl h ↦ k.from c (h ∙ ap Some q)
-    | inr h ↦ inr (subst (λ (v : Cell). IsIn v l × IsFitting hold inside v) (h ∙ q) (k.among x (subst (λ (v : List Cell). IsIn x v) (sym e) (inl refl)), fits))
+    | inr h ↦ inr (subst (λ (v : Cell). IsIn v l × IsFitting hold inside v) (h ∙ q)
+        (k.among x (subst (λ (v : List Cell). IsIn x v) (sym e) (inl refl)), fits))
   ]);
   below = λ d i. elim (k.below d i) [
     | inl j ↦ elim (subst (λ (v : List Cell). IsIn d v) e j) [
@@ -103,7 +143,8 @@ one_fits hold inside l rest m old best x n e k fits one a b = record {
 
 -- one more that does not
 pub one_not :
-    (hold : InHand) (inside : Bool) (l rest m : List Cell) (old best : Option Cell) (x : Cell) → m ≡ x ∷ rest → IsPartly hold inside l m old best → ¬ (IsFitting hold inside x) →
+    (hold : InHand) (inside : Bool) (l rest m : List Cell) (old best : Option Cell) (x : Cell) → m ≡ x ∷ rest →
+    IsPartly hold inside l m old best → ¬ (IsFitting hold inside x) →
     IsPartly hold inside l rest old best
 one_not hold inside l rest m old best x e k apart = record {
   among = λ d i. k.among d (subst (λ (v : List Cell). IsIn d v) (sym e) (inr i));
@@ -119,7 +160,8 @@ one_not hold inside l rest m old best x e k apart = record {
 }
 
 -- all of them
-pub at_last : (hold : InHand) (inside : Bool) (l rest : List Cell) (old new : Option Cell) → ((d : Cell) → ¬ (IsIn d rest)) → IsPartly hold inside l rest old new → IsLessened hold inside l old new
+pub at_last : (hold : InHand) (inside : Bool) (l rest : List Cell) (old new : Option Cell) →
+    ((d : Cell) → ¬ (IsIn d rest)) → IsPartly hold inside l rest old new → IsLessened hold inside l old new
 at_last hold inside l rest old new none k = record {
   from = k.from;
   below = λ d i f. elim (k.below d i) [ inl j ↦ absurd (none d j) | inr g ↦ g f ];
@@ -142,7 +184,8 @@ of_bucket hold b c i = by (bucket_at hold.places b) refl i
     by (Some x) e j = in_all hold.places b x c e j
 
 -- one more bucket in hand
-pub one_bucket : (hold : InHand) (inside : Bool) (b : ℕ) (old new : Option Cell) → IsLeastBelow hold inside b old → IsLessened hold inside (cells_in hold.places b) old new → IsLeastBelow hold inside (b + 1) new
+pub one_bucket : (hold : InHand) (inside : Bool) (b : ℕ) (old new : Option Cell) → IsLeastBelow hold inside b old →
+    IsLessened hold inside (cells_in hold.places b) old new → IsLeastBelow hold inside (b + 1) new
 one_bucket hold inside b old new k m = record {
   from = λ c e. elim (m.from c e) [ inl h ↦ k.from c h | inr r ↦ (of_bucket hold b c r.0, r.1) ];
   below = λ i l d j f. elim (one_below b i l) [
@@ -152,7 +195,8 @@ one_bucket hold inside b old new k m = record {
 }
 
 -- one more that is not
-pub no_bucket : (hold : InHand) (inside : Bool) (b : ℕ) (old : Option Cell) → bucket_at hold.places b ≡ None → IsLeastBelow hold inside b old → IsLeastBelow hold inside (b + 1) old
+pub no_bucket : (hold : InHand) (inside : Bool) (b : ℕ) (old : Option Cell) → bucket_at hold.places b ≡ None →
+    IsLeastBelow hold inside b old → IsLeastBelow hold inside (b + 1) old
 no_bucket hold inside b old none k = record {
   from = k.from;
   below = λ i l d j f. elim (one_below b i l) [
@@ -162,13 +206,15 @@ no_bucket hold inside b old none k = record {
 }
 
 -- only below the length of the list there is one
-below_length : (l : List (Option BucketContent)) (i : ℕ) (d : Cell) → IsIn d (cells_of (slice_index_or l i None)) → i < length l
+below_length : (l : List (Option BucketContent)) (i : ℕ) (d : Cell) → IsIn d (cells_of (slice_index_or l i None)) →
+    i < length l
 below_length [] i d j = absurd j
 below_length (o ∷ l) zero d j = omega arith
 below_length (o ∷ l) (suc i) d j = let r = below_length l i d j in omega (arith, r)
 
 -- all buckets
-pub least_of_all : (hold : InHand) (inside : Bool) (n : ℕ) (best : Option Cell) → length hold.places ≤ n → IsLeastBelow hold inside n best → IsLeastOf hold inside best
+pub least_of_all : (hold : InHand) (inside : Bool) (n : ℕ) (best : Option Cell) → length hold.places ≤ n →
+    IsLeastBelow hold inside n best → IsLeastOf hold inside best
 least_of_all hold inside n best e k = record {
   from = k.from;
   below = λ d i f. (
@@ -186,7 +232,8 @@ no_member (x ∷ l) f = absurd (f x (inl refl))
 
 -- a round over buckets that are all in hand meets a cell
 pub none_missing :
-    (hold : InHand) (s : List ℕ) (first count : ℕ) → HasPlaces hold → Shows hold s → HasNoCell hold → first < count → count ≡ hold.grid * hold.grid * hold.grid →
+    (hold : InHand) (s : List ℕ) (first count : ℕ) → HasPlaces hold → Shows hold s → HasNoCell hold → first < count →
+    count ≡ hold.grid * hold.grid * hold.grid →
     ((i : ℕ) → i < count → IsSome (bucket_at hold.places ((first + i) % count))) → ⊥
 none_missing hold s first count has st none f e all =
     let i = solid_set hold s st in
@@ -196,8 +243,10 @@ none_missing hold s first count has st none f e all =
     let l : b < count = subst (λ n. b < n) (sym e) (bucket_below hold.grid p.0 has.size) in
     let r = round first b count f l in
     let x = some_of (bucket_at hold.places b) (in_hand b ((first + r.0) % count) r.2 (all r.0 r.1)) in
-    let j = filtered_true (touches hold.grid b) (complex s) k.some k.has_some (touched hold.grid p.0 b k.some refl p.1) in
-    subst (λ (v : List Cell). IsIn k.some v) none (in_all hold.places b x.0 k.some x.1 (subst (λ (v : List Cell). IsIn k.some v) (sym (st.sights b x.0 x.1).cells) j))
+    let j = filtered_true (touches hold.grid b) (complex s) k.some k.has_some (touched hold.grid p.0 b k.some refl p.1)
+    in
+    subst (λ (v : List Cell). IsIn k.some v) none
+    (in_all hold.places b x.0 k.some x.1 (subst (λ (v : List Cell). IsIn k.some v) (sym (st.sights b x.0 x.1).cells) j))
   where
     in_hand : (b n : ℕ) → n ≡ b → IsSome (bucket_at hold.places n) → IsSome (bucket_at hold.places b)
     in_hand b n e o = subst (λ m. IsSome (bucket_at hold.places m)) e o

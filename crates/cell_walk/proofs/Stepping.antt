@@ -19,14 +19,16 @@ same_some : {f g : Facet} → Some f ≡ Some g → f ≡ g
 same_some e = cc e
 
 -- a cell that stays has a facet towards the point
-pub some_towards : (s : List ℕ) (p : ℕ) (c : Cell) (o : Option Facet) → IsSolidSet s → IsNew s p → StaysFrom s p c → o ≡ facet_towards c p → o ≡ None → ⊥
+pub some_towards : (s : List ℕ) (p : ℕ) (c : Cell) (o : Option Facet) → IsSolidSet s → IsNew s p → StaysFrom s p c →
+    o ≡ facet_towards c p → o ≡ None → ⊥
 some_towards s p c o i n st e none = let r = some_facet_towards s p c i n st in clash (sym r.1 ∙ sym e ∙ none)
   where
     clash : {f : Facet} → Some f ≡ None → ⊥
     clash e = cc e
 
 -- and the walk goes on through it
-pub onward : (s : List ℕ) (p : ℕ) (c : Cell) (f : Facet) (o : Option Facet) → IsSolidSet s → IsNew s p → StaysFrom s p c → o ≡ facet_towards c p → o ≡ Some f → IsOnward s (record { point = p; cell = c }) f
+pub onward : (s : List ℕ) (p : ℕ) (c : Cell) (f : Facet) (o : Option Facet) → IsSolidSet s → IsNew s p →
+    StaysFrom s p c → o ≡ facet_towards c p → o ≡ Some f → IsOnward s (record { point = p; cell = c }) f
 onward s p c f o i n st e is =
     let r = some_facet_towards s p c i n st in
     let k : facet_towards c p ≡ Some f = sym e ∙ is in

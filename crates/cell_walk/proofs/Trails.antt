@@ -36,10 +36,12 @@ kept places c i = let r = flat_from cells_of places None c i in by r.0 (bucket_a
     by b (Some x) e j = record { number = b; content = x; held = e; has = j }
 
 -- it is one of the complex
-all_listed : (hold : InHand) (s : List ℕ) (c : Cell) → Shows hold s → IsIn c (all_cells hold.places) → IsIn c (complex s)
+all_listed : (hold : InHand) (s : List ℕ) (c : Cell) → Shows hold s → IsIn c (all_cells hold.places) →
+    IsIn c (complex s)
 all_listed hold s c st i =
     let k = kept hold.places c i in
-    (filtered_from (touches hold.grid k.number) (complex s) c (subst (λ (l : List Cell). IsIn c l) (st.sights k.number k.content k.held).cells k.has)).0
+    (filtered_from (touches hold.grid k.number) (complex s) c
+    (subst (λ (l : List Cell). IsIn c l) (st.sights k.number k.content k.held).cells k.has)).0
 
 -- what starts is a walk
 pub start_is_walk : StartIsWalk
@@ -55,18 +57,28 @@ start_is_walk hold s p w st n g =
 pub walk_stays : WalkStays
 walk_stays few many s w a k =
     let b = kept few.places w.cell k.held in
-    record { new = k.new; listed = k.listed; held = in_all many.places b.number b.content w.cell (a.buckets b.number b.content b.held) b.has }
+    record {
+      new = k.new;
+      listed = k.listed;
+      held =
+          in_all many.places b.number b.content w.cell (a.buckets b.number b.content b.held) b.has;
+    }
 
 -- each later cell is nearer than the first
-later_nearer : (s : List ℕ) (p : ℕ) (c : Cell) (l : List Cell) → ComesNearer s p (c ∷ l) → (x : Cell) → IsIn x l → is_before (rank s p x) (rank s p c) ≡ true
+later_nearer : (s : List ℕ) (p : ℕ) (c : Cell) (l : List Cell) → ComesNearer s p (c ∷ l) → (x : Cell) → IsIn x l →
+    is_before (rank s p x) (rank s p c) ≡ true
 later_nearer s p c [] k x i = absurd i
 later_nearer s p c (d ∷ l) k x (inl e) = subst (λ (v : Cell). is_before (rank s p v) (rank s p c) ≡ true) e k.0
-later_nearer s p c (d ∷ l) k x (inr i) = before_chain (rank s p x) (rank s p d) (rank s p c) (later_nearer s p d l k.1 x i) k.0
+later_nearer s p c (d ∷ l) k x (inr i) = before_chain (rank s p x) (rank s p d) (rank s p c)
+    (later_nearer s p d l k.1 x i) k.0
 
 -- so none is the first
 pub no_cell_twice : NoCellTwice
 no_cell_twice s p [] k = tt
-no_cell_twice s p (c ∷ l) k = ((λ i. false≢true (sym (before_not (rank s p c)) ∙ later_nearer s p c l k c i)), no_cell_twice s p l (others l k))
+no_cell_twice s p (c ∷ l) k = (
+  (λ i. false≢true (sym (before_not (rank s p c)) ∙ later_nearer s p c l k c i)),
+  no_cell_twice s p l (others l k),
+)
   where
     others : (l : List Cell) → ComesNearer s p (c ∷ l) → ComesNearer s p l
     others [] k = tt

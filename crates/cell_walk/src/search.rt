@@ -13,26 +13,57 @@ use cell_store::Hold;
 use point_order::{Cell, Point, Step};
 use std::cmp::Ordering;
 
-// How many points of a bucket are looked at for one that is near.
-const LOOKS: usize = 128;
+// How many points of a bucket are looked at for one that is near: around the place of the point, and at even distances.
+const AROUND: usize = 32;
 
-// The nearest of some points of the list; none where it has none. Which ones are looked at only makes the walk short.
-pub(crate) fn near_point(points: &[Point], p: Point) -> Option<Point>
-    ensures { MatchOption result (points.now ≡ []) (λ q. IsIn q points.now) }
+const SPREAD: usize = 16;
+
+// The nearest of the point that was nearest so far, and some points of the list from a place on, at even distances.
+fn nearest_of(
+    points: &[Point],
+    p: Point,
+    so_far: Point,
+    first: usize,
+    stride: usize,
+    looks: usize,
+) -> Point
+    ensures { (result ≡ so_far) ⊎ IsIn result points.now }
 {
-    let mut near = *points.first()?;
+    let mut near = so_far;
     let mut least = Step::between(p, near).square();
-    let stride = points.len() / LOOKS + 1;
-    for look in 1..LOOKS {
-        if let Some(q) = points.get(stride.saturating_mul(look)) {
+    let mut place = first;
+    for _ in 0..looks {
+        if let Some(q) = points.get(place) {
             let square = Step::between(p, *q).square();
             if square < least {
                 least = square;
                 near = *q;
             }
         }
+        place = place.saturating_add(stride);
     }
-    Some(near)
+    near
+}
+
+// The nearest of some points of the list; none where it has none. Which ones are looked at only makes the walk short.
+// The list ascends by x first, so that those around the place of the point are near it in x; where all have one x or
+// lie in steps of it, those at even distances are nearer.
+pub(crate) fn near_point(points: &[Point], p: Point) -> Option<Point>
+    ensures { MatchOption result (points.now ≡ []) (λ q. IsIn q points.now) }
+{
+    let first = *points.first()?;
+    let place = match points.binary_search(&p) {
+        Ok(i) | Err(i) => i,
+    };
+    let spread = nearest_of(points, p, first, 0, points.len() / SPREAD + 1, SPREAD);
+    Some(nearest_of(
+        points,
+        p,
+        spread,
+        place.saturating_sub(AROUND / 2),
+        1,
+        AROUND,
+    ))
 }
 
 // Whether the cell is Full, and the buckets of all its points are in hand.

@@ -22,7 +22,7 @@ use edit_history::Edit;
 use grid_claims::{Gate, MeshTable, Pass};
 use one_mesh::apply;
 use std::alloc::{AllocError, Global};
-use std::thread::{Threads, join};
+use std::thread::{Threads, available_parallelism, join};
 
 // A segment that is one of several and has fewer pairs than so many is made without workers: to start them and to open
 // a table takes longer.
@@ -78,9 +78,8 @@ fn together(
     Ok((pass, left))
 }
 
-// Does the lists, each by a part of the pass: halves side by side. `count` tells how many parts the table has.
-fn work_all<G: Gate + Sync, R: Threads + Sync>(
-    rt: &R,
+// Does the lists, each by a part of the pass, one after another. `count` tells how many parts the table has.
+fn work_in_turn<G: Gate>(
     alloc: Global,
     table: &MeshTable,
     mut pass: Pass,
@@ -97,20 +96,65 @@ fn work_all<G: Gate + Sync, R: Threads + Sync>(
     }
     let (low, high) = lists.split_at(lists.len() / 2);
     let other = table.split(alloc, &mut pass, high.len() as u32, pair_count(high))?;
+    let a = work_in_turn(alloc, table, pass, low, count, gate)?;
+    let b = work_in_turn(alloc, table, other, high, count, gate)?;
+    together(table, a, b)
+}
+
+// Does the lists, each by a part of the pass: halves side by side, as long as there are threads for both. `count` tells
+// how many parts the table has.
+fn work_all<G: Gate + Sync, R: Threads + Sync>(
+    rt: &R,
+    alloc: Global,
+    table: &MeshTable,
+    mut pass: Pass,
+    lists: &[List],
+    count: u32,
+    threads: usize,
+    gate: &G,
+) -> Result<(Pass, Left), AllocError>
+    requires run { CanRun table.now (pairs_in lists.now) pass }
+    requires count { (0 < count) × (count ≡ table.now.parts) }
+    ensures { IfOk result (λ r. AreWorked (pairs_in lists.now) r.1.pairs.items pass r.0) }
+{
+    if lists.len() == 1 || threads < 2 {
+        return work_in_turn(alloc, table, pass, lists, count, gate);
+    }
+    let (low, high) = lists.split_at(lists.len() / 2);
+    let other = table.split(alloc, &mut pass, high.len() as u32, pair_count(high))?;
     let (a, b) = join(
         rt,
         || -> Result<(Pass, Left), AllocError>
             requires { IsSync R.row × IsSync G.row × CanRun table.now (pairs_in low.now) pass × (0 < count)
                 × (count ≡ table.now.parts) }
             ensures { IfOk result (λ r. AreWorked (pairs_in low.entry.now) r.1.pairs.items pass r.0) }
-        { work_all(rt, alloc, table, pass, low, count, gate) },
+        { work_all(rt, alloc, table, pass, low, count, threads / 2, gate) },
         || -> Result<(Pass, Left), AllocError>
             requires { IsSync R.row × IsSync G.row × CanRun table.now (pairs_in high.now) other × (0 < count)
                 × (count ≡ table.now.parts) }
             ensures { IfOk result (λ r. AreWorked (pairs_in high.entry.now) r.1.pairs.items other r.0) }
-        { work_all(rt, alloc, table, other, high, count, gate) },
+        {
+            work_all(
+                rt,
+                alloc,
+                table,
+                other,
+                high,
+                count,
+                threads - threads / 2,
+                gate,
+            )
+        },
     );
     together(table, a?, b?)
+}
+
+// How many threads do lists at once: as many as there are processors, but two at least, so that workers can meet.
+fn thread_count<R: Threads>(rt: &R) -> usize {
+    match available_parallelism(rt) {
+        Ok(count) => count.get().max(2),
+        Err(_) => 2,
+    }
 }
 
 // Does the lists side by side on the mesh, all but the pairs that are left over.
@@ -128,7 +172,16 @@ fn side_by_side<G: Gate + Sync, R: Threads + Sync>(
 {
     let count = lists.len() as u32;
     let (table, pass) = MeshTable::open(alloc, mesh, count, pair_count(lists))?;
-    let (pass, left) = work_all(rt, alloc, &table, pass, lists, count, gate)?;
+    let (pass, left) = work_all(
+        rt,
+        alloc,
+        &table,
+        pass,
+        lists,
+        count,
+        thread_count(rt),
+        gate,
+    )?;
     Ok((table.close(pass), left))
 }
 
@@ -247,8 +300,8 @@ fn run_segment<G: Gate + Sync, R: Threads + Sync>(
 }
 
 /// Makes the edits of all segments on the mesh, one segment after another. Each list of a segment is done by a worker
-/// of its own, side by side, and then what they leave over, in the order of its tags; a segment of one pair needs no
-/// workers.
+/// of its own, as many side by side as there are processors, and two at least; then what they leave over, in the order
+/// of its tags. A segment of one pair needs no workers.
 ///
 /// The history goes on with each pair of the segments once: those of a segment before those of the next, those of a
 /// segment that share a point by their tags, and each entry by a number below the number of lists of its segment; with

@@ -14,7 +14,8 @@ use Rattle.face_list.specs.Faces.{full_cells}
 use Rattle.face_list.specs.Laws.{FullCellsInOrder, FullCellIsListed, ListedIsFullCell, FullCellsOfComplex}
 
 -- what is below all cells is below the Full ones
-all_full : (q : List ℕ) (cells : List Cell) → AllByRecursion (λ z. cell_cmp (Full q) z ≡ Less) cells → AllByRecursion (λ r. slice_cmp nat_cmp q r ≡ Less) (full_cells cells)
+all_full : (q : List ℕ) (cells : List Cell) → AllByRecursion (λ z. cell_cmp (Full q) z ≡ Less) cells →
+    AllByRecursion (λ r. slice_cmp nat_cmp q r ≡ Less) (full_cells cells)
 all_full q [] a = tt
 all_full q (Full r ∷ cells) a = (a.0, all_full q cells a.1)
 all_full q (Open t ∷ cells) a = all_full q cells a.1
@@ -33,11 +34,14 @@ full_cells_of_complex s a = full_cells_in_order (complex s) (complex_is_sorted s
 -- the law FullCellIsListed
 pub full_cell_is_listed : FullCellIsListed
 full_cell_is_listed [] q m = absurd m
-full_cell_is_listed (Full r ∷ cells) q m = elim m [ inl e ↦ inl (same_full r q e) | inr i ↦ inr (full_cell_is_listed cells q i) ]
-full_cell_is_listed (Open t ∷ cells) q m = elim m [ inl e ↦ absurd (not_both_kinds q t (sym e)) | inr i ↦ full_cell_is_listed cells q i ]
+full_cell_is_listed (Full r ∷ cells) q m = elim m
+    [ inl e ↦ inl (same_full r q e) | inr i ↦ inr (full_cell_is_listed cells q i) ]
+full_cell_is_listed (Open t ∷ cells) q m = elim m
+    [ inl e ↦ absurd (not_both_kinds q t (sym e)) | inr i ↦ full_cell_is_listed cells q i ]
 
 -- the law ListedIsFullCell
 pub listed_is_full_cell : ListedIsFullCell
 listed_is_full_cell [] q m = absurd m
-listed_is_full_cell (Full r ∷ cells) q m = elim m [ inl e ↦ inl (ap Full e) | inr i ↦ inr (listed_is_full_cell cells q i) ]
+listed_is_full_cell (Full r ∷ cells) q m = elim m
+    [ inl e ↦ inl (ap Full e) | inr i ↦ inr (listed_is_full_cell cells q i) ]
 listed_is_full_cell (Open t ∷ cells) q m = inr (listed_is_full_cell cells q m)

@@ -21,10 +21,12 @@ pub item_exact : {K : Type 0} {cmp : K → K → Ordering} → CmpEqualImpliesEq
 item_exact {cmp = cmp} exact = exact_pairs cmp nat_cmp exact exact_unsigned
 
 -- equal keys and equal numbers
-pub item_ties : {K : Type 0} (cmp : K → K → Ordering) (eq : K → K → Bool) → ((x y : K) → eq x y ≡ eq_by_cmp cmp x y) → (i j : K × ℕ) → (eq i.0 j.0 && (i.1 == j.1)) ≡ eq_by_cmp (item_cmp cmp) i j
+pub item_ties : {K : Type 0} (cmp : K → K → Ordering) (eq : K → K → Bool) → ((x y : K) → eq x y ≡ eq_by_cmp cmp x y) →
+    (i j : K × ℕ) → (eq i.0 j.0 && (i.1 == j.1)) ≡ eq_by_cmp (item_cmp cmp) i j
 item_ties cmp eq ties i j = ap (λ b. b && (i.1 == j.1)) (ties i.0 j.0) ∙ by (cmp i.0 j.0) (nat_ties i.1 j.1)
   where
-    by : (r : Ordering) → (i.1 == j.1) ≡ is_eq (nat_cmp i.1 j.1) → (is_eq r && (i.1 == j.1)) ≡ is_eq (ordering_then r (nat_cmp i.1 j.1))
+    by : (r : Ordering) → (i.1 == j.1) ≡ is_eq (nat_cmp i.1 j.1) →
+        (is_eq r && (i.1 == j.1)) ≡ is_eq (ordering_then r (nat_cmp i.1 j.1))
     by Less e = refl
     by Equal e = e
     by Greater e = refl

@@ -18,15 +18,18 @@ hull_piece line (Full q) = []
 hull_piece line (Open t) = line t
 
 -- the lines of the Full cells are those of the list, cell by cell
-pub full_items : (line : List ℕ → List ℕ) → IsOfItems (λ cells. concat (map line (full_corners cells))) (full_piece line)
+pub full_items : (line : List ℕ → List ℕ) → IsOfItems (λ cells. concat (map line (full_corners cells)))
+    (full_piece line)
 full_items line (Full q) cells = refl
 full_items line (Open t) cells = refl
 
 -- and so are those of the Open ones
-pub hull_items : (line : List ℕ → List ℕ) → IsOfItems (λ cells. concat (map line (hull_corners cells))) (hull_piece line)
+pub hull_items : (line : List ℕ → List ℕ) → IsOfItems (λ cells. concat (map line (hull_corners cells)))
+    (hull_piece line)
 hull_items line (Full q) cells = refl
 hull_items line (Open t) cells = refl
 
 -- the item, once its kind is known
-pub item_is : (cells : List Cell) (i : ℕ) (item cell : Cell) → item ≡ get_or cells i item → item ≡ cell → cell ≡ get_or cells i cell
+pub item_is : (cells : List Cell) (i : ℕ) (item cell : Cell) → item ≡ get_or cells i item → item ≡ cell →
+    cell ≡ get_or cells i cell
 item_is cells i item cell e k = subst (λ (c : Cell). c ≡ get_or cells i c) k e

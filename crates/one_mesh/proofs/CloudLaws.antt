@@ -35,4 +35,5 @@ solid_by points four e =
     solid_from points (slice_index points (slice_index_or four 0 0)) (slice_index points (slice_index_or four 1 0))
     (slice_index points (slice_index_or four 2 0)) (slice_index points (slice_index_or four 3 0))
     (index_in points (slice_index_or four 0 0) f.first) (index_in points (slice_index_or four 1 0) f.second)
-    (index_in points (slice_index_or four 2 0) f.third) (index_in points (slice_index_or four 3 0) f.fourth) f.independent
+    (index_in points (slice_index_or four 2 0) f.third) (index_in points (slice_index_or four 3 0) f.fourth)
+    f.independent

@@ -26,7 +26,8 @@ pub record AreAlike (faces : FaceLists) (marks : List Bool) (labels : List ℕ) 
     pub numbers : List ℕ
     pub around : numbered faces.cells numbers ≡ triple.1
     pub below : All (λ n. n < length faces.cells) numbers
-    pub alike : (u v : ℕ) → IsIn u numbers → IsIn v numbers → IsMarked marks u → IsMarked marks v → AreTogether labels u v
+    pub alike : (u v : ℕ) → IsIn u numbers → IsIn v numbers → IsMarked marks u → IsMarked marks v →
+        AreTogether labels u v
 
 -- Where the first k triples are done: marked cells around one of them have one label, and where two cells have one
 -- label a path leads from one to the other.

@@ -1,13 +1,13 @@
 -- The hole of a point that is taken, and what fills it.
 use Rattle.std.specs.Prelude.{◌≡◌, ℕ, true, List, ◌==◌, IsSome}
-use Rattle.std.specs.List.{filter}
 use Rattle.std.proofs.Common.{refl, sym, subst, inl, ◌∙◌}
 use Rattle.std.proofs.lemmas.Bool.{eq-eqb}
+use Rattle.list_laws.specs.Lists.{AreDistinct}
 use Rattle.list_laws.proofs.Cited.{filtered_from, filtered_true, is_in, some_of}
 use Rattle.point_order.specs.declared.cell.Cell.{Cell}
 use Rattle.point_order.specs.Complex.{complex}
 use Rattle.point_order.specs.Facets.{points_of}
-use Rattle.point_order.specs.Sets.{IsIn, is_among, without_point}
+use Rattle.point_order.specs.Sets.{IsIn, without_point}
 use Rattle.point_order.specs.Solid.{is_solid}
 use Rattle.del_laws.proofs.Cited.{solid_more}
 use Rattle.hole_laws.specs.Edits.{IsSet, IsLinkSet}
@@ -23,9 +23,8 @@ use Rattle.cell_store.specs.Grids.{bucket_of}
 use Rattle.cell_store.specs.Buckets.{InHand, bucket_at}
 use Rattle.cell_store.specs.Ready.{AreHeld}
 use Rattle.cell_store.specs.Shares.{Shows}
-use Rattle.vertex_removal.specs.Near.{AreTaken}
+use Rattle.vertex_removal.specs.Near.{AreTaken, IsStar}
 use Rattle.vertex_removal.specs.Refills.{IsRefilled}
-use Rattle.vertex_removal.proofs.Star.{star_list, star_once}
 
 -- a point whose bucket is in hand is in each set that the hold shows, or in none
 pub still_there : (hold : InHand) (h k : List ℕ) (v : ℕ) → Shows hold h → Shows hold k →
@@ -55,10 +54,9 @@ module _ (s : List ℕ) (v : ℕ) (i : IsSet s) (m : IsIn v s) (t : List ℕ) (l
   ]
 
   -- the cells at v, and those that v takes away from the complex of the points near
-  pub hole_filled : (star fresh : List Cell) → star ≡ filter (λ c. is_among v (points_of c)) (complex s) →
-      AreTaken t v fresh → IsRefilled s v star fresh
-  hole_filled star fresh e f =
-      let k = star_list s v star e in
+  pub hole_filled : (star fresh : List Cell) → IsStar s v star → AreDistinct star → AreTaken t v fresh →
+      IsRefilled s v star fresh
+  hole_filled star fresh k once f =
       record {
         solid = rest_solid;
         star = k;
@@ -68,7 +66,7 @@ module _ (s : List ℕ) (v : ℕ) (i : IsSet s) (m : IsIn v s) (t : List ℕ) (l
           came = λ q j. (let r = (refilled_from_link s v t i m l q).1 ((f.goes q).0 j) in (r.before, r.after));
           all_fresh = λ q j n. (f.goes q).1 ((refilled_from_link s v t i m l q).0 (record { before = j; after = n }));
         };
-        gone_once = star_once s v star i.ascending e;
+        gone_once = once;
         fresh_once = f.once;
       }
 

@@ -9,3 +9,4 @@ pub mod RefillTurns
 pub mod Apexes
 pub mod Wrapping
 pub mod Cited
+mod Balls

@@ -1,14 +1,17 @@
 -- The points of cells, ascending, each once.
-use Rattle.std.specs.Prelude.{◌≡◌, ℕ, ◌+◌, ◌<◌, not, ◌==◌, List, [], ◌++◌, length, slice_index_or, take}
+use Rattle.std.specs.Prelude.{◌≡◌, ℕ, ◌+◌, ◌<◌, not, ◌==◌, ◌↔◌, ◌⊎◌, List, [], ◌∷◌, ◌++◌, length, slice_index_or, take}
 use Rattle.std.specs.List.{filter, flat_map}
-use Rattle.std.proofs.Common.{sym, ◌∙◌, ap, subst}
+use Rattle.std.proofs.Common.{sym, ◌∙◌, ap, subst, inl, inr}
 use Rattle.std.proofs.lemmas.List.{flat_map_more}
 use Rattle.list_laws.proofs.Cited.{
   false_if,
   filtered_from,
   filtered_true,
   flat_from,
+  from_append,
   in_flat,
+  in_left,
+  in_right,
   not_both,
   not_from,
   not_true,
@@ -48,3 +51,25 @@ pub points_more : (cells : List Cell) (i : ℕ) (at : Cell) (ps before after : L
 points_more cells i at ps before after h e q b a =
     a ∙ ap (λ l. l ++ ps) b ∙ ap (λ l. flat_map points_of (take i cells) ++ l) q
     ∙ flat_map_more points_of [] (take i cells) at ∙ ap (flat_map points_of) (sym (take_next cells i at h e))
+
+-- where a list has the points of the first elements, it has those of one more with that one
+pub same_more : (points : List ℕ) (n x : ℕ) (old new : List ℕ) → n < length points → x ≡ slice_index_or points n x →
+    ((q : ℕ) → IsIn q new ↔ (IsIn q old ⊎ (x ≡ q))) → AreSamePoints (take n points) old →
+    AreSamePoints (take (n + 1) points) new
+same_more points n x old new h e a s q = (
+  λ m. elim (from_append q (take n points) (x ∷ []) (subst (λ (l : List ℕ). IsIn q l) next m)) [
+    | inl k ↦ (a q).1 (inl ((s q).0 k))
+    | inr k ↦ elim k [ inl f ↦ (a q).1 (inr f) | inr none ↦ absurd none ]
+  ],
+  λ m. subst (λ (l : List ℕ). IsIn q l) (sym next) (elim ((a q).0 m) [
+    | inl k ↦ in_left q (take n points) (x ∷ []) ((s q).1 k)
+    | inr f ↦ in_right q (take n points) (x ∷ []) (inl f)
+  ]),
+)
+  where
+    next : take (n + 1) points ≡ take n points ++ x ∷ []
+    next = take_next points n x h e
+
+-- lists that have the points of one list
+pub same_both : (l m n : List ℕ) → AreSamePoints l m → AreSamePoints m n → AreSamePoints l n
+same_both l m n s t e = (λ i. (t e).0 ((s e).0 i), λ i. (s e).1 ((t e).1 i))

@@ -1,12 +1,10 @@
 -- What a turn of a refill comes to, from what its steps give.
-use Rattle.std.specs.Prelude.{◌≡◌, ℕ, List, IsSome}
-use Rattle.std.specs.List.{filter}
+use Rattle.std.specs.Prelude.{ℕ, List, IsSome}
+use Rattle.list_laws.specs.Lists.{AreDistinct}
 use Rattle.std.proofs.Common.{sym, subst}
 use Rattle.list_laws.proofs.Cited.{none_there}
 use Rattle.point_order.specs.declared.cell.Cell.{Cell}
-use Rattle.point_order.specs.Complex.{complex}
-use Rattle.point_order.specs.Facets.{points_of}
-use Rattle.point_order.specs.Sets.{IsIn, is_among}
+use Rattle.point_order.specs.Sets.{IsIn}
 use Rattle.hole_laws.specs.Edits.{IsSet, IsLinkSet}
 use Rattle.cell_store.specs.Buckets.{InHand, bucket_at}
 use Rattle.cell_store.specs.Ready.{AreHeld}
@@ -15,7 +13,6 @@ use Rattle.vertex_removal.specs.Near.{IsStar, AreTaken}
 use Rattle.vertex_removal.specs.Refills.{IsRefilled}
 use Rattle.vertex_removal.specs.Turns.{IsNeeded, NoneIsNeeded}
 use Rattle.vertex_removal.proofs.Holes.{hole_filled, fresh_held}
-use Rattle.vertex_removal.proofs.Star.{star_list}
 
 -- a bucket that is missing for the cells at v is needed
 pub star_needs : (hold : InHand) (s : List ℕ) (v : ℕ) (star : List Cell) (b : ℕ) → IsStar s v star →
@@ -41,8 +38,8 @@ none_needed hold s v star k held b n =
 
 -- when the hole is filled
 pub refill_done : (hold : InHand) (s : List ℕ) (v : ℕ) (t : List ℕ) (star fresh : List Cell) → IsSet s → IsIn v s →
-    IsLinkSet s v t → star ≡ filter (λ c. is_among v (points_of c)) (complex s) → AreHeld hold star →
+    IsLinkSet s v t → IsStar s v star → AreDistinct star → AreHeld hold star →
     AreTaken t v fresh → NoneIsNeeded hold s v × IsRefilled s v star fresh × AreHeld hold star × AreHeld hold fresh
-refill_done hold s v t star fresh i m l e held f =
-    let r = hole_filled s v i m t l star fresh e f in
-    (none_needed hold s v star (star_list s v star e) held, r, held, fresh_held hold s v star fresh i m r held)
+refill_done hold s v t star fresh i m l k once held f =
+    let r = hole_filled s v i m t l star fresh k once f in
+    (none_needed hold s v star k held, r, held, fresh_held hold s v star fresh i m r held)

@@ -2,3 +2,4 @@ pub mod Refills
 pub mod Turns
 pub mod Near
 pub mod Wraps
+pub mod Balls

@@ -3,28 +3,32 @@
 ghost use Rattle.std.specs.Prelude.{◌≡◌, ◌≢◌, pos, ◌<ℤ◌, ◌↔◌, IfSome, IsTrue};
 ghost use Rattle.point_order.specs.Orientation.{orientation};
 ghost use Rattle.point_order.specs.Sets.{IsAscending};
+ghost use Rattle.vertex_removal.specs.Balls.{IsBallOf, last_of};
 ghost use Rattle.vertex_removal.specs.Wraps.{leader_of, IsApex};
 
+use crate::ball::Ball;
 use exact_orient::orient;
 use point_order::Point;
-use sphere_ties::outside;
 
-// Whether the point lies above the plane of the three: their orientation is positive.
+// Whether the point lies above the plane of the three: their orientation is positive. The steps to the second and the
+// third come last, so that what they make is computed once for many points.
+#[inline]
 pub(crate) fn is_over(a: Point, b: Point, c: Point, p: Point) -> bool
     ensures { IsTrue result ↔ (pos 0 <ℤ orientation a b c p) }
 {
-    orient(a, b, c, p) > 0
+    orient(a, p, b, c) > 0
 }
 
 // Of the one that leads so far and the next, both above the plane of the three, the one that leads then.
-fn leader(a: Point, b: Point, c: Point, best: Option<Point>, next: Point) -> Point
+fn leader(a: Point, b: Point, c: Point, best: Option<Ball>, next: Point) -> Ball
     requires above { pos 0 <ℤ orientation a b c next }
-    requires best { IfSome best (λ d. (pos 0 <ℤ orientation a b c d) × (d ≢ next)) }
-    ensures { result ≡ leader_of a b c best next }
+    requires best { IfSome best (λ ball. IsBallOf a b c ball × (ball.last ≢ next)) }
+    ensures leads { result.last ≡ leader_of a b c (last_of best) next }
+    ensures ball { IsBallOf a b c result }
 {
     match best {
-        Some(d) => { if outside(a, b, c, d, next) { d } else { next } }
-        None => next,
+        Some(ball) if ball.has_outside(a, b, c, next) => ball,
+        _ => Ball::through(a, b, c, next),
     }
 }
 
@@ -40,5 +44,8 @@ pub(crate) fn apex_over(points: &[Point], a: Point, b: Point, c: Point) -> Optio
             best = Some(leader(a, b, c, best, *p));
         }
     }
-    best
+    match best {
+        Some(ball) => Some(ball.last),
+        None => None,
+    }
 }

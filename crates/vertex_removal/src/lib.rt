@@ -20,6 +20,7 @@
 #![tactic(auto)]
 
 mod apex;
+mod ball;
 pub mod laws;
 mod near;
 mod refill;

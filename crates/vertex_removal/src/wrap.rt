@@ -32,11 +32,48 @@ const MOST_POINTS: usize = 256;
 
 const MOST_CELLS: usize = 1024;
 
+// Odd numbers that make one number of the three points of a facet.
+const FIRST: u64 = 0x9E37_79B9_7F4A_7C15;
+
+const SECOND: u64 = 0xC2B2_AE3D_27D4_EB4F;
+
+const THIRD: u64 = 0x1656_67B1_9E37_79F9;
+
 // A facet that was met from one side, and whether the next cell lies above it, where its orientation is positive.
 #[derive(Clone, Copy)]
 pub(crate) struct Side {
     facet: Facet,
     up: bool,
+    number: u32,
+}
+
+// A number for the facet, which hardly another one has.
+fn number_of(facet: &Facet) -> u32 {
+    match facet {
+        Facet::Three(tri) => {
+            let (a, b, c) = tri.corners();
+            let (a, b, c) = (
+                a.key().wrapping_mul(FIRST),
+                b.key().wrapping_mul(SECOND),
+                c.key().wrapping_mul(THIRD),
+            );
+            (a.wrapping_add(b).wrapping_add(c) >> 32) as u32
+        }
+        Facet::Two(_) => 0,
+    }
+}
+
+impl Side {
+    // The side of a facet.
+    fn new(facet: Facet, up: bool) -> Side
+        ensures { result.facet ≡ facet }
+    {
+        Side {
+            facet,
+            up,
+            number: number_of(&facet),
+        }
+    }
 }
 
 // Whether the point lies above a triple.
@@ -74,7 +111,7 @@ fn sides_of_hole(alloc: Global, star: &[Cell], v: Point) -> Result<Option<Vec<Si
         match triple_against(cell, v) {
             Some(facet) => {
                 let up = is_above(&facet, v);
-                sides.push(Side { facet, up })?;
+                sides.push(Side::new(facet, up))?;
             }
             None => return Ok(None),
         }
@@ -124,22 +161,25 @@ fn are_same(q: &Tri, r: &Tri) -> bool
     b == y && a == x && c == z
 }
 
-// Whether the side is that of the facet, which is a triple.
-fn is_side_of(side: &Side, facet: &Facet) -> bool
-    ensures { IsTrue result → side.now.facet ≡ facet.now }
+// Whether the two are sides of one facet, which is a triple.
+fn are_of_one(one: &Side, other: &Side) -> bool
+    ensures { IsTrue result → one.now.facet ≡ other.now.facet }
 {
-    match (&side.facet, facet) {
+    if one.number != other.number {
+        return false;
+    }
+    match (&one.facet, &other.facet) {
         (Facet::Three(q), Facet::Three(r)) => are_same(q, r),
         _ => false,
     }
 }
 
-// The place of a side of the facet, if there is one.
-fn place_of(sides: &[Side], facet: &Facet) -> Option<usize>
-    ensures { IfSome result (λ i. IsPlaceOf sides.now facet.now i) }
+// The place of the other side of the facet, if there is one.
+fn place_of(sides: &[Side], side: &Side) -> Option<usize>
+    ensures { IfSome result (λ i. IsPlaceOf sides.now side.now.facet i) }
 {
-    for (i, side) in sides.iter().enumerate() {
-        if is_side_of(side, facet) {
+    for (i, other) in sides.iter().enumerate() {
+        if are_of_one(other, side) {
             return Some(i);
         }
     }
@@ -150,7 +190,7 @@ fn place_of(sides: &[Side], facet: &Facet) -> Option<usize>
 fn meet(sides: &mut Vec<Side>, side: Side) -> Result<(), AllocError>
     ensures { OnOk result (AreMet (side.facet ∷ []) sides.old.items sides.new.items) }
 {
-    match place_of(sides, &side.facet) {
+    match place_of(sides, &side) {
         Some(i) => {
             let _ = sides.swap_remove(i);
             Ok(())
@@ -162,31 +202,33 @@ fn meet(sides: &mut Vec<Side>, side: Side) -> Result<(), AllocError>
     }
 }
 
-// Whether no point of the cell lies above the facet.
-fn is_below(cell: &Cell, facet: &Facet) -> bool {
-    for p in cell.points() {
-        if is_above(facet, *p) {
-            return false;
+// Whether the cell lies below its first facet.
+fn is_below_first(cell: &Cell) -> bool {
+    match cell {
+        Cell::Full(quad) => {
+            let (a, b, c, d) = quad.corners();
+            is_over(a, b, c, d)
         }
+        Cell::Open(_) => false,
     }
-    true
 }
 
-// The facets of a cell are met from its side.
+// The facets of a cell are met from its side. Below and above them in turn it lies.
 fn meet_facets(sides: &mut Vec<Side>, cell: &Cell) -> Result<(), AllocError>
     requires { AreDistinct (facets_of cell.now) }
     ensures { OnOk result (AreMet (facets_of cell.now) sides.old.items sides.new.items) }
 {
     let facets = cell.facets();
+    let mut up = is_below_first(cell);
     for facet in &facets {
-        let up = is_below(cell, facet);
-        meet(sides, Side { facet: *facet, up })?;
+        meet(sides, Side::new(*facet, up))?;
+        up = !up;
     }
     Ok(())
 }
 
 // Whether the cell is one of those.
-fn is_among(cells: &[Cell], cell: &Cell) -> bool
+pub(crate) fn is_among(cells: &[Cell], cell: &Cell) -> bool
     ensures { IsTrue result ↔ IsIn cell.now cells.now }
 {
     for other in cells {

@@ -15,9 +15,16 @@ returns c a l =
     let faces = c.args.own.now.faces.now in
     let t = λ (x : ℕ) (f : Facet). is_listed_around (small_among x faces.triples) c.args.pair.now f in
     let cell = c.index-cells-number.result in
-    let same : cell ≡ cell_at faces.cells c.args.number = c.index-cells-number.is ∙ ap (λ (v : List Cell). get_or v c.args.number cell) c.cells.ensures ∙ get_or_default faces.cells c.args.number cell (Full []) c.requires.number in
+    let same : cell ≡ cell_at faces.cells c.args.number =
+    c.index-cells-number.is ∙ ap (λ (v : List Cell). get_or v c.args.number cell) c.cells.ensures
+    ∙ get_or_default faces.cells c.args.number cell (Full []) c.requires.number in
     let four : length c.facets-facets.result ≡ 4 = search rules in
     let facets = c.facets-facets.ensures ∙ ap facets_of same in
     ap (λ (v : List Facet). list_any (t a) v) (sym facets)
-    ∙ facets_least t c.facets-facets.result c.index-facets-0.result c.index-facets-1.result c.index-facets-2.result c.index-facets-3.result c.facet_least-first.result c.facet_least-second.result c.facet_least-third.result c.facet_least-fourth.result four c.facet_least-first.ensures c.facet_least-second.ensures c.facet_least-third.ensures c.facet_least-fourth.ensures a l
-    ∙ ap (λ n. nat_le n a) (sym (c.min-3.ensures ∙ ap (λ n. min c.facet_least-first.result n) (c.min-2.ensures ∙ ap (λ n. min c.facet_least-second.result n) c.min.ensures)))
+    ∙ facets_least t c.facets-facets.result c.index-facets-0.result c.index-facets-1.result c.index-facets-2.result
+    c.index-facets-3.result c.facet_least-first.result c.facet_least-second.result c.facet_least-third.result
+    c.facet_least-fourth.result four c.facet_least-first.ensures c.facet_least-second.ensures
+    c.facet_least-third.ensures c.facet_least-fourth.ensures a l
+    ∙ ap (λ n. nat_le n a) (sym (c.min-3.ensures
+    ∙ ap (λ n. min c.facet_least-first.result n)
+    (c.min-2.ensures ∙ ap (λ n. min c.facet_least-second.result n) c.min.ensures)))

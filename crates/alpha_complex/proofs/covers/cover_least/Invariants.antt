@@ -6,4 +6,5 @@ use Rattle.alpha_complex.proofs.covers.cover_least.Given as goal
 
 abbrev pub invariant-loop-number : goal.invariant-loop-number
 invariant-loop-number l =
-    AnyLeft (λ a. covers (small_among a l.own.faces.now.triples) l.pair) (cell_at l.own.faces.now.cells) l.around l.number-index l.least
+    AnyLeft (λ a. covers (small_among a l.own.faces.now.triples) l.pair) (cell_at l.own.faces.now.cells) l.around
+    l.number-index l.least

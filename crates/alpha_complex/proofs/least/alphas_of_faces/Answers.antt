@@ -10,6 +10,7 @@ returns g c =
     let part = c.args.part in
     let faces = c.args.own.now.faces.now in
     faces_written part faces none _ _ _ _
-    c.deref_mut.ensures.value c.deref_mut.ensures.len (c.in_ok-alphas.ensures.len ∙ c.count_of.ensures) c.par_for_each_mut.auto.s (λ i l.
+    c.deref_mut.ensures.value c.deref_mut.ensures.len (c.in_ok-alphas.ensures.len ∙ c.count_of.ensures)
+    c.par_for_each_mut.auto.s (λ i l.
     let at = (c.par_for_each_mut.ensures i none l).1 in
     subst (AreAlphasAt part faces i) at.left at.call)

@@ -20,15 +20,23 @@ returns c =
     let itself = λ (a : ℕ). is_small_by a g in
     let cover = λ (a : ℕ). list_any (covers (small_among a faces.triples) g.0) g.1 in
     let around = c.pair-pair.result.1.now in
-    let told : IsLeastOf (λ a. is_small_by a (c.points.result.now, numbered c.cells.result.now around)) c.own_least-itself.result = c.own_least-itself.ensures in
-    let placed = subst (λ (v : List Cell). IsLeastOf (λ a. is_small_by a (c.points.result.now, numbered v around)) c.own_least-itself.result) c.cells.ensures told in
-    let mine = subst (λ (v : List ℕ). IsLeastOf (λ a. is_small_by a (v, numbered faces.cells around)) c.own_least-itself.result) c.points.ensures.points placed in
-    let rest = either_least itself cover c.own_least-itself.result c.cover_least-cover.result mine c.cover_least-cover.ensures in
-    let all = either_least small (λ a. itself a || cover a) c.some_least-regular.result (min c.own_least-itself.result c.cover_least-cover.result) c.some_least-regular.ensures rest in
+    let told : IsLeastOf (λ a. is_small_by a (c.points.result.now, numbered c.cells.result.now around))
+    c.own_least-itself.result = c.own_least-itself.ensures in
+    let placed = subst (λ (v : List Cell). IsLeastOf (λ a. is_small_by a (c.points.result.now, numbered v around))
+    c.own_least-itself.result) c.cells.ensures told in
+    let mine = subst (λ (v : List ℕ). IsLeastOf (λ a. is_small_by a (v, numbered faces.cells around))
+    c.own_least-itself.result) c.points.ensures.points placed in
+    let rest = either_least itself cover c.own_least-itself.result c.cover_least-cover.result mine
+    c.cover_least-cover.ensures in
+    let all = either_least small (λ a. itself a || cover a) c.some_least-regular.result
+    (min c.own_least-itself.result c.cover_least-cover.result) c.some_least-regular.ensures rest in
     let sum = c.min-2.ensures ∙ ap (λ n. min c.some_least-regular.result n) c.min.ensures in
     let whole = subst (λ n. IsLeastOf (λ a. small a || (itself a || cover a)) n) (sym sum) all in
     record {
-      admitted = subst (λ (v : List ℕ × List Cell). IsLeastOf (λ a. is_admitted_pair faces.triples a v) c.min-2.result) f whole;
-      regular = subst (λ (v : List ℕ × List Cell). IsLeastOf (λ a. list_any (is_small_cell a) v.1) c.some_least-regular.result) f c.some_least-regular.ensures;
-      interior = subst (λ (v : List ℕ × List Cell). IsLeastOf (λ a. list_all (is_small_cell a) v.1) c.all_least.result) f c.all_least.ensures;
+      admitted = subst (λ (v : List ℕ × List Cell). IsLeastOf (λ a. is_admitted_pair faces.triples a v) c.min-2.result)
+      f whole;
+      regular = subst (λ (v : List ℕ × List Cell). IsLeastOf (λ a. list_any (is_small_cell a) v.1)
+      c.some_least-regular.result) f c.some_least-regular.ensures;
+      interior = subst (λ (v : List ℕ × List Cell). IsLeastOf (λ a. list_all (is_small_cell a) v.1) c.all_least.result)
+      f c.all_least.ensures;
     }

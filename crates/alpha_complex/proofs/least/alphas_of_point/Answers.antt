@@ -13,6 +13,8 @@ returns c =
     let f = c.point.ensures.face ∙ get_or_default points c.args.index _ (0, []) c.requires.index in
     record {
       admitted = always_least (λ a. true) (λ a. refl);
-      regular = subst (λ (v : ℕ × List Cell). IsLeastOf (λ a. list_any (is_small_cell a) v.1) c.some_least.result) f c.some_least.ensures;
-      interior = subst (λ (v : ℕ × List Cell). IsLeastOf (λ a. list_all (is_small_cell a) v.1) c.all_least.result) f c.all_least.ensures;
+      regular = subst (λ (v : ℕ × List Cell). IsLeastOf (λ a. list_any (is_small_cell a) v.1) c.some_least.result) f
+      c.some_least.ensures;
+      interior = subst (λ (v : ℕ × List Cell). IsLeastOf (λ a. list_all (is_small_cell a) v.1) c.all_least.result) f
+      c.all_least.ensures;
     }

@@ -11,6 +11,7 @@ returns g c =
     let triples = c.args.faces.now.triples in
     let many = ap length c.triples.ensures ∙ length-map triples (λ (f : List ℕ × List Cell). f.0) in
     zip_written (λ x n. IsLeastOf (λ a. is_small_by a x) n) ([], []) 0 triples _ _ _ _
-    c.deref_mut.ensures.value c.deref_mut.ensures.len (c.in_ok-leasts.ensures.len ∙ many) c.par_for_each_mut.auto.s (λ i l.
+    c.deref_mut.ensures.value c.deref_mut.ensures.len (c.in_ok-leasts.ensures.len ∙ many) c.par_for_each_mut.auto.s
+    (λ i l.
     let at = (c.par_for_each_mut.ensures i 0 l).1 in
     subst (IsLeastOf (λ a. is_small_by a (face_at triples i))) at.left at.call)

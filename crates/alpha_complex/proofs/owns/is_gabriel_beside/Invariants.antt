@@ -7,4 +7,5 @@ use Rattle.alpha_complex.proofs.owns.is_gabriel_beside.Given as goal
 
 abbrev pub invariant-loop-number : goal.invariant-loop-number
 invariant-loop-number l =
-    is_gabriel (link_of l.face (numbered l.cells (drop l.number-index l.around))) l.face ≡ is_gabriel (link_of l.face (numbered l.cells l.around)) l.face
+    is_gabriel (link_of l.face (numbered l.cells (drop l.number-index l.around))) l.face ≡ is_gabriel
+    (link_of l.face (numbered l.cells l.around)) l.face

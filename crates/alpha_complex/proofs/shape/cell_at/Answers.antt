@@ -10,4 +10,5 @@ returns c =
     let marks = c.args.marks.now in
     let i = c.args.index in
     let cell = c.index-cells-index.result in
-    c.marked.ensures ∙ ap (λ (v : Cell). marked_cell v (get_or marks i false)) c.index-cells-index.is ∙ cell_slot_at cells marks i cell false c.requires.cells c.requires.marks
+    c.marked.ensures ∙ ap (λ (v : Cell). marked_cell v (get_or marks i false)) c.index-cells-index.is
+    ∙ cell_slot_at cells marks i cell false c.requires.cells c.requires.marks

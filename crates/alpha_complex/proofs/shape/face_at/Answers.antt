@@ -10,4 +10,5 @@ returns g c =
     let kinds = c.args.kinds.now in
     let i = c.args.index in
     let face = c.index-faces-index.result in
-    c.with_kind.ensures ∙ ap (λ (v : F). option_map (λ kind. (v, kind)) (get_or kinds i None)) c.index-faces-index.is ∙ slot_at faces kinds i face None c.requires.faces c.requires.kinds
+    c.with_kind.ensures ∙ ap (λ (v : F). option_map (λ kind. (v, kind)) (get_or kinds i None)) c.index-faces-index.is
+    ∙ slot_at faces kinds i face None c.requires.faces c.requires.kinds

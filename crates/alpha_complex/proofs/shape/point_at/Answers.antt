@@ -12,4 +12,6 @@ returns c =
     let i = c.args.index in
     let p = c.index-points-index.result in
     let k : Kind = get_or kinds i Singular in
-    ap (λ (v : ℕ). (v, k)) c.index-points-index.is ∙ ap (λ (v : Kind). (get_or points i p, v)) (get_or_default kinds i Singular k c.requires.kinds) ∙ zip_item points kinds i p k c.requires.points c.requires.kinds
+    ap (λ (v : ℕ). (v, k)) c.index-points-index.is
+    ∙ ap (λ (v : Kind). (get_or points i p, v)) (get_or_default kinds i Singular k c.requires.kinds)
+    ∙ zip_item points kinds i p k c.requires.points c.requires.kinds

@@ -22,7 +22,8 @@ pub loop-index-preserved : goal.loop-index-preserved
 loop-index-preserved g c =
     let list = c.args.list.now in
     let within = below_end _ _ _ c.loop-index-test.true c.pair_count-index-end.ensures in
-    goes_on (λ (xs : List (List ℕ × Threshold)). concat (map (step_line c.args.indices.now) xs)) (step_line c.args.indices.now)
+    goes_on (λ (xs : List (List ℕ × Threshold)). concat (map (step_line c.args.indices.now) xs))
+    (step_line c.args.indices.now)
     (λ x xs. refl) list.pairs c.loop-index.index
     _ within (own_item ([], Never) list.pairs c.loop-index.index within) c.loop-index.invariant
     c.put_pair.ensures

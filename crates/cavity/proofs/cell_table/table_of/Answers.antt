@@ -9,12 +9,15 @@ loop-i-init c = marked_none c.args.mask c.resize.new.self.items (omega (arith, c
 
 pub loop-i-preserved : goal.loop-i-preserved
 loop-i-preserved c =
-    marked_next c.args.mask c.loop-i.marks.items c.put.new.marks.items c.args.goes.now c.loop-i.i c.index-goes-i.result c.loop-i-test.true c.index-goes-i.is
+    marked_next c.args.mask c.loop-i.marks.items c.put.new.marks.items c.args.goes.now c.loop-i.i c.index-goes-i.result
+    c.loop-i-test.true c.index-goes-i.is
     c.loop-i.invariant c.put.ensures.kept c.put.ensures.longer
-    (subst (λ home. IsReached c.put.new.marks.items home (Gone c.loop-i.i)) (c.home_of.ensures.home ∙ ap (cell_home c.args.mask) c.cell.ensures) c.in_ok-put.ensures.reached)
+    (subst (λ home. IsReached c.put.new.marks.items home (Gone c.loop-i.i))
+    (c.home_of.ensures.home ∙ ap (cell_home c.args.mask) c.cell.ensures) c.in_ok-put.ensures.reached)
 
 pub loop-i-2-init : goal.loop-i-2-init
-loop-i-2-init c = marked_all c.args.mask c.loop-i.marks.items c.args.goes.now c.loop-i.i c.loop-i-test.false c.loop-i.invariant
+loop-i-2-init c = marked_all c.args.mask c.loop-i.marks.items c.args.goes.now c.loop-i.i c.loop-i-test.false
+    c.loop-i.invariant
 
 pub loop-i-2-preserved : goal.loop-i-2-preserved
 loop-i-2-preserved c =

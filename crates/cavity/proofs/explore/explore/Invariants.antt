@@ -11,6 +11,8 @@ use Rattle.cavity.proofs.explore.explore.Given as goal
 abbrev pub invariant-loop-facet : goal.invariant-loop-facet
 invariant-loop-facet l =
     ((more : List Cell) × (l.judged.goes ≡ l.initial.judged.goes ++ more))
-    × ((s : List ℕ) → Shows l.hold s → (crossed : List Facet) → IsAt s l.point crossed l.cell l.initial.judged.goes l.initial.rim.items →
-    AreUncrossed s l.point crossed (facets_of l.cell) → AreCrossed s l.point (crossed ++ take l.facet-index l.facet-items) l.judged.goes l.rim.items)
+    × ((s : List ℕ) → Shows l.hold s → (crossed : List Facet) →
+    IsAt s l.point crossed l.cell l.initial.judged.goes l.initial.rim.items →
+    AreUncrossed s l.point crossed (facets_of l.cell) →
+    AreCrossed s l.point (crossed ++ take l.facet-index l.facet-items) l.judged.goes l.rim.items)
     × AreBehind l.judged.stays l.rim.items

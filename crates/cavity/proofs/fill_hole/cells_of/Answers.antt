@@ -6,11 +6,14 @@ use Rattle.cavity.proofs.Filling.{fresh_more}
 use Rattle.cavity.proofs.fill_hole.cells_of.Goals as goal
 
 pub cell_of-requires : goal.cell_of-requires
-cell_of-requires c = c.requires c.facet-item.result (at_place c.args.facets.now c.loop-facet.facet-index c.facet-item.result c.facet-item.result c.loop-facet-test.true c.facet-item.is)
+cell_of-requires c = c.requires c.facet-item.result
+    (at_place c.args.facets.now c.loop-facet.facet-index c.facet-item.result c.facet-item.result c.loop-facet-test.true
+    c.facet-item.is)
 
 pub loop-facet-preserved : goal.loop-facet-preserved
 loop-facet-preserved c =
-    fresh_more c.args.p c.args.facets.now c.loop-facet.facet-index c.facet-item.result c.cell_of.result c.loop-facet.cells.items c.push.new.self.items
+    fresh_more c.args.p c.args.facets.now c.loop-facet.facet-index c.facet-item.result c.cell_of.result
+    c.loop-facet.cells.items c.push.new.self.items
     c.loop-facet-test.true c.facet-item.is c.cell_of.ensures c.loop-facet.invariant c.in_ok-push.ensures.items
 
 pub returns : goal.returns

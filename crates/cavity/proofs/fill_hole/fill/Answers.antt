@@ -7,4 +7,10 @@ cells_of-requires c =
 
 pub returns-clause-filled : goal.returns-clause-filled
 returns-clause-filled c s k =
-    rw (c.in_ok-gone.ensures, c.found.ensures, c.in_ok-fresh.ensures, c.rim.ensures, c.point.ensures) (filled s c.args.dig.now k)
+    rw (
+      c.in_ok-gone.ensures,
+      c.found.ensures,
+      c.in_ok-fresh.ensures,
+      c.rim.ensures,
+      c.point.ensures,
+    ) (filled s c.args.dig.now k)

@@ -20,10 +20,12 @@ loop-p-preserved c =
     let list = c.loop-p.list.items in
     let x = c.p-item.result in
     elim c.if-bucket_of-number.branch [
-      | then-bucket_of-number+in_ok-push w ↦ subst (λ (l : List ℕ). Gathered R ps (n + 1) old l) (sym (ap (λ v. v.items) w.list-is))
+      | then-bucket_of-number+in_ok-push w ↦ subst (λ (l : List ℕ). Gathered R ps (n + 1) old l)
+          (sym (ap (λ v. v.items) w.list-is))
           (here_more c.args.grid c.args.number ps n old list w.push.new.self.items x c.loop-p-test.true c.p-item.is
           (sym c.bucket_of.ensures.number ∙ w.if-bucket_of-number.true) w.in_ok-push.ensures.items c.loop-p.invariant)
-      | else-bucket_of-number w ↦ subst (λ (l : List ℕ). Gathered R ps (n + 1) old l) (sym (ap (λ v. v.items) w.list-is))
+      | else-bucket_of-number w ↦ subst (λ (l : List ℕ). Gathered R ps (n + 1) old l)
+          (sym (ap (λ v. v.items) w.list-is))
           (here_not c.args.grid c.args.number ps n old list x c.loop-p-test.true c.p-item.is
           (λ e. w.if-bucket_of-number.false (c.bucket_of.ensures.number ∙ e)) c.loop-p.invariant)
     ]
@@ -32,5 +34,6 @@ pub returns : goal.returns
 returns c =
     let R = StandsHere c.args.grid c.args.number in
     subst (λ (l : List ℕ). Gathers R l c.args.list.now.items c.loop-p.list.items) c.points-p-items.ensures.points
-    (gathers R c.points-p-items.result.now c.loop-p.p-index c.args.list.now.items c.loop-p.list.items c.loop-p-test.false
+    (gathers R c.points-p-items.result.now c.loop-p.p-index c.args.list.now.items c.loop-p.list.items
+    c.loop-p-test.false
     c.loop-p.invariant)

@@ -1,4 +1,20 @@
-use Rattle.std.proofs.Common.{refl, ℕ, List, subst, ap, sym, ◌∙◌, ◌<◌, length, slice_index_or, slice_set, [], ◌∷◌, ◌++◌, ◌≡◌}
+use Rattle.std.proofs.Common.{
+  refl,
+  ℕ,
+  List,
+  subst,
+  ap,
+  sym,
+  ◌∙◌,
+  ◌<◌,
+  length,
+  slice_index_or,
+  slice_set,
+  [],
+  ◌∷◌,
+  ◌++◌,
+  ◌≡◌,
+}
 use Rattle.list_laws.proofs.Cited.{within_list}
 use Rattle.cell_stars.proofs.AtOnce.{gains_found}
 use Rattle.cell_stars.proofs.KeyLaws.{at_key, no_key}
@@ -24,7 +40,8 @@ returns c =
     let new = c.push_place.new.star in
     let e = c.index-keys-at.is in
     let h = c.requires.keyed.within k (at_key keys c.in-Ok.at k c.in-Ok.ensures.0 e).0 in
-    let there : s ≡ slice_index_or old k.1 s = subst (λ (m : ℕ × ℕ). s ≡ slice_index_or old m.1 s) (sym e) c.index-stars-keys.is in
+    let there : s ≡ slice_index_or old k.1 s =
+    subst (λ (m : ℕ × ℕ). s ≡ slice_index_or old m.1 s) (sym e) c.index-stars-keys.is in
     gains_found keys old (slice_set old (slice_index_or keys c.in-Ok.at k).1 new) c.args.p c.args.i c.in-Ok.at k s
     c.requires.keyed c.in-Ok.ensures e (sym (within_list old k.1 s (0, []) h there))
     (ap (λ (m : ℕ × ℕ). slice_set old m.1 new) (sym e) ∙ ap (slice_set old k.1) c.in_ok-push_place-in-Ok.ensures

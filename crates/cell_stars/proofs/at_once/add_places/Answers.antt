@@ -8,7 +8,8 @@ use Rattle.cell_stars.proofs.at_once.add_places.Goals.{then-bucket_of-number+in_
 use Rattle.cell_stars.proofs.at_once.add_places.Goals as goal
 
 pub loop-p-init : goal.loop-p-init
-loop-p-init c = first_none c.args.grid c.args.number c.args.keys.now c.points-p-items.result.now c.args.i c.args.stars.now c.requires.keyed
+loop-p-init c = first_none c.args.grid c.args.number c.args.keys.now c.points-p-items.result.now c.args.i
+    c.args.stars.now c.requires.keyed
 
 pub add_place-requires-clause-key : goal.add_place-requires-clause-key
 add_place-requires-clause-key c =
@@ -32,7 +33,8 @@ loop-p-preserved c =
     let mid = c.loop-p.stars in
     let x = c.p-item.result in
     elim c.if-bucket_of-number.branch [
-      | then-bucket_of-number+in_ok-add_place w ↦ subst (GainsPlaces keys (FirstHere g b ps (n + 1) i) old) (sym w.stars-is)
+      | then-bucket_of-number+in_ok-add_place w ↦ subst (GainsPlaces keys (FirstHere g b ps (n + 1) i) old)
+          (sym w.stars-is)
           (first_more g b keys ps n i x old mid w.add_place.new.stars c.loop-p-test.true c.p-item.is
           (sym c.bucket_of.ensures.number ∙ w.if-bucket_of-number.true) c.loop-p.invariant w.in_ok-add_place.ensures)
       | else-bucket_of-number w ↦ subst (GainsPlaces keys (FirstHere g b ps (n + 1) i) old) (sym w.stars-is)
@@ -42,5 +44,6 @@ loop-p-preserved c =
 
 pub returns : goal.returns
 returns c =
-    first_all c.args.grid c.args.number c.args.keys.now c.args.cell.now c.points-p-items.result.now c.loop-p.p-index c.args.i
+    first_all c.args.grid c.args.number c.args.keys.now c.args.cell.now c.points-p-items.result.now c.loop-p.p-index
+    c.args.i
     c.args.stars.now c.loop-p.stars c.points-p-items.ensures.points c.loop-p-test.false c.loop-p.invariant

@@ -6,4 +6,5 @@ use Rattle.cell_stars.specs.Places.{at}
 use Rattle.cell_stars.proofs.moves.none_has.Given as goal
 
 abbrev pub invariant-loop-i : goal.invariant-loop-i
-invariant-loop-i l = (i : ℕ) → IsIn i (take l.i-index l.star) → (c : Cell) → at l.slots i ≡ Some c → IsIn l.p (points_of c) → ⊥
+invariant-loop-i l = (i : ℕ) → IsIn i (take l.i-index l.star) → (c : Cell) → at l.slots i ≡ Some c →
+    IsIn l.p (points_of c) → ⊥

@@ -27,4 +27,7 @@ loop-n-preserved c =
     ∷ []) c.new-in-loop-n.ensures c.in_ok-push-2.ensures.items) c.loop-n.invariant
 
 pub returns : goal.returns
-returns c = changes_are c.args.moves.now.freed.items c.deref-i-items.result.now c.args.moves.now.placed.items c.deref-n-items.result.now c.loop-i.i-index c.loop-n.n-index c.loop-i.list.items c.loop-n.list.items c.deref-i-items.ensures.value c.deref-n-items.ensures.value c.loop-i-test.false c.loop-n-test.false c.loop-i.invariant c.loop-n.invariant
+returns c = changes_are c.args.moves.now.freed.items c.deref-i-items.result.now c.args.moves.now.placed.items
+    c.deref-n-items.result.now c.loop-i.i-index c.loop-n.n-index c.loop-i.list.items c.loop-n.list.items
+    c.deref-i-items.ensures.value c.deref-n-items.ensures.value c.loop-i-test.false c.loop-n-test.false
+    c.loop-i.invariant c.loop-n.invariant

@@ -1,5 +1,4 @@
-use Rattle.std.proofs.Common.{◌∙◌, sym, ap}
-use Rattle.cell_store.proofs.WholeLaws.{all_empty, empty_more, length_vec}
+use Rattle.cell_store.proofs.WholeLaws.{all_empty, empty_more}
 use Rattle.cell_store.proofs.whole.empty_lists.Goals as goal
 
 pub loop-preserved : goal.loop-preserved

@@ -1,4 +1,4 @@
-use Rattle.std.proofs.Common.{refl, ◌∙◌, ap, sym}
+use Rattle.std.proofs.Common.{refl, ◌∙◌, ap}
 use Rattle.edit_history.specs.Edits.{point_of}
 use Rattle.edit_history.specs.declared.history.Entry.{Entry}
 use Rattle.cell_store.specs.Grids.{bucket_of}
@@ -14,9 +14,11 @@ loop-entry-init c =
 pub loop-entry-preserved : goal.loop-entry-preserved
 loop-entry-preserved c =
     parted_more c.args.grid (is_noted_at c.args.grid) (λ (e : Entry). bucket_of c.args.grid (point_of e.edit))
-    c.args.entries.now c.loop-entry.entry-index c.bucket_of.result c.entry-item.result (lists_in c.loop-entry.lists.items)
+    c.args.entries.now c.loop-entry.entry-index c.bucket_of.result c.entry-item.result
+    (lists_in c.loop-entry.lists.items)
     (lists_in c.push_at.new.lists.items) (λ k. refl) c.loop-entry-test.true c.entry-item.is
-    (c.bucket_of.ensures.number ∙ ap (bucket_of c.args.grid) c.point.ensures) c.loop-entry.invariant c.in_ok-push_at.ensures
+    (c.bucket_of.ensures.number ∙ ap (bucket_of c.args.grid) c.point.ensures) c.loop-entry.invariant
+    c.in_ok-push_at.ensures
 
 pub returns : goal.returns
 returns c =

@@ -8,11 +8,13 @@ loop-place-init c =
 
 pub loop-place-preserved : goal.loop-place-preserved
 loop-place-preserved c =
-    cells_more c.args.grid c.args.cells.now c.loop-place.place c.index-cells-place.result (lists_in c.loop-place.lists.items)
+    cells_more c.args.grid c.args.cells.now c.loop-place.place c.index-cells-place.result
+    (lists_in c.loop-place.lists.items)
     (lists_in c.push_place.new.lists.items) c.loop-place-test.true c.index-cells-place.is c.loop-place.invariant
     c.in_ok-push_place.ensures
 
 pub returns : goal.returns
 returns c =
-    cells_all c.args.grid c.args.cells.now c.loop-place.place (lists_in c.loop-place.lists.items) c.loop-place-test.false
+    cells_all c.args.grid c.args.cells.now c.loop-place.place (lists_in c.loop-place.lists.items)
+    c.loop-place-test.false
     c.loop-place.invariant

@@ -1,4 +1,4 @@
-use Rattle.std.proofs.Common.{refl, ◌∙◌, sym}
+use Rattle.std.proofs.Common.{refl}
 use Rattle.cell_store.specs.Grids.{bucket_of}
 use Rattle.cell_store.specs.Wholes.{lies_at}
 use Rattle.cell_store.proofs.WholeLaws.{lists_in, parted_all, parted_more, parted_none}

@@ -1,12 +1,12 @@
-use Rattle.std.proofs.Common.{◌≡◌, sym, ◌∙◌, ap, subst, arith, ◌+◌, ◌≤◌, ◌<◌, ℕ, zero, suc, length, List, refl}
-use Rattle.std.specs.Prelude.{[], take, map, ◌++◌, ◌∷◌, slice_index_or}
+use Rattle.std.proofs.Common.{◌≡◌, sym, ◌∙◌, ap, subst, arith, ◌+◌, ◌≤◌, ◌<◌, ℕ, zero, suc, length, List}
+use Rattle.std.specs.Prelude.{[], take, ◌++◌, ◌∷◌, slice_index_or}
 use Rattle.std.specs.List.{enumerate_from}
 use Rattle.std.proofs.lemmas.List.{length-map, take_all}
 use Rattle.std.proofs.lemmas.List.FromFn.{length-enumerate_from}
 use Rattle.list_laws.proofs.Cited.{take_next}
 use Rattle.edit_history.specs.declared.history.Edit.{Edit}
-use Rattle.plain_laws.specs.Running.{Pair, dealt_lines, edit_lines}
-use Rattle.edit_workers.specs.Dealing.{lists_of, segments_of}
+use Rattle.plain_laws.specs.Running.{Pair, edit_lines}
+use Rattle.edit_workers.specs.Dealing.{segments_of}
 use Rattle.edit_workers.specs.declared.lists.List as lists
 use Rattle.edit_workers.specs.Cutting.{AreCut}
 use Rattle.edit_workers.proofs.Cuts.{cut_all}

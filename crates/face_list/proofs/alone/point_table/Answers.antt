@@ -11,7 +11,11 @@ pub gather-requires-clause-exact : goal.gather-requires-clause-exact
 gather-requires-clause-exact c = exact_unsigned
 
 pub gather-requires-clause-numbers : goal.gather-requires-clause-numbers
-gather-requires-clause-numbers c = subst (AreItems _) (sym c.in_ok-items.ensures.items) (items_name points_of c.args.cells.now)
+gather-requires-clause-numbers c = subst (AreItems _) (sym c.in_ok-items.ensures.items)
+    (items_name points_of c.args.cells.now)
 
 pub returns-clause-faces : goal.returns-clause-faces
-returns-clause-faces c = IfOk-weaker c.gather.result _ _ (λ t g. points_gathered c.args.cells.now t c.in_ok-items.ensures.ascending (subst (λ (l : List (ℕ × ℕ)). Gathers nat_cmp c.args.cells.now l t) c.in_ok-items.ensures.items g)) c.gather.ensures.gathers
+returns-clause-faces c = IfOk-weaker c.gather.result _ _
+    (λ t g. points_gathered c.args.cells.now t c.in_ok-items.ensures.ascending
+    (subst (λ (l : List (ℕ × ℕ)). Gathers nat_cmp c.args.cells.now l t) c.in_ok-items.ensures.items g))
+    c.gather.ensures.gathers

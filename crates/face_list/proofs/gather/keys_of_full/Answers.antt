@@ -18,7 +18,8 @@ loop-key-init g c = record {
 
 pub bounds-cells-number : goal.bounds-cells-number
 bounds-cells-number g c =
-    c.requires.numbers c.loop-key-item.result (subst (λ v. IsIn v c.args.items.now) (sym c.loop-key-item.is) (at_in c.args.items.now c.loop-key.key-index c.loop-key-item.result c.loop-key-test.true))
+    c.requires.numbers c.loop-key-item.result (subst (λ v. IsIn v c.args.items.now) (sym c.loop-key-item.is)
+    (at_in c.args.items.now c.loop-key.key-index c.loop-key-item.result c.loop-key-test.true))
 
 pub put_key-requires-clause-not_before : goal.put_key-requires-clause-not_before
 put_key-requires-clause-not_before g c k i =
@@ -27,7 +28,8 @@ put_key-requires-clause-not_before g c k i =
     let n = c.loop-key.key-index in
     let item = c.loop-key-item.result in
     let f = full_from c.args.cells.now (take n items) k ((c.loop-key.invariant.keys k).0 i) in
-    not_greater cmp (k, f.0) item (subst (λ v. item_cmp cmp (k, f.0) v ≡ Less) (sym c.loop-key-item.is) (before_next (item_cmp cmp) items n item (k, f.0) c.requires.order c.loop-key-test.true f.1))
+    not_greater cmp (k, f.0) item (subst (λ v. item_cmp cmp (k, f.0) v ≡ Less) (sym c.loop-key-item.is)
+    (before_next (item_cmp cmp) items n item (k, f.0) c.requires.order c.loop-key-test.true f.1))
 
 -- the next item is of a Full cell and its key is put, unless it is the last one's, or it is of an Open cell
 pub loop-key-preserved : goal.loop-key-preserved
@@ -37,21 +39,29 @@ loop-key-preserved g c =
     let n = c.loop-key.key-index in
     let item = c.loop-key-item.result in
     let t = take_more items n item c.loop-key-test.true ∙ ap (λ v. take n items ++ v ∷ []) (sym c.loop-key-item.is) in
-    let inside = c.requires.numbers item (subst (λ v. IsIn v items) (sym c.loop-key-item.is) (at_in items n item c.loop-key-test.true)) in
-    let full : c.is_full.result ≡ is_full (cell_at cells item.1) = c.is_full.ensures ∙ ap is_full (cell_is cells item.1 c.index-cells-number.result inside c.index-cells-number.is) in
+    let inside = c.requires.numbers item (subst (λ v. IsIn v items) (sym c.loop-key-item.is)
+    (at_in items n item c.loop-key-test.true)) in
+    let full : c.is_full.result ≡ is_full (cell_at cells item.1) =
+    c.is_full.ensures ∙ ap is_full (cell_is cells item.1 c.index-cells-number.result inside c.index-cells-number.is) in
     elim c.if-is_full.branch [
       | then-is_full+in_ok-put_key w ↦ record {
         order = rw w.keys-is w.in_ok-put_key.ensures.order;
         keys = λ k. rw (w.keys-is, t, full_more cells (take n items) item (sym full ∙ w.if-is_full.true)) (
-          λ i. (in_end (full_keys cells (take n items)) item.0 k).1 (elim ((w.in_ok-put_key.ensures.keys k).0 i) [ inl j ↦ inl ((c.loop-key.invariant.keys k).0 j) | inr e ↦ inr e ]),
-          λ i. (w.in_ok-put_key.ensures.keys k).1 (elim ((in_end (full_keys cells (take n items)) item.0 k).0 i) [ inl j ↦ inl ((c.loop-key.invariant.keys k).1 j) | inr e ↦ inr e ]),
+          λ i. (in_end (full_keys cells (take n items)) item.0 k).1
+          (elim ((w.in_ok-put_key.ensures.keys k).0 i)
+          [ inl j ↦ inl ((c.loop-key.invariant.keys k).0 j) | inr e ↦ inr e ]),
+          λ i. (w.in_ok-put_key.ensures.keys k).1
+          (elim ((in_end (full_keys cells (take n items)) item.0 k).0 i)
+          [ inl j ↦ inl ((c.loop-key.invariant.keys k).1 j) | inr e ↦ inr e ]),
         );
       }
       | else-is_full w ↦ record {
         order = rw w.keys-is c.loop-key.invariant.order;
-        keys = λ k. rw (w.keys-is, t, open_more cells (take n items) item (sym full ∙ w.if-is_full.false)) (c.loop-key.invariant.keys k);
+        keys = λ k. rw (w.keys-is, t, open_more cells (take n items) item (sym full ∙ w.if-is_full.false))
+        (c.loop-key.invariant.keys k);
       }
     ]
 
 pub returns-clause-keys : goal.returns-clause-keys
-returns-clause-keys g c k = rw (take_all c.loop-key.key-index c.args.items.now (omega arith)) at (c.loop-key.invariant.keys k)
+returns-clause-keys g c k = rw (take_all c.loop-key.key-index c.args.items.now (omega arith)) at
+    (c.loop-key.invariant.keys k)

@@ -1,4 +1,9 @@
-use Rattle.face_list.proofs.FullCells.{full_cells_in_order, full_cells_of_complex, full_cell_is_listed, listed_is_full_cell}
+use Rattle.face_list.proofs.FullCells.{
+  full_cells_in_order,
+  full_cells_of_complex,
+  full_cell_is_listed,
+  listed_is_full_cell,
+}
 use Rattle.face_list.proofs.laws.full_cells_in_order.Goals as goal
 
 pub returns-clause-order : goal.returns-clause-order

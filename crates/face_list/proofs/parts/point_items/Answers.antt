@@ -12,9 +12,13 @@ loop-number-preserved c =
     let item = c.index-cells-number.result in
     let t = take_more cells n item c.loop-number-test.true in
     record {
-      items = items_next points_of cells n item item _ _ _ c.loop-number-test.true c.loop-number.invariant.items (sym c.index-cells-number.is) c.points.ensures.points c.in_ok-put.ensures;
-      ascending = rw (t, ← c.index-cells-number.is) (ascending_more (take n cells) item c.loop-number.invariant.ascending (subst IsAscending c.points.ensures.points c.points.ensures.ascending));
+      items = items_next points_of cells n item item _ _ _ c.loop-number-test.true c.loop-number.invariant.items
+      (sym c.index-cells-number.is) c.points.ensures.points c.in_ok-put.ensures;
+      ascending = rw (t, ← c.index-cells-number.is)
+      (ascending_more (take n cells) item c.loop-number.invariant.ascending
+      (subst IsAscending c.points.ensures.points c.points.ensures.ascending));
     }
 
 pub returns-clause-ascending : goal.returns-clause-ascending
-returns-clause-ascending c = rw (take_all c.loop-number.number c.args.cells.now (omega arith)) at c.loop-number.invariant.ascending
+returns-clause-ascending c = rw (take_all c.loop-number.number c.args.cells.now (omega arith)) at
+    c.loop-number.invariant.ascending

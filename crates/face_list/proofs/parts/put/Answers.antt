@@ -12,7 +12,9 @@ returns-in_err-push g c = not_ok _ c.from_residual.result c.from_residual.ensure
 
 pub loop-part-preserved : goal.loop-part-preserved
 loop-part-preserved g c =
-    put_more c.args.number c.args.items.now.items _ _ c.args.parts.now c.loop-part.part-index c.part-item.result c.loop-part-test.true c.part-item.is c.loop-part.invariant c.in_ok-push.ensures.items
+    put_more c.args.number c.args.items.now.items _ _ c.args.parts.now c.loop-part.part-index c.part-item.result
+    c.loop-part-test.true c.part-item.is c.loop-part.invariant c.in_ok-push.ensures.items
 
 pub returns : goal.returns
-returns g c = c.loop-part.invariant ∙ ap (λ v. c.args.items.now.items ++ map (λ p. (p, c.args.number)) v) (take_all c.loop-part.part-index c.args.parts.now c.loop-part-test.false)
+returns g c = c.loop-part.invariant ∙ ap (λ v. c.args.items.now.items ++ map (λ p. (p, c.args.number)) v)
+    (take_all c.loop-part.part-index c.args.parts.now c.loop-part-test.false)

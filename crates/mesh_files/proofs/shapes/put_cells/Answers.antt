@@ -16,9 +16,11 @@ put_cell-requires g c = below_end _ _ _ c.loop-index-test.true c.cell_slots-inde
 pub loop-index-preserved : goal.loop-index-preserved
 loop-index-preserved g c =
     let line = (indices_line c.args.indices.now) in
-    held_goes_on line c.args.shape.now.cells c.loop-index.index _ c.loop-index-test.true c.cell_slots-index-end.ensures c.loop-index.invariant c.put_cell.ensures
+    held_goes_on line c.args.shape.now.cells c.loop-index.index _ c.loop-index-test.true c.cell_slots-index-end.ensures
+    c.loop-index.invariant c.put_cell.ensures
 
 pub returns : goal.returns
 returns g c =
     let line = (indices_line c.args.indices.now) in
-    held_ends line c.args.shape.now.cells c.loop-index.index _ c.loop-index-test.false c.cell_slots-index-end.ensures c.loop-index.invariant
+    held_ends line c.args.shape.now.cells c.loop-index.index _ c.loop-index-test.false c.cell_slots-index-end.ensures
+    c.loop-index.invariant

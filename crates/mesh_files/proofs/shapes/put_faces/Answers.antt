@@ -7,4 +7,5 @@ pub returns : goal.returns
 unfolding face_blocks
 returns g c =
     let points = c.new-indices.ensures ∙ c.points.ensures in
-    then (then (then (rw points at c.put_points.ensures) (rw points at c.put_pairs.ensures)) (rw points at c.put_triples.ensures)) (rw points at c.put_cells.ensures)
+    then (then (then (rw points at c.put_points.ensures) (rw points at c.put_pairs.ensures))
+    (rw points at c.put_triples.ensures)) (rw points at c.put_cells.ensures)

@@ -17,9 +17,11 @@ put_pair-requires g c = below_end _ _ _ c.loop-index-test.true c.pair_slots-inde
 pub loop-index-preserved : goal.loop-index-preserved
 loop-index-preserved g c =
     let line = (λ (f : List ℕ × Kind). face_line c.args.indices.now f.0 f.1) in
-    held_goes_on line c.args.shape.now.pairs c.loop-index.index _ c.loop-index-test.true c.pair_slots-index-end.ensures c.loop-index.invariant c.put_pair.ensures
+    held_goes_on line c.args.shape.now.pairs c.loop-index.index _ c.loop-index-test.true c.pair_slots-index-end.ensures
+    c.loop-index.invariant c.put_pair.ensures
 
 pub returns : goal.returns
 returns g c =
     let line = (λ (f : List ℕ × Kind). face_line c.args.indices.now f.0 f.1) in
-    held_ends line c.args.shape.now.pairs c.loop-index.index _ c.loop-index-test.false c.pair_slots-index-end.ensures c.loop-index.invariant
+    held_ends line c.args.shape.now.pairs c.loop-index.index _ c.loop-index-test.false c.pair_slots-index-end.ensures
+    c.loop-index.invariant

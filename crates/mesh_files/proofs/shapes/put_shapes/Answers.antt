@@ -10,15 +10,21 @@ use Rattle.mesh_files.proofs.shapes.put_shapes.Goals as goal
 pub put_shape-requires : goal.put_shape-requires
 put_shape-requires g c =
     let seen : ℕ × ShapeSlots → ℕ × ShapeParts = λ s. (s.0, shape_seen s.1) in
-    c.requires.ascending (seen c.loop-radius-item.result) (mapped_at seen c.args.shapes.now c.loop-radius.radius-index c.loop-radius-item.result c.loop-radius-test.true c.loop-radius-item.is)
+    c.requires.ascending (seen c.loop-radius-item.result)
+    (mapped_at seen c.args.shapes.now c.loop-radius.radius-index c.loop-radius-item.result c.loop-radius-test.true
+    c.loop-radius-item.is)
 
 pub loop-radius-init : goal.loop-radius-init
 loop-radius-init g c = leaves_all
 
 pub loop-radius-preserved : goal.loop-radius-preserved
 loop-radius-preserved g c =
-    goes_on (λ (xs : List (ℕ × ShapeSlots)). shape_blocks (shapes_seen xs)) (λ (s : ℕ × ShapeSlots). shape_text s.0 (shape_seen s.1)) (λ x xs. refl) c.args.shapes.now c.loop-radius.radius-index c.loop-radius-item.result c.loop-radius-test.true c.loop-radius-item.is c.loop-radius.invariant c.put_shape.ensures
+    goes_on (λ (xs : List (ℕ × ShapeSlots)). shape_blocks (shapes_seen xs))
+    (λ (s : ℕ × ShapeSlots). shape_text s.0 (shape_seen s.1)) (λ x xs. refl) c.args.shapes.now
+    c.loop-radius.radius-index c.loop-radius-item.result c.loop-radius-test.true c.loop-radius-item.is
+    c.loop-radius.invariant c.put_shape.ensures
 
 pub returns : goal.returns
 returns g c =
-    ends (λ (xs : List (ℕ × ShapeSlots)). shape_blocks (shapes_seen xs)) refl c.args.shapes.now c.loop-radius.radius-index c.loop-radius-test.false c.loop-radius.invariant
+    ends (λ (xs : List (ℕ × ShapeSlots)). shape_blocks (shapes_seen xs)) refl c.args.shapes.now
+    c.loop-radius.radius-index c.loop-radius-test.false c.loop-radius.invariant

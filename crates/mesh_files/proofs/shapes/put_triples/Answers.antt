@@ -9,7 +9,8 @@ use Rattle.mesh_files.proofs.shapes.put_triples.Goals as goal
 pub loop-index-init : goal.loop-index-init
 loop-index-init g c =
     let line = (λ (f : List ℕ × Kind). face_line c.args.indices.now f.0 f.1) in
-    held_starts (codes "triangles") line c.args.shape.now.triples c.triple_count.result c.triple_count.ensures c.put_title.ensures
+    held_starts (codes "triangles") line c.args.shape.now.triples c.triple_count.result c.triple_count.ensures
+    c.put_title.ensures
 
 pub put_triple-requires : goal.put_triple-requires
 put_triple-requires g c = below_end _ _ _ c.loop-index-test.true c.triple_slots-index-end.ensures
@@ -17,9 +18,11 @@ put_triple-requires g c = below_end _ _ _ c.loop-index-test.true c.triple_slots-
 pub loop-index-preserved : goal.loop-index-preserved
 loop-index-preserved g c =
     let line = (λ (f : List ℕ × Kind). face_line c.args.indices.now f.0 f.1) in
-    held_goes_on line c.args.shape.now.triples c.loop-index.index _ c.loop-index-test.true c.triple_slots-index-end.ensures c.loop-index.invariant c.put_triple.ensures
+    held_goes_on line c.args.shape.now.triples c.loop-index.index _ c.loop-index-test.true
+    c.triple_slots-index-end.ensures c.loop-index.invariant c.put_triple.ensures
 
 pub returns : goal.returns
 returns g c =
     let line = (λ (f : List ℕ × Kind). face_line c.args.indices.now f.0 f.1) in
-    held_ends line c.args.shape.now.triples c.loop-index.index _ c.loop-index-test.false c.triple_slots-index-end.ensures c.loop-index.invariant
+    held_ends line c.args.shape.now.triples c.loop-index.index _ c.loop-index-test.false
+    c.triple_slots-index-end.ensures c.loop-index.invariant

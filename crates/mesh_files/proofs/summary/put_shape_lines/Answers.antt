@@ -13,8 +13,12 @@ loop-radius-init g c = leaves_all
 
 pub loop-radius-preserved : goal.loop-radius-preserved
 loop-radius-preserved g c =
-    goes_on (λ (xs : List (ℕ × ShapeSlots)). concat (map shape_line (shapes_seen xs))) (λ (s : ℕ × ShapeSlots). shape_line (s.0, shape_seen s.1)) (λ x xs. refl) c.args.shapes.now c.loop-radius.radius-index c.loop-radius-item.result c.loop-radius-test.true c.loop-radius-item.is c.loop-radius.invariant c.put_shape_line.ensures
+    goes_on (λ (xs : List (ℕ × ShapeSlots)). concat (map shape_line (shapes_seen xs)))
+    (λ (s : ℕ × ShapeSlots). shape_line (s.0, shape_seen s.1)) (λ x xs. refl) c.args.shapes.now
+    c.loop-radius.radius-index c.loop-radius-item.result c.loop-radius-test.true c.loop-radius-item.is
+    c.loop-radius.invariant c.put_shape_line.ensures
 
 pub returns : goal.returns
 returns g c =
-    ends (λ (xs : List (ℕ × ShapeSlots)). concat (map shape_line (shapes_seen xs))) refl c.args.shapes.now c.loop-radius.radius-index c.loop-radius-test.false c.loop-radius.invariant
+    ends (λ (xs : List (ℕ × ShapeSlots)). concat (map shape_line (shapes_seen xs))) refl c.args.shapes.now
+    c.loop-radius.radius-index c.loop-radius-test.false c.loop-radius.invariant

@@ -36,7 +36,9 @@ returns-clause-cloud c = record {
   solid = ap is_solid (sym c.deref.ensures.value) ∙ sym c.are_solid.ensures ∙ c.if-not-are_solid.false;
   cells_are = c.in_ok-cells.ensures ∙ ap complex c.deref-2.ensures.value;
   few_points =
-      subst (λ (l : List ℕ). length l < 2 ^ 32) c.deref-3.ensures.value (c.are_few.ensures.points c.if-not-are_few.false);
+      subst (λ (l : List ℕ). length l < 2 ^ 32) c.deref-3.ensures.value
+      (c.are_few.ensures.points c.if-not-are_few.false);
   few_cells =
-      subst (λ (l : List Cell). length l < 2 ^ 32) c.deref-4.ensures.value (c.are_few.ensures.cells c.if-not-are_few.false);
+      subst (λ (l : List Cell). length l < 2 ^ 32) c.deref-4.ensures.value
+      (c.are_few.ensures.cells c.if-not-are_few.false);
 }

@@ -8,8 +8,10 @@ use Rattle.one_mesh.proofs.lists.points.Goals as goal
 
 pub returns-clause-points : goal.returns-clause-points
 returns-clause-points c =
-    points_in c.hold.result.now (replay c.args.mesh.now.history) c.points_in_order.result.items c.hold.ensures.whole (shows_of c.args.mesh.now c.hold.result.now c.hold.ensures) c.points_in_order.ensures.order
-    (subst (λ (l : List ℕ). AreSamePoints l c.points_in_order.result.items) c.in_ok-points.ensures c.points_in_order.ensures.points)
+    points_in c.hold.result.now (replay c.args.mesh.now.history) c.points_in_order.result.items c.hold.ensures.whole
+    (shows_of c.args.mesh.now c.hold.result.now c.hold.ensures) c.points_in_order.ensures.order
+    (subst (λ (l : List ℕ). AreSamePoints l c.points_in_order.result.items) c.in_ok-points.ensures
+    c.points_in_order.ensures.points)
 
 pub returns-clause-ascending : goal.returns-clause-ascending
 returns-clause-ascending c = leaves_set c.args.mesh.now.history

@@ -2,4 +2,5 @@ use Rattle.hanskup.proofs.Cited.{still_snapped}
 use Rattle.tour.proofs.threads.snapped.Goals as goal
 
 pub returns : goal.returns
-returns c = still_snapped c.args.pass.now c.try_snapshot.new.pass c.try_snapshot.result c.try_snapshot.ensures.shown c.try_snapshot.ensures.refused
+returns c = still_snapped c.args.pass.now c.try_snapshot.new.pass c.try_snapshot.result c.try_snapshot.ensures.shown
+    c.try_snapshot.ensures.refused

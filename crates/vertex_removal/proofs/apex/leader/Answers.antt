@@ -1,7 +1,7 @@
 use Rattle.vertex_removal.proofs.Apexes.{apart_two}
 use Rattle.vertex_removal.proofs.apex.leader.Goals as goal
 
-pub outside-requires-clause-distinct : goal.outside-requires-clause-distinct
-outside-requires-clause-distinct c =
+pub has_outside-requires-clause-distinct : goal.has_outside-requires-clause-distinct
+has_outside-requires-clause-distinct c =
     let k = rw c.in-Some.is at c.requires.best in
-    apart_two c.args.a c.args.b c.args.c c.in-Some.d c.args.next k.0 c.requires.above k.1
+    apart_two c.args.a c.args.b c.args.c c.in-Some.ball.last c.args.next k.0.above c.requires.above k.1

@@ -1,4 +1,4 @@
-use Rattle.std.proofs.Common.{sym, subst, List, ◌∷◌, [], take, arith}
+use Rattle.std.proofs.Common.{sym, ◌∙◌, subst, List, ◌∷◌, [], take, arith}
 use Rattle.list_laws.specs.Lists.{AreDistinct}
 use Rattle.list_laws.proofs.Cited.{apart_place, take_next}
 use Rattle.point_order.specs.declared.cell.Facet.{Facet}
@@ -16,5 +16,5 @@ loop-facet-preserved c =
     (sym (take_next facets n f (omega (arith, c.type_inv.facet-items)) c.facet-item.is))
     (one_met (take n facets) f c.args.sides.now.items c.loop-facet.sides.items c.meet.new.sides.items
     (apart_place facets n f once (omega (arith, c.type_inv.facet-items)) c.facet-item.is) c.loop-facet.invariant
-    (subst (λ (g : Facet). AreMet (g ∷ []) c.loop-facet.sides.items c.meet.new.sides.items) (sym c.facet-item.is)
-    c.in_ok-meet.ensures))
+    (subst (λ (g : Facet). AreMet (g ∷ []) c.loop-facet.sides.items c.meet.new.sides.items)
+    (c.new.ensures ∙ sym c.facet-item.is) c.in_ok-meet.ensures))

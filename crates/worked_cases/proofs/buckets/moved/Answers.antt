@@ -14,7 +14,8 @@ returns-clause-stands c =
     let content = content_of c.take-bucket.result in
     let st = c.into_hold-home.ensures.stands in
     let same = c.grid.ensures.grid ∙ ap (λ (x : InHand). x.grid) c.take-bucket.ensures.after in
-    let share = subst (λ (n : ℕ). IsShare n c.args.b h content) (sym same) (st.shares c.args.b content c.take-bucket.ensures.bucket) in
+    let share = subst (λ (n : ℕ). IsShare n c.args.b h content) (sym same)
+    (st.shares c.args.b content c.take-bucket.ensures.bucket) in
     subst (λ (x : InHand). Stands x h) (sym (c.put.ensures ∙ ap (with_bucket c.args.b content) c.in_ok-pass.ensures))
     (put_stands (empty_hold g) c.args.b content h (empty_stands g h (sound_of c.into_hold-home.result h st)) share)
 
@@ -27,9 +28,14 @@ returns-clause-bucket c =
     let content = content_of c.take-bucket.result in
     let same = c.grid.ensures.grid ∙ ap (λ (x : InHand). x.grid) c.take-bucket.ensures.after in
     let size : g ≡ c.args.mesh.grid = same ∙ c.into_hold-home.ensures.grid in
-    let share = subst (λ (n : ℕ). IsShare n b h content) (sym same) (c.into_hold-home.ensures.stands.shares b content c.take-bucket.ensures.bucket) in
-    let one : at_place g b content ≡ share_at g b h = share_is_one g b h (at_place g b content) (record { points = share.points; cells = share.cells; entries = share.entries }) refl in
-    let below : b < length (empty_hold g).places = subst (λ (n : ℕ). b < n) (ap (λ (n : ℕ). n * n * n) (sym size) ∙ sym (length-replicate (g * g * g) None)) c.requires in
+    let share = subst (λ (n : ℕ). IsShare n b h content) (sym same)
+    (c.into_hold-home.ensures.stands.shares b content c.take-bucket.ensures.bucket) in
+    let one : at_place g b content ≡ share_at g b h =
+    share_is_one g b h (at_place g b content) (record { points = share.points; cells = share.cells; entries =
+    share.entries }) refl in
+    let below : b < length (empty_hold g).places =
+    subst (λ (n : ℕ). b < n) (ap (λ (n : ℕ). n * n * n) (sym size) ∙ sym (length-replicate (g * g * g) None)) c.requires
+    in
     ap (λ (x : InHand). bucket_at x.places b) (c.put.ensures ∙ ap (with_bucket b content) c.in_ok-pass.ensures)
     ∙ get_or-set_same (empty_hold g).places b (Some (at_place g b content)) None below
     ∙ ap (λ (x : BucketContent). Some x) one

@@ -9,4 +9,5 @@ use Rattle.worked_cases.proofs.dealing.four_of.Goals as goal
 pub returns-in-Ok : goal.returns-in-Ok
 returns-in-Ok c =
     are_opening c.args.file.now.points.items c.in-Ok.four
-    (subst (λ (l : List ℕ). option_map places (opening_four l) ≡ Some c.in-Ok.four) c.deref.ensures.value c.in-Ok.ensures.found)
+    (subst (λ (l : List ℕ). option_map places (opening_four l) ≡ Some c.in-Ok.four) c.deref.ensures.value
+    c.in-Ok.ensures.found)

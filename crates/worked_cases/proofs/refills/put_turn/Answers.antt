@@ -10,7 +10,8 @@ pub advance-requires-clause-held : goal.advance-requires-clause-held
 advance-requires-clause-held c =
     let hold = c.args.hold.now in
     let begun = IfOk-at_ok (λ (p : ℕ). p ≡ c.args.v) c.in_ok-refill.ensures c.start.ensures in
-    subst (λ (p : ℕ). IsSome (bucket_at hold.places (bucket_of hold.grid p))) (sym begun) (c.is_there.ensures.held c.if-not-is_there.false)
+    subst (λ (p : ℕ). IsSome (bucket_at hold.places (bucket_of hold.grid p))) (sym begun)
+    (c.is_there.ensures.held c.if-not-is_there.false)
 
 pub advance-requires-clause-shown : goal.advance-requires-clause-shown
 advance-requires-clause-shown c =

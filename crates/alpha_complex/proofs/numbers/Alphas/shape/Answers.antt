@@ -13,45 +13,64 @@ use Rattle.alpha_complex.proofs.Shaped.{pair_kinds_are, points_are, triple_kinds
 use Rattle.alpha_complex.proofs.numbers.Alphas.shape.Goals as goal
 
 -- as many kinds as faces
-kind_count : {X : Type 0} (admits : ℕ → X × List Cell → Bool) (faces : List (X × List Cell)) (alphas : List FaceAlphas) {K : Type 0} (f : FaceAlphas → K) (kinds : List K) → AreAlphas admits faces alphas → kinds ≡ map f alphas → length kinds ≡ length faces
-kind_count admits faces alphas f kinds z e = ap length e ∙ length-map alphas f ∙ sym (length_zip (AreAlphasOf admits) faces alphas z)
+kind_count : {X : Type 0} (admits : ℕ → X × List Cell → Bool) (faces : List (X × List Cell)) (alphas : List FaceAlphas)
+    {K : Type 0} (f : FaceAlphas → K) (kinds : List K) → AreAlphas admits faces alphas → kinds ≡ map f alphas →
+    length kinds ≡ length faces
+kind_count admits faces alphas f kinds z e = ap length e ∙ length-map alphas f
+    ∙ sym (length_zip (AreAlphasOf admits) faces alphas z)
 
 pub invariant_of-result : goal.invariant_of-result
 invariant_of-result c =
     let known = c.args.self.now in
     let alpha = c.args.alpha in
     record {
-      points = kind_count is_admitted_point known.faces.now.points known.points.items (λ a. kind_at a alpha) _ c.requires.known.points (c.in_ok-kinds_of_all.ensures ∙ ap (λ (v : List FaceAlphas). map (λ a. kind_at a alpha) v) c.deref.ensures.value);
-      pairs = kind_count (is_admitted_pair known.faces.now.triples) known.faces.now.pairs known.pairs.items (λ a. kind_where a alpha) _ c.requires.known.pairs (c.in_ok-kinds_of_admitted.ensures ∙ ap (λ (v : List FaceAlphas). map (λ a. kind_where a alpha) v) c.deref-2.ensures.value);
-      triples = kind_count is_admitted_triple known.faces.now.triples known.triples.items (λ a. kind_where a alpha) _ c.requires.known.triples (c.in_ok-kinds_of_admitted-2.ensures ∙ ap (λ (v : List FaceAlphas). map (λ a. kind_where a alpha) v) c.deref-3.ensures.value);
-      cells = ap length (c.in_ok-marks.ensures ∙ ap (λ (v : List ℕ). map (λ n. nat_le n alpha) v) c.deref-4.ensures.value) ∙ length-map known.cells.items (λ n. nat_le n alpha) ∙ sym (length_zip (λ x n. IsLeastOf (λ a. is_small_cell a x) n) known.faces.now.cells known.cells.items c.requires.known.cells);
+      points = kind_count is_admitted_point known.faces.now.points known.points.items (λ a. kind_at a alpha) _
+      c.requires.known.points (c.in_ok-kinds_of_all.ensures
+      ∙ ap (λ (v : List FaceAlphas). map (λ a. kind_at a alpha) v) c.deref.ensures.value);
+      pairs = kind_count (is_admitted_pair known.faces.now.triples) known.faces.now.pairs known.pairs.items
+      (λ a. kind_where a alpha) _ c.requires.known.pairs (c.in_ok-kinds_of_admitted.ensures
+      ∙ ap (λ (v : List FaceAlphas). map (λ a. kind_where a alpha) v) c.deref-2.ensures.value);
+      triples = kind_count is_admitted_triple known.faces.now.triples known.triples.items (λ a. kind_where a alpha) _
+      c.requires.known.triples (c.in_ok-kinds_of_admitted-2.ensures
+      ∙ ap (λ (v : List FaceAlphas). map (λ a. kind_where a alpha) v) c.deref-3.ensures.value);
+      cells = ap length (c.in_ok-marks.ensures
+      ∙ ap (λ (v : List ℕ). map (λ n. nat_le n alpha) v) c.deref-4.ensures.value)
+      ∙ length-map known.cells.items (λ n. nat_le n alpha)
+      ∙ sym (length_zip (λ x n. IsLeastOf (λ a. is_small_cell a x) n) known.faces.now.cells known.cells.items
+      c.requires.known.cells);
     }
 
 pub returns-clause-points : goal.returns-clause-points
 returns-clause-points c s h =
     let known = c.args.self.now in
     let alpha = c.args.alpha in
-    let kinds = c.in_ok-kinds_of_all.ensures ∙ ap (λ (v : List FaceAlphas). map (λ a. kind_at a alpha) v) c.deref.ensures.value in
+    let kinds = c.in_ok-kinds_of_all.ensures ∙ ap (λ (v : List FaceAlphas). map (λ a. kind_at a alpha) v)
+    c.deref.ensures.value in
     ap (λ (v : List Kind). zip (map (λ f. f.0) known.faces.now.points) v) kinds
-    ∙ all_told is_admitted_point alpha known.faces.now.points known.points.items c.requires.alpha c.requires.known.points
+    ∙ all_told is_admitted_point alpha known.faces.now.points known.points.items c.requires.alpha
+    c.requires.known.points
     ∙ points_are s known.faces.now alpha h
 
 pub returns-clause-pairs : goal.returns-clause-pairs
 returns-clause-pairs c s h =
     let known = c.args.self.now in
     let alpha = c.args.alpha in
-    let kinds = c.in_ok-kinds_of_admitted.ensures ∙ ap (λ (v : List FaceAlphas). map (λ a. kind_where a alpha) v) c.deref-2.ensures.value in
+    let kinds = c.in_ok-kinds_of_admitted.ensures
+    ∙ ap (λ (v : List FaceAlphas). map (λ a. kind_where a alpha) v) c.deref-2.ensures.value in
     ap (λ (v : List (Option Kind)). held (slots_of (map (λ f. f.0) known.faces.now.pairs) v)) kinds
-    ∙ admitted_told (is_admitted_pair known.faces.now.triples) alpha known.faces.now.pairs known.pairs.items c.requires.alpha c.requires.known.pairs
+    ∙ admitted_told (is_admitted_pair known.faces.now.triples) alpha known.faces.now.pairs known.pairs.items
+    c.requires.alpha c.requires.known.pairs
     ∙ pair_kinds_are s known.faces.now alpha h
 
 pub returns-clause-triples : goal.returns-clause-triples
 returns-clause-triples c s h =
     let known = c.args.self.now in
     let alpha = c.args.alpha in
-    let kinds = c.in_ok-kinds_of_admitted-2.ensures ∙ ap (λ (v : List FaceAlphas). map (λ a. kind_where a alpha) v) c.deref-3.ensures.value in
+    let kinds = c.in_ok-kinds_of_admitted-2.ensures
+    ∙ ap (λ (v : List FaceAlphas). map (λ a. kind_where a alpha) v) c.deref-3.ensures.value in
     ap (λ (v : List (Option Kind)). held (slots_of (map (λ f. f.0) known.faces.now.triples) v)) kinds
-    ∙ admitted_told is_admitted_triple alpha known.faces.now.triples known.triples.items c.requires.alpha c.requires.known.triples
+    ∙ admitted_told is_admitted_triple alpha known.faces.now.triples known.triples.items c.requires.alpha
+    c.requires.known.triples
     ∙ triple_kinds_are s known.faces.now alpha h
 
 pub returns-clause-cells : goal.returns-clause-cells

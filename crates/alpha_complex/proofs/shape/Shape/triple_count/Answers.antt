@@ -5,4 +5,5 @@ use Rattle.alpha_complex.proofs.SlotLaws.{triples_held}
 use Rattle.alpha_complex.proofs.shape.Shape.triple_count.Goals as goal
 
 pub returns : goal.returns
-returns c = c.kind_count.ensures ∙ ap (λ (v : List (Option Kind)). count_by is_some v) c.deref.ensures.value ∙ triples_held c.self.inside c.args.self.now c.self.invariant c.self.view_is
+returns c = c.kind_count.ensures ∙ ap (λ (v : List (Option Kind)). count_by is_some v) c.deref.ensures.value
+    ∙ triples_held c.self.inside c.args.self.now c.self.invariant c.self.view_is

@@ -5,7 +5,13 @@ use Rattle.cavity.proofs.dig.Dig.advance.Given as goal
 
 abbrev pub invariant-loop-cell : goal.invariant-loop-cell
 invariant-loop-cell l = record {
-  goes_on : GoesOn l.hold l.fn.self (record { point = l.self-inside.point; found = l.self-inside.judged.goes; explored = l.self-inside.explored; rim = l.self-inside.rim.items });
+  goes_on : GoesOn l.hold l.fn.self (record {
+    point = l.self-inside.point;
+    found = l.self-inside.judged.goes;
+    explored =
+        l.self-inside.explored;
+    rim = l.self-inside.rim.items;
+  });
   behind : AreBehind l.self-inside.judged.stays l.self-inside.rim.items;
 }
 

@@ -16,7 +16,9 @@ returns-then-is_on c t =
     record {
       other = other;
       found = subst (λ (l : List Cell). IsIn other l) (c.deref.ensures.value ∙ ap (λ j. j.goes) c.self.view_is)
-          (at_place c.deref.result.now c.args.number other other c.in-Some.ensures.lookup.3.0 c.in-Some.ensures.lookup.1);
-      has = subst (λ (q : Cell). IsIn c.args.facet.now (facets_of q)) c.cell.ensures (c.is_on.ensures.0 c.if-is_on.true);
+          (at_place c.deref.result.now c.args.number other other c.in-Some.ensures.lookup.3.0
+          c.in-Some.ensures.lookup.1);
+      has = subst (λ (q : Cell). IsIn c.args.facet.now (facets_of q)) c.cell.ensures
+          (c.is_on.ensures.0 c.if-is_on.true);
       differs = λ e. fails c.are_same.result t (c.are_same.ensures.1 (c.cell-then-is_on.ensures ∙ e));
     }

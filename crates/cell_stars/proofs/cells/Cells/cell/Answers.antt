@@ -9,4 +9,5 @@ unfolding cells_of
 returns-in-Some c =
     let b = c.args.self.now in
     let d = c.in-Some.cell.now in
-    withs_new (live b.slots) [] d (live_at b.slots c.args.place d (ap (λ s. at s c.args.place) (sym (c.deref.ensures.value ∙ ap (λ v. v.slots) c.self.view_is)) ∙ c.in-Some.ensures))
+    withs_new (live b.slots) [] d (live_at b.slots c.args.place d
+    (ap (λ s. at s c.args.place) (sym (c.deref.ensures.value ∙ ap (λ v. v.slots) c.self.view_is)) ∙ c.in-Some.ensures))

@@ -7,4 +7,5 @@ use Rattle.cell_stars.proofs.cells.Cells.cells.Goals as goal
 pub returns : goal.returns
 returns c =
     let b = c.args.self.now in
-    subst (λ l. IsPermutation (cells_of b.slots) (live l)) (ap (λ v. v.slots) (sym c.self.view_is) ∙ sym c.deref.ensures.value) (all_once b (subst AreStars c.self.view_is c.self.invariant))
+    subst (λ l. IsPermutation (cells_of b.slots) (live l)) (ap (λ v. v.slots) (sym c.self.view_is)
+    ∙ sym c.deref.ensures.value) (all_once b (subst AreStars c.self.view_is c.self.invariant))

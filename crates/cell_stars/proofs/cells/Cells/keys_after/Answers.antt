@@ -1,6 +1,5 @@
-use Rattle.std.proofs.Common.{subst, ap, ◌∙◌, ℕ, List}
+use Rattle.std.proofs.Common.{subst}
 use Rattle.point_order.specs.Sets.{IsAscending}
-use Rattle.cell_stars.specs.Moves.{AreKeysAfter}
 use Rattle.cell_stars.proofs.KeyLaws.{keys_stay, vertices}
 use Rattle.cell_stars.proofs.cells.Cells.keys_after.Goals as goal
 
@@ -9,7 +8,6 @@ returns-then-are_keyed c =
     keys_stay c.args.self.now.keys c.args.writes.now (subst (λ v. IsAscending (vertices v.keys)) c.self.view_is
     c.self.invariant.order) (c.are_keyed.ensures c.if-are_keyed.true)
 
-pub returns : goal.returns
-returns c =
-    subst (λ (k : List (ℕ × ℕ)). AreKeysAfter k c.args.writes.now c.in_ok-changed_keys.field-0.items)
-    (c.deref.ensures.value ∙ ap (λ v. v.keys) c.self.view_is) c.in_ok-changed_keys.ensures
+pub changed_keys-requires-clause-order : goal.changed_keys-requires-clause-order
+changed_keys-requires-clause-order c =
+    subst (λ v. IsAscending (vertices v.keys)) c.self.view_is c.self.invariant.order

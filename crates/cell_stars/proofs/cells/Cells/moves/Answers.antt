@@ -14,8 +14,11 @@ returns-clause-made c =
     let coming = c.in_ok-coming.coming.items in
     let us = c.in_ok-places.places.items in
     are_for b c.deref-2.result.now c.args.gone.now c.args.fresh.now coming freed us c.in_ok-placed.placed.items
-    (subst AreStars c.self.view_is c.self.invariant) (c.deref-2.ensures.value ∙ ap (λ v. v.slots) c.self.view_is) c.in_ok-freed.ensures.freed c.in_ok-coming.ensures.once
+    (subst AreStars c.self.view_is c.self.invariant) (c.deref-2.ensures.value ∙ ap (λ v. v.slots) c.self.view_is)
+    c.in_ok-freed.ensures.freed c.in_ok-coming.ensures.once
     (subst (λ (l : List ℕ). AreComing b l c.args.fresh.now coming) c.deref.ensures.value c.in_ok-coming.ensures.coming)
     c.in_ok-places.ensures.order (c.in_ok-places.ensures.count ∙ c.len.ensures ∙ c.in_ok-coming.coming.ok.0)
-    (subst (λ (l : List ℕ). (i : ℕ) → IsIn i us → IsVacant c.deref-2.result.now l i) c.deref-4.ensures.value c.in_ok-places.ensures.vacant)
-    (c.in_ok-placed.ensures ∙ ap (λ (l : List ℕ). zip l c.deref-6.result.now) c.deref-5.ensures.value ∙ ap (λ (l : List Cell). zip us l) c.deref-6.ensures.value)
+    (subst (λ (l : List ℕ). (i : ℕ) → IsIn i us → IsVacant c.deref-2.result.now l i) c.deref-4.ensures.value
+    c.in_ok-places.ensures.vacant)
+    (c.in_ok-placed.ensures ∙ ap (λ (l : List ℕ). zip l c.deref-6.result.now) c.deref-5.ensures.value
+    ∙ ap (λ (l : List Cell). zip us l) c.deref-6.ensures.value)

@@ -39,15 +39,21 @@ invariant_of-made c =
     (c.in_ok-stars.stars.ok.0 ∙ sym (ap length c.deref_mut.ensures.value) ∙ sym c.add_all.auto.stars) in
     let gains : GainsPlaces keys (StandsAtHere g b cells (length cells)) stars after =
     subst (λ ks. GainsPlaces ks (StandsAtHere g b cells (length cells)) stars after) c.deref-3.ensures.value
-    (subst (λ v. GainsPlaces c.deref-3.result.now (StandsAtHere g b cells (length cells)) v after) c.deref_mut.ensures.value c.in_ok-add_all.ensures) in
-    let made = are_stars g b cells l keys stars after c.requires.order c.requires.touching c.in_ok-vertices.ensures.vertices
+    (subst (λ v. GainsPlaces c.deref-3.result.now (StandsAtHere g b cells (length cells)) v after)
+    c.deref_mut.ensures.value c.in_ok-add_all.ensures) in
+    let made = are_stars g b cells l keys stars after c.requires.order c.requires.touching
+    c.in_ok-vertices.ensures.vertices
     (subst (λ (v : List ℕ). AreNumberedTo (length v) v keys) c.deref.ensures.value c.in_ok-keys.ensures)
     (c.in_ok-stars.ensures ∙ ap (map (λ p. (p, []))) c.deref-2.ensures.value) gains in
     let wide = take c.in_ok-stars.stars.len (after ++ drop (length after) stars) in
-    let place : c.made.inside.place ≡ Some (g, b) = ap (λ (v : Placed). v.place) c.made.view_is ∙ ap (λ (v : Placed). v.place) c.placed-made.ensures in
+    let place : c.made.inside.place ≡ Some (g, b) =
+    ap (λ (v : Placed). v.place) c.made.view_is ∙ ap (λ (v : Placed). v.place) c.placed-made.ensures in
     subst (λ o. AreStars (record { place = o; slots = slots; keys = keys; stars = wide })) (sym place)
-    (subst (λ s. AreStars (record { place = Some (g, b); slots = s; keys = keys; stars = wide })) (sym c.in_ok-made-inside.ensures)
-    (subst (λ s. AreStars (record { place = Some (g, b); slots = map (λ x. Some x) cells; keys = keys; stars = s })) (sym back) made))
+    (subst (λ s. AreStars (record { place = Some (g, b); slots = s; keys = keys; stars = wide }))
+    (sym c.in_ok-made-inside.ensures)
+    (subst (λ s. AreStars (record { place = Some (g, b); slots = map (λ x. Some x) cells; keys = keys; stars = s }))
+    (sym back) made))
 
 pub returns-clause-cells : goal.returns-clause-cells
-returns-clause-cells c = cells_are c.args.cells.now c.in_ok-made-inside.field-0.items c.requires.order c.in_ok-made-inside.ensures
+returns-clause-cells c = cells_are c.args.cells.now c.in_ok-made-inside.field-0.items c.requires.order
+    c.in_ok-made-inside.ensures

@@ -9,11 +9,14 @@ use Rattle.cell_stars.proofs.cells.Cells.plan_stars.Goals as goal
 
 pub keys_after-requires-clause-agreed : goal.keys_after-requires-clause-agreed
 keys_after-requires-clause-agreed c =
-    subst AreAgreed (sym c.deref.ensures.value) (agreed c.args.self.now c.args.moves.now.freed.items c.args.moves.now.placed.items c.in_ok-stars.stars.items c.in_ok-stars.ensures)
+    subst AreAgreed (sym c.deref.ensures.value)
+    (agreed c.args.self.now c.args.moves.now.freed.items c.args.moves.now.placed.items c.in_ok-stars.stars.items
+    c.in_ok-stars.ensures)
 
 pub grown_stars-requires : goal.grown_stars-requires
 grown_stars-requires c n s m =
-    c.behind_numbers-end.ensures n s (subst (λ (l : List (ℕ × (ℕ × List ℕ))). IsIn (n, s) l) (c.deref-4.ensures.value ∙ sym c.deref-2.ensures.value) m)
+    c.behind_numbers-end.ensures n s (subst (λ (l : List (ℕ × (ℕ × List ℕ))). IsIn (n, s) l)
+    (c.deref-4.ensures.value ∙ sym c.deref-2.ensures.value) m)
 
 pub returns-clause-before : goal.returns-clause-before
 returns-clause-before c = subst AreStars c.self.view_is c.self.invariant
@@ -37,10 +40,13 @@ returns-clause-keys c =
 pub returns-clause-same : goal.returns-clause-same
 returns-clause-same c =
     let more = option_map (λ v. v.items) c.in_ok-more.more in
-    subst (λ (l : List (ℕ × List ℕ)). HasSameStars l (or_else more l)) (c.deref-3.ensures.value ∙ ap (λ v. v.stars) c.self.view_is) c.in_ok-more.ensures.same
+    subst (λ (l : List (ℕ × List ℕ)). HasSameStars l (or_else more l))
+    (c.deref-3.ensures.value ∙ ap (λ v. v.stars) c.self.view_is) c.in_ok-more.ensures.same
 
 pub returns-clause-long : goal.returns-clause-long
 returns-clause-long c n s m =
     let more = option_map (λ v. v.items) c.in_ok-more.more in
-    subst (λ (l : List (ℕ × List ℕ)). n < length (or_else more l)) (c.deref-3.ensures.value ∙ ap (λ v. v.stars) c.self.view_is)
-    (c.in_ok-more.ensures.long n s (subst (λ (l : List (ℕ × (ℕ × List ℕ))). IsIn (n, s) l) (sym c.deref-4.ensures.value) m))
+    subst (λ (l : List (ℕ × List ℕ)). n < length (or_else more l))
+    (c.deref-3.ensures.value ∙ ap (λ v. v.stars) c.self.view_is)
+    (c.in_ok-more.ensures.long n s (subst (λ (l : List (ℕ × (ℕ × List ℕ))). IsIn (n, s) l) (sym c.deref-4.ensures.value)
+    m))

@@ -5,7 +5,8 @@ use Rattle.cell_stars.proofs.grid.Grid.bucket_of.Goals as goal
 
 pub returns-clause-number : goal.returns-clause-number
 returns-clause-number c =
-    bucket_is c.self.inside.size c.args.self.now c.args.p c.key.result c.key-2.result c.key-3.result c.self.invariant c.self.view_is c.key.ensures.value c.key-2.ensures.value c.key-3.ensures.value
+    bucket_is c.self.inside.size c.args.self.now c.args.p c.key.result c.key-2.result c.key-3.result c.self.invariant
+    c.self.view_is c.key.ensures.value c.key-2.ensures.value c.key-3.ensures.value
 
 pub returns-clause-below : goal.returns-clause-below
 returns-clause-below c =

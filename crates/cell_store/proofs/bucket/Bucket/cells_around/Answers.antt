@@ -10,4 +10,7 @@ use Rattle.cell_store.proofs.bucket.Bucket.cells_around.Goals as goal
 pub returns : goal.returns
 returns c' =
     let around = cells_around c'.cells_around.result in
-    subst (λ (b : Placed). (c : Cell) → (IsIn c around → IsIn c (filter (λ c. is_among c'.args.p (points_of c)) (cells_of b.slots))) × (IsIn c (filter (λ c. is_among c'.args.p (points_of c)) (cells_of b.slots)) → IsIn c around)) (ap (λ v. v.cells) c'.self.view_is) c'.cells_around.ensures
+    subst (λ (b : Placed). (c : Cell) → (IsIn c around →
+    IsIn c (filter (λ c. is_among c'.args.p (points_of c)) (cells_of b.slots)))
+    × (IsIn c (filter (λ c. is_among c'.args.p (points_of c)) (cells_of b.slots)) → IsIn c around))
+    (ap (λ v. v.cells) c'.self.view_is) c'.cells_around.ensures

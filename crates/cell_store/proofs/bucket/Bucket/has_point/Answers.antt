@@ -10,5 +10,6 @@ returns c =
     let s = c.points.result.now in
     let r = c.binary_search.result in
     c.is_ok.ensures.value
-    ∙ search_there s c.args.p r (searched s c.args.p r c.binary_search.ensures.position (climbs s (rw c.points.ensures.points c.points.ensures.ascending)))
+    ∙ search_there s c.args.p r (searched s c.args.p r c.binary_search.ensures.position
+    (climbs s (rw c.points.ensures.points c.points.ensures.ascending)))
     ∙ ap (is_among c.args.p) c.points.ensures.points

@@ -7,7 +7,8 @@ use Rattle.cell_store.proofs.bucket.Bucket.other_here.Goals as goal
 pub returns-then-not-are_same : goal.returns-then-not-are_same
 returns-then-not-are_same c =
     record {
-      listed = subst (λ (b : Placed). IsIn c.in-Some.other.now (cells_of b.slots)) (ap (λ v. v.cells) c.self.view_is) c.in-Some.ensures;
+      listed = subst (λ (b : Placed). IsIn c.in-Some.other.now (cells_of b.slots)) (ap (λ v. v.cells) c.self.view_is)
+          c.in-Some.ensures;
       has = c.is_on.ensures.0 c.if-is_on.true;
       differs = λ e. not_both c.are_same.result (c.are_same.ensures.1 e) c.if-not-are_same.true;
     }

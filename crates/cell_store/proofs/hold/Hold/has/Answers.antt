@@ -4,7 +4,8 @@ use Rattle.cell_store.specs.Buckets.{Layout, bucket_at, layout_at}
 use Rattle.cell_store.proofs.Layouts.{shown_some}
 use Rattle.cell_store.proofs.hold.Hold.has.Goals as goal
 
-is_there : {R : Type 0} (f : R → Layout) (r : Option R) (o : Option Layout) → MatchOption r (o ≡ None) (λ c. o ≡ Some (f c)) → is_some r ≡ is_some o
+is_there : {R : Type 0} (f : R → Layout) (r : Option R) (o : Option Layout) →
+    MatchOption r (o ≡ None) (λ c. o ≡ Some (f c)) → is_some r ≡ is_some o
 is_there f None o m = ap is_some (sym m)
 is_there f (Some c) o m = ap is_some (sym m)
 

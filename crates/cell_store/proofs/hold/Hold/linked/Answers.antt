@@ -12,4 +12,5 @@ returns-in-Some c =
     let other = c.in-Some.other.now in
     let is = subst (λ (d : Cell). IsOtherOf b.cells d c.args.facet.now other) c.cell-2.ensures c.in-Some.ensures in
     subst (IsAcrossIn c.args.self.now c.args.spot.now c.args.facet.now) (sym c.new.ensures)
-    (across_is c.args.self.now c.args.spot.now c.args.facet.now c.bucket-b.result b b.cells other c.bucket-bucket.ensures.bucket refl is)
+    (across_is c.args.self.now c.args.spot.now c.args.facet.now c.bucket-b.result b b.cells other
+    c.bucket-bucket.ensures.bucket refl is)

@@ -14,7 +14,8 @@ pub loop-b-init : goal.loop-b-init
 loop-b-init c = (
   c.in_ok-parts.ensures,
   first_none c.args.grid c.args.entries.now c.in_ok-hold.hold c.in_ok-hold.ensures
-      (sound_by c.args.entries.now c.args.points.now c.requires.legal c.requires.points c.requires.solid c.read_keys.ensures),
+      (sound_by c.args.entries.now c.args.points.now c.requires.legal c.requires.points c.requires.solid
+      c.read_keys.ensures),
 )
 
 pub bucket-requires-clause-below : goal.bucket-requires-clause-below
@@ -62,8 +63,10 @@ returns c =
     let mesh : MeshView = record { grid = c.args.grid; history = c.args.entries.now } in
     let all = first_all c.args.grid c.loop-b.b c.args.entries.now hold
     (subst (λ (n : ℕ). n ≤ c.loop-b.b) c.count-b-end.ensures.value c.loop-b-test.false) f in
-    let places : length hold.places ≡ hold.grid * hold.grid * hold.grid = subst (λ (g : ℕ). length hold.places ≡ g * g * g) (sym f.grid) f.count in
-    let size : is_grid_size hold.grid ≡ true = subst (λ (g : ℕ). is_grid_size g ≡ true) (sym f.grid) c.count-b-end.ensures.size in
+    let places : length hold.places ≡ hold.grid * hold.grid * hold.grid =
+    subst (λ (g : ℕ). length hold.places ≡ g * g * g) (sym f.grid) f.count in
+    let size : is_grid_size hold.grid ≡ true =
+    subst (λ (g : ℕ). is_grid_size g ≡ true) (sym f.grid) c.count-b-end.ensures.size in
     c.into_mesh.ensures.mesh ∙ mesh_is mesh hold (record {
       grid = f.grid;
       whole = record { has = record { size = size; places = places }; all = all };

@@ -1,4 +1,3 @@
-use Rattle.std.proofs.Common.{◌∙◌, sym}
 use Rattle.cell_store.proofs.WholeLaws.{parts_are}
 use Rattle.cell_store.proofs.whole.Parts.of.Goals as goal
 

@@ -16,8 +16,10 @@ returns-clause-face c =
     let e = seen_length c.self.inside.cells.now c.self.inside.pairs c.self.invariant.1 in
     let l = ap (λ v. length v.pairs) c.self.view_is in
     let h : c.args.index < length c.self.inside.pairs.keys.items = omega (arith, c.requires, e, l) in
-    subst (λ v. ◌≡◌ {A = List ℕ × List Cell} (c.face.result.0, numbered v.cells c.face.result.1.now) (get_or v.pairs c.args.index (c.face.result.0, numbered v.cells c.face.result.1.now))) c.self.view_is
-    (face_seen c.self.inside.cells.now t c.self.invariant.1 c.args.index c.face.result.0 c.face.result.1.now h c.face.ensures.key c.face.ensures.numbers)
+    subst (λ v. ◌≡◌ {A = List ℕ × List Cell} (c.face.result.0, numbered v.cells c.face.result.1.now)
+    (get_or v.pairs c.args.index (c.face.result.0, numbered v.cells c.face.result.1.now))) c.self.view_is
+    (face_seen c.self.inside.cells.now t c.self.invariant.1 c.args.index c.face.result.0 c.face.result.1.now h
+    c.face.ensures.key c.face.ensures.numbers)
 
 pub returns-clause-numbers : goal.returns-clause-numbers
 returns-clause-numbers c =
@@ -26,4 +28,5 @@ returns-clause-numbers c =
     let l = ap (λ v. length v.pairs) c.self.view_is in
     let h : c.args.index < length c.self.inside.pairs.keys.items = omega (arith, c.requires, e, l) in
     let k = ap (λ v. length v.cells) c.self.view_is in
-    numbers_seen (length c.args.self.now.cells) c.self.inside.cells.now t c.self.invariant.1 c.args.index c.face.result.1.now h c.face.ensures.numbers k
+    numbers_seen (length c.args.self.now.cells) c.self.inside.cells.now t c.self.invariant.1 c.args.index
+    c.face.result.1.now h c.face.ensures.numbers k

@@ -8,11 +8,10 @@ use Rattle.hole_laws.specs.Edits.{IsLinkSet}
 use Rattle.cell_store.specs.Ready.{AreHeld}
 use Rattle.cell_store.specs.Missing.{IsCellMissing}
 use Rattle.cell_store.proofs.Cited.{solid_set}
-use Rattle.vertex_removal.specs.Near.{AreTaken}
+use Rattle.vertex_removal.specs.Near.{AreTaken, IsStar}
 use Rattle.vertex_removal.specs.Turns.{IsNeeded, RefillGives}
 use Rattle.vertex_removal.specs.declared.refill.RefillTurn.TheVariants.{Done, Flat}
 use Rattle.vertex_removal.proofs.Holes.{still_there}
-use Rattle.vertex_removal.proofs.Star.{star_list}
 use Rattle.vertex_removal.proofs.RefillTurns.{star_needs, none_needed, refill_done}
 use Rattle.vertex_removal.proofs.refill.Refill.advance.Goals.{in-Some-2+in_ok-fresh-in-Some-2, in-None}
 use Rattle.vertex_removal.proofs.refill.Refill.advance.Goals as goal
@@ -21,7 +20,8 @@ pub returns-in-Some-clause-turn : goal.returns-in-Some-clause-turn
 returns-in-Some-clause-turn c h st =
     subst (λ (v : ℕ). IsNeeded c.args.hold.now h v c.in-Some.b) c.self.view_is
     (star_needs c.args.hold.now h c.self.inside.point c.deref.result.now c.in-Some.b
-    (star_list h c.self.inside.point c.deref.result.now (c.deref.ensures.value ∙ c.in_ok-gone.ensures h st))
+    (subst (λ (l : List Cell). IsStar h c.self.inside.point l) (sym c.deref.ensures.value)
+    (c.in_ok-gone.ensures.star h st))
     c.in-Some.ensures)
 
 pub near_set-requires : goal.near_set-requires
@@ -33,8 +33,8 @@ near_set-requires c =
           (λ b. IsCellMissing c.args.hold.now c.deref.result.now b) c.in_default.not-Some c.missing_bucket.ensures);
       set = r.0;
       shown = r.1;
-      star_is = star_list r.0 c.self.inside.point c.deref-2.result.now
-          (c.deref-2.ensures.value ∙ c.in_ok-gone.ensures r.0 r.1);
+      star_is = subst (λ (l : List Cell). IsStar r.0 c.self.inside.point l) (sym c.deref-2.ensures.value)
+          (c.in_ok-gone.ensures.star r.0 r.1);
     }
 
 pub cells_coming-requires : goal.cells_coming-requires
@@ -43,15 +43,15 @@ cells_coming-requires c =
     let v = c.self.inside.point in
     let m = subst (λ (x : ℕ). IsIn x r.0) (sym c.self.view_is) r.2 in
     let near = subst (λ o. MatchOption o (is_solid (without_point v r.0) ≡ false) (λ t. IsLinkSet r.0 v t.items))
-    c.in-Some-2.is (c.in_ok-near.ensures r.0 r.1 m (star_list r.0 v c.deref-2.result.now
-    (c.deref-2.ensures.value ∙ c.in_ok-gone.ensures r.0 r.1))) in
+    c.in-Some-2.is (c.in_ok-near.ensures r.0 r.1 m (subst (λ (l : List Cell). IsStar r.0 v l) (sym c.deref-2.ensures.value)
+    (c.in_ok-gone.ensures.star r.0 r.1))) in
     record {
       set = r.0;
       is_set = (solid_set c.args.hold.now r.0 r.1).set;
       has_v = m;
       link = subst (λ (t : List ℕ). IsLinkSet r.0 v t) (sym c.deref-in-Some-2.ensures.value) near;
-      star_is = star_list r.0 v c.deref-in-Some-2-2.result.now (c.deref-in-Some-2-2.ensures.value
-          ∙ c.in_ok-gone.ensures r.0 r.1);
+      star_is = subst (λ (l : List Cell). IsStar r.0 v l) (sym c.deref-in-Some-2-2.ensures.value)
+          (c.in_ok-gone.ensures.star r.0 r.1);
     }
 
 -- the turn asks for a needed bucket, or knows what comes, or that the rest is flat
@@ -67,26 +67,26 @@ returns-clause-turn c =
           let n = subst (λ (v : ℕ). IsIn v h) (sym c.self.view_is) m in
           let l = subst (λ o. MatchOption o (is_solid (without_point c.self.inside.point h) ≡ false)
           (λ t. IsLinkSet h c.self.inside.point t.items)) w.in-Some-2.is
-          (c.in_ok-near.ensures h st n (star_list h c.self.inside.point c.deref-2.result.now
-          (c.deref-2.ensures.value ∙ c.in_ok-gone.ensures h st))) in
+          (c.in_ok-near.ensures h st n (subst (λ (g : List Cell). IsStar h c.self.inside.point g)
+          (sym c.deref-2.ensures.value) (c.in_ok-gone.ensures.star h st))) in
           let f = subst (λ (t : List ℕ). AreTaken t c.self.inside.point w.in_ok-fresh-in-Some-2.fresh.items)
           w.deref-in-Some-2.ensures.value w.in_ok-fresh-in-Some-2.ensures in
           subst (λ (v : ℕ). RefillGives c.args.hold.now h v (Done
           (record { gone = c.in_ok-gone.gone; fresh = w.in_ok-fresh-in-Some-2.fresh }))) c.self.view_is
           (refill_done c.args.hold.now h c.self.inside.point w.in-Some-2.near.items c.in_ok-gone.gone.items
-          w.in_ok-fresh-in-Some-2.fresh.items (solid_set c.args.hold.now h st).set n l (c.in_ok-gone.ensures h st)
-          star f)))
+          w.in_ok-fresh-in-Some-2.fresh.items (solid_set c.args.hold.now h st).set n l (c.in_ok-gone.ensures.star h st)
+          c.in_ok-gone.ensures.once star f)))
       | in-None w ↦ rw w.result-is (λ h st. (
           let r = c.requires.shown in
           let m = still_there c.args.hold.now r.0 h c.args.self.now r.1 st c.requires.held r.2 in
           let n = subst (λ (v : ℕ). IsIn v h) (sym c.self.view_is) m in
           let l = subst (λ o. MatchOption o (is_solid (without_point c.self.inside.point h) ≡ false)
           (λ t. IsLinkSet h c.self.inside.point t.items)) w.in-None.is
-          (c.in_ok-near.ensures h st n (star_list h c.self.inside.point c.deref-2.result.now
-          (c.deref-2.ensures.value ∙ c.in_ok-gone.ensures h st))) in
+          (c.in_ok-near.ensures h st n (subst (λ (g : List Cell). IsStar h c.self.inside.point g)
+          (sym c.deref-2.ensures.value) (c.in_ok-gone.ensures.star h st))) in
           subst (λ (v : ℕ). RefillGives c.args.hold.now h v Flat) c.self.view_is (
             none_needed c.args.hold.now h c.self.inside.point c.in_ok-gone.gone.items
-                (star_list h c.self.inside.point c.in_ok-gone.gone.items (c.in_ok-gone.ensures h st)) star,
+                (c.in_ok-gone.ensures.star h st) star,
             l,
           )))
     ]

@@ -1,5 +1,0 @@
-use Rattle.cell_stars.proofs.KeyLaws.{KeysSoFar}
-use Rattle.cell_stars.proofs.keys.changed_keys.Given as goal
-
-abbrev pub invariant-loop-n : goal.invariant-loop-n
-invariant-loop-n l = KeysSoFar l.keys l.writes l.n-index l.list.items

@@ -1,0 +1,5 @@
+use Rattle.std.proofs.Common.{length}
+use Rattle.edit_workers.proofs.running.+work_in_turn.Given as goal
+
+abbrev pub decreases-work_in_turn : goal.decreases-work_in_turn
+decreases-work_in_turn g l = length l.lists.now
