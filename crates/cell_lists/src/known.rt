@@ -15,6 +15,26 @@ pub struct Places {
     pub d: u64,
 }
 
+// Where the point is likely to be among ascending ones.
+fn place_among(points: &[Point], p: Point) -> u64 {
+    match points.binary_search(&p) {
+        Ok(place) | Err(place) => place as u64,
+    }
+}
+
+impl Places {
+    // Where the points of the cell are likely to be among these ascending ones.
+    pub(crate) fn among(points: &[Point], quad: Quad) -> Places {
+        let (a, b, c, d) = quad.corners();
+        Places {
+            a: place_among(points, a),
+            b: place_among(points, b),
+            c: place_among(points, c),
+            d: place_among(points, d),
+        }
+    }
+}
+
 // A cell by the numbers of its points.
 #[derive(Clone, Copy, Debug)]
 pub(crate) struct Row {

@@ -9,6 +9,7 @@ ghost use Rattle.std.specs.Prelude.{
   [],
   MatchOption,
   OnOk,
+  IfOk,
   List,
   ℕ,
   length,
@@ -47,6 +48,44 @@ impl QuadList {
             points: Vec::new(alloc),
             rows: Vec::new(alloc),
         }
+    }
+
+    /// The cells of a slice, in their order, whose points are likely to be among these ascending ones.
+    ///
+    /// # Errors
+    /// Want of memory, also for more than 2^32 points.
+    pub fn of(alloc: Global, points: &[Point], cells: &[Quad]) -> Result<QuadList, AllocError>
+        ensures { IfOk result (λ list. list ≡ cells.now) }
+    {
+        let mut list = QuadList::knowing(alloc, points)?;
+        for quad in cells {
+            list.push(*quad, Places::among(points, *quad))?;
+        }
+        Ok(list)
+    }
+
+    // A list with no cell, that knows these points.
+    fn knowing(alloc: Global, points: &[Point]) -> Result<QuadList, AllocError>
+        ensures { IfOk result (λ list. list ≡ []) }
+    {
+        Ok(QuadList {
+            points: Vec::from_slice(alloc, points)?,
+            rows: Vec::new(alloc),
+        })
+    }
+
+    /// The cells, 32 bytes each.
+    ///
+    /// # Errors
+    /// Want of memory.
+    pub fn to_vec(&self, alloc: Global) -> Result<Vec<Quad>, AllocError>
+        ensures { IfOk result (λ cells. cells.items ≡ self.now) }
+    {
+        let mut cells = Vec::with_capacity(alloc, self.len())?;
+        for place in 0..self.len() {
+            cells.push(self.at(place))?;
+        }
+        Ok(cells)
     }
 
     /// Knows one point more, whose number is that of the points known before. No cell changes.

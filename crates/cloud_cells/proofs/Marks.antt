@@ -44,7 +44,8 @@ moved_once (x ∷ a) b c d = (λ i. d.0 ((moved_in a b c x).1 i), moved_once a b
 pub move_one : (l : List Cell) (left packed : List (Option Cell)) (o : Option Cell) →
     AreMoved l (live (left ++ o ∷ []) ++ live packed) → AreMoved l (live left ++ live (packed ++ o ∷ []))
 move_one l left packed None m =
-    subst (λ (v : List Cell). AreMoved l (live left ++ v)) (sym (live_append packed (None ∷ []) ∙ append-nil (live packed)))
+    subst (λ (v : List Cell). AreMoved l (live left ++ v))
+    (sym (live_append packed (None ∷ []) ∙ append-nil (live packed)))
     (subst (λ (v : List Cell). AreMoved l (v ++ live packed)) (live_append left (None ∷ []) ∙ append-nil (live left)) m)
 move_one l left packed (Some c) m =
     let k = subst (λ (v : List Cell). AreMoved l (v ++ live packed)) (live_append left (Some c ∷ [])) m in

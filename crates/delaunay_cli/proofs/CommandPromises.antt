@@ -274,7 +274,8 @@ promise_made Draws words left late h text m status s = record {
 }
 
 -- of why it made nothing
-pub promise_unmade : (kind : Kind) (words : List (String Global)) (left : Option (List ℕ)) (failed : Type 0) (stop : Stop) →
+pub promise_unmade : (kind : Kind) (words : List (String Global)) (left : Option (List ℕ)) (failed : Type 0)
+    (stop : Stop) →
     MakesNone kind left failed stop → Promise kind words left (status_of stop) [] []
 promise_unmade Reports words left failed stop u = file_unmade (IsReported (worker_count words) (asks_shape words)
     (asks_order words) [] []) left failed stop u

@@ -126,38 +126,39 @@ numbered_length n [] = refl
 numbered_length n (x ∷ xs) = ap suc (numbered_length (n + 1) xs)
 
 -- lines whose tags rise
-module _ (workers : ℕ) (lines : List Pair) (lower : EachLater (λ (a b : Pair). a.0 < b.0) lines) (some : 0 < workers) where
-  -- the lists of a segment
-  segment_done : workers ≤ 64 → (segment : List Pair) → IsIn segment (segments lines) →
-      CanBeDone (dealt_out workers segment)
-  segment_done few segment i = record {
-    some = let n = dealt_count workers segment in omega (arith, n, some);
-    short = let n = dealt_count workers segment in omega (arith, n, few);
-    tags = all_of_each AreAscending (dealt_out workers segment) (λ l j.
-        let k = mapped_from (dealt_to workers segment) l (range_with_len 0 workers) j in
-        subst AreAscending k.2 (one k.0));
-    apart = (segments_apart lines segment workers i).1;
-    alone = alone_in_any_order segment (all_of (dealt_out workers segment)) (dealt_all workers segment some)
-        (segments_apart lines segment workers i).0;
-  }
-    where
-      one : (j : ℕ) → AreAscending (dealt_to workers segment j)
-      one j =
-          later_pairs (λ (a b : Pair). a.0 < b.0) (dealt_to workers segment j)
-          (later_filter (λ (a b : Pair). a.0 < b.0) (λ line. point_of line.1 % workers == j) segment
-          (later_within (λ (a b : Pair). a.0 < b.0) (segments lines) segment i
-          (subst (EachLater (λ (a b : Pair). a.0 < b.0)) (sym (segments_keep lines)) lower)))
+module _ (workers : ℕ) (lines : List Pair) (lower : EachLater (λ (a b : Pair). a.0 < b.0) lines) (some : 0 < workers)
+  where
+    -- the lists of a segment
+    segment_done : workers ≤ 64 → (segment : List Pair) → IsIn segment (segments lines) →
+        CanBeDone (dealt_out workers segment)
+    segment_done few segment i = record {
+      some = let n = dealt_count workers segment in omega (arith, n, some);
+      short = let n = dealt_count workers segment in omega (arith, n, few);
+      tags = all_of_each AreAscending (dealt_out workers segment) (λ l j.
+          let k = mapped_from (dealt_to workers segment) l (range_with_len 0 workers) j in
+          subst AreAscending k.2 (one k.0));
+      apart = (segments_apart lines segment workers i).1;
+      alone = alone_in_any_order segment (all_of (dealt_out workers segment)) (dealt_all workers segment some)
+          (segments_apart lines segment workers i).0;
+    }
+      where
+        one : (j : ℕ) → AreAscending (dealt_to workers segment j)
+        one j =
+            later_pairs (λ (a b : Pair). a.0 < b.0) (dealt_to workers segment j)
+            (later_filter (λ (a b : Pair). a.0 < b.0) (λ line. point_of line.1 % workers == j) segment
+            (later_within (λ (a b : Pair). a.0 < b.0) (segments lines) segment i
+            (subst (EachLater (λ (a b : Pair). a.0 < b.0)) (sym (segments_keep lines)) lower)))
 
-  -- so the lists of all segments can be done
-  pub lines_done : workers ≤ 64 → All CanBeDone (dealt_lines workers lines)
-  lines_done few =
-      all_of_each CanBeDone (dealt_lines workers lines) (λ l i.
-      let k = mapped_from (dealt_out workers) l (segments lines) i in
-      subst CanBeDone k.2 (segment_done few k.0 k.1))
+    -- so the lists of all segments can be done
+    pub lines_done : workers ≤ 64 → All CanBeDone (dealt_lines workers lines)
+    lines_done few =
+        all_of_each CanBeDone (dealt_lines workers lines) (λ l i.
+        let k = mapped_from (dealt_out workers) l (segments lines) i in
+        subst CanBeDone k.2 (segment_done few k.0 k.1))
 
-  -- all together they are as many pairs as lines
-  pub lines_many : count_all (dealt_lines workers lines) ≡ length lines
-  lines_many = count_dealt workers (segments lines) some ∙ ap length (segments_keep lines)
+    -- all together they are as many pairs as lines
+    pub lines_many : count_all (dealt_lines workers lines) ≡ length lines
+    lines_many = count_dealt workers (segments lines) some ∙ ap length (segments_keep lines)
 
 -- all lines of a file but the opening four
 module _ (workers : ℕ) (four points : List ℕ) (edits : List Edit) (some : 0 < workers) where
@@ -200,7 +201,8 @@ pub points_many : (points : List ℕ) (four : List ℕ) → AreOpening points fo
     length (one_thread points []) ≡ length points
 points_many points four found =
     let kept : Keeps points [] 1 (one_thread points []) =
-    subst (λ (o : Option Four). IfSome o (λ _. Keeps points [] 1 (one_thread points []))) found.1 (keeps_law points []) in
+    subst (λ (o : Option Four). IfSome o (λ _. Keeps points [] 1 (one_thread points []))) found.1 (keeps_law points [])
+    in
     let p = length_permutation (tagged_lines points []) (map line_of (one_thread points [])) kept.lines in
     let n = numbered_length 0 (map Add points ++ []) in
     let m = length-map (one_thread points []) line_of in

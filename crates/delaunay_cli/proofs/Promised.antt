@@ -281,7 +281,8 @@ module _ {words : List (String Global)} {left left_after : Option (List ℕ)} {r
       (λ bytes. (file : Content) → IsFile file_limits bytes file → P file)
   of_one P Q f m =
       if_some (IsOfFile (worker_count words) kept Q)
-      (λ bytes. (file : Content) → IsFile file_limits bytes file → P file) left (λ bytes m file is. subst P (one_file_of file_limits bytes m.file file m.is_file is)
+      (λ bytes. (file : Content) → IsFile file_limits bytes file →
+      P file) left (λ bytes m file is. subst P (one_file_of file_limits bytes m.file file m.is_file is)
       (f m.file m.kept m.text_is)) m
 
   -- what follows of a kept file follows of the file that the bytes are

@@ -12,7 +12,8 @@ use Rattle.delaunay_cli.specs.Ends.{IsUnput}
 use Rattle.delaunay_cli.specs.Page.{text_of_form}
 
 -- nothing was written where memory was wanting
-pub unwritten : {T : Type 0} (failed : Type 0) (held : Option (List ℕ)) (text : List ℕ) (m : Result T Stop) → IsErrAnd m (λ e. e ≡ Memory) → IfErr m (IsUnput failed held held text)
+pub unwritten : {T : Type 0} (failed : Type 0) (held : Option (List ℕ)) (text : List ℕ) (m : Result T Stop) →
+    IsErrAnd m (λ e. e ≡ Memory) → IfErr m (IsUnput failed held held text)
 unwritten failed held text (Ok v) a = tt
 unwritten failed held text (Err s) a = inl (a, Keeps-refl held)
 

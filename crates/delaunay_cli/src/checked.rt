@@ -20,7 +20,7 @@ use crate::telling::fault_line;
 use byte_ends::{Reached, Source, read_to_limit};
 use edit_files::ReadRefused;
 use mesh_check::{Made as Complex, made_of, tell};
-use mesh_reader::{MeshFile, MeshReader};
+use mesh_reader::{MeshReader, PackedMesh};
 use std::alloc::{AllocError, Global};
 use std::marker::Model;
 
@@ -58,14 +58,14 @@ impl Model for Watched {
 // A mesh, and the complex that was made of its points. Contracts see it as the mesh.
 #[derive(Drop)]
 struct Read {
-    mesh: MeshFile,
+    mesh: PackedMesh,
     made: Option<Complex>,
 }
 
 impl Model for Read {
-    ghost use Rattle.mesh_reader.specs.declared.mesh_file.MeshFile.{MeshFile};
+    ghost use Rattle.mesh_reader.specs.declared.mesh_file.PackedMesh.{PackedMesh};
 
-    ghost Value = { MeshFile };
+    ghost Value = { PackedMesh };
 
     ghost view = { λ r. r.mesh };
 }
@@ -174,7 +174,7 @@ fn end_of(good: bool) -> Option<Stop>
 }
 
 // The verdict on a mesh, as it is told.
-fn judge(alloc: Global, complex: Option<Complex>, mesh: &MeshFile) -> Result<Made, AllocError>
+fn judge(alloc: Global, complex: Option<Complex>, mesh: &PackedMesh) -> Result<Made, AllocError>
     requires { IsInOrder (parts mesh.now) }
     ensures judged { IfOk result (λ made. IsJudged (parts mesh.now) (status_of_end made.after)
         (text_of_page made.page)) }

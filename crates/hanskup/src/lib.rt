@@ -17,7 +17,7 @@
 //! | the least alpha of every face | `thresholds`, and `put_steps` for its text |
 //! | solid parts, their boundaries, the least alpha for so many | `parts`, `boundary`, `least_alpha` |
 //! | the cells of a cloud, without a mesh | `complex_of_points` |
-//! | to judge cells from elsewhere | `read_mesh` of a report, in pieces `MeshReader`; `check` of a `QuadList`, `verdict_text` |
+//! | to judge cells from elsewhere | `read_mesh` of a report, in pieces `MeshReader`; `check`, `verdict_text` |
 //! | several threads on one mesh | `table::MeshTable`: `open`, `split`, `try_edit`, `try_snapshot`, `close` |
 //! | texts | `mesh_text`, `shape_text`, `off_text`, and `put_report` to a sink |
 //! | edit files, of all versions or up to one | `read_file`, `read_file_up_to`, `file_text` |
@@ -49,7 +49,7 @@ pub use exact_sphere::sphere;
 pub use face_list::{Faces, faces, few_faces};
 pub use mesh_check::{Flaw, Verdict, check, verdict_text};
 pub use mesh_files::{
-    MeshFile, MeshReader, Report, mesh_text, off_text, put_report, read_mesh, shape_text,
+    MeshFile, MeshReader, PackedMesh, Report, mesh_text, off_text, put_report, read_mesh, shape_text,
     summary_text,
 };
 pub use mesh_handle::{Location, locate};

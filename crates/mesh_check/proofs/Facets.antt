@@ -80,14 +80,16 @@ before_or_same : (x y : Side) → side_cmp x y ≡ Less → (facet_cmp x.facet y
 before_or_same x y e = by (facet_cmp x.facet y.facet) refl e
   where
     -- by the answer on facets
-    by : (o : Ordering) → facet_cmp x.facet y.facet ≡ o → ordering_then o (cell_cmp x.cell y.cell) ≡ Less → (facet_cmp x.facet y.facet ≡ Less) ⊎ (x.facet ≡ y.facet)
+    by : (o : Ordering) → facet_cmp x.facet y.facet ≡ o → ordering_then o (cell_cmp x.cell y.cell) ≡ Less →
+        (facet_cmp x.facet y.facet ≡ Less) ⊎ (x.facet ≡ y.facet)
     by Less h k = inl h
     by Equal h k = inr (facet_same x.facet y.facet h)
     by Greater h k = cc
 
 -- and where the facets are one the cells are two
 cells_differ : (x y : Side) → side_cmp x y ≡ Less → x.facet ≡ y.facet → ¬ (x.cell ≡ y.cell)
-cells_differ x y e f c = by (facet_cmp x.facet y.facet) (cell_cmp x.cell y.cell) (ap (facet_cmp x.facet) (sym f) ∙ facet_self x.facet) (ap (cell_cmp x.cell) (sym c) ∙ cell_self x.cell) e
+cells_differ x y e f c = by (facet_cmp x.facet y.facet) (cell_cmp x.cell y.cell) (ap (facet_cmp x.facet) (sym f)
+    ∙ facet_self x.facet) (ap (cell_cmp x.cell) (sym c) ∙ cell_self x.cell) e
   where
     -- by both answers
     by : (o r : Ordering) → o ≡ Equal → r ≡ Equal → ordering_then o r ≡ Less → ⊥
@@ -125,7 +127,9 @@ module _ (part : Part) (l : List Cell) (met rest : List Side) (are : AreSidesIn 
 -- ---- a pair
 
 module _ (part : Part) (l : List Cell) (met after : List Side) (x y : Side)
-    (are : AreSidesIn part l (met ++ x ∷ y ∷ after)) (m : AreMet l met (x ∷ y ∷ after)) (sorted : IsStrictlySortedBy side_cmp (x ∷ y ∷ after)) (same : y.facet ≡ x.facet) (off : (z : Side) → IsIn z after → facet_cmp x.facet z.facet ≡ Less) where
+    (are : AreSidesIn part l (met ++ x ∷ y ∷ after)) (m : AreMet l met (x ∷ y ∷ after))
+    (sorted : IsStrictlySortedBy side_cmp (x ∷ y ∷ after)) (same : y.facet ≡ x.facet) (off : (z : Side) → IsIn z after →
+    facet_cmp x.facet z.facet ≡ Less) where
   -- its facet is one of two cells
   pub pair_two : IsInTwo l x.facet
   unfolding IsStrictlySortedBy
@@ -152,7 +156,8 @@ module _ (part : Part) (l : List Cell) (met after : List Side) (x y : Side)
 -- ---- the least facet that is open
 
 -- sides in order: a facet that comes later is not before
-later : (x : Side) (rest : List Side) (f : Facet) → IsStrictlySortedBy side_cmp (x ∷ rest) → (y : Side) → IsIn y (x ∷ rest) → y.facet ≡ f → facet_cmp f x.facet ≡ Less → ⊥
+later : (x : Side) (rest : List Side) (f : Facet) → IsStrictlySortedBy side_cmp (x ∷ rest) → (y : Side) →
+    IsIn y (x ∷ rest) → y.facet ≡ f → facet_cmp f x.facet ≡ Less → ⊥
 unfolding IsStrictlySortedBy
 later x rest f sorted y i e h = elim i [
   | inl q ↦ not_self f (subst (λ v. facet_cmp f v ≡ Less) (ap (λ (s : Side). s.facet) q ∙ e) h)
@@ -175,12 +180,15 @@ pub none_met : (l : List Cell) (sides : List Side) → HasMet l sides sides
 none_met l sides = record { met = []; is = refl; are = record { two = λ x i. absurd i; lower = λ x y i j. absurd i } }
 
 -- in order without the first
-pub rest_sorted : (x : Side) (rest : List Side) → IsStrictlySortedBy side_cmp (x ∷ rest) → IsStrictlySortedBy side_cmp rest
+pub rest_sorted : (x : Side) (rest : List Side) → IsStrictlySortedBy side_cmp (x ∷ rest) →
+    IsStrictlySortedBy side_cmp rest
 unfolding IsStrictlySortedBy
 rest_sorted x rest s = s.1
 
 -- behind a pair all facets are later
-behind_later : (f : Facet) (y : Side) (after : List Side) → IsStrictlySortedBy side_cmp (y ∷ after) → y.facet ≡ f → ((z : Side) (r : List Side) → after ≡ z ∷ r → ¬ (z.facet ≡ f)) → (z : Side) → IsIn z after → facet_cmp f z.facet ≡ Less
+behind_later : (f : Facet) (y : Side) (after : List Side) → IsStrictlySortedBy side_cmp (y ∷ after) → y.facet ≡ f →
+    ((z : Side) (r : List Side) → after ≡ z ∷ r → ¬ (z.facet ≡ f)) → (z : Side) → IsIn z after →
+    facet_cmp f z.facet ≡ Less
 unfolding IsStrictlySortedBy
 behind_later f y [] s e n z i = absurd i
 behind_later f y (o ∷ r) s e n z i = elim i [
@@ -204,8 +212,16 @@ joined [] x y l = refl
 joined (z ∷ m) x y l = ap (λ v. z ∷ v) (joined m x y l)
 
 -- a pair is met
-pub one_pair : (part : Part) (l : List Cell) (sides rest others after : List Side) (x : Side) → rest ≡ x ∷ others → AreSidesIn part l sides → IsStrictlySortedBy side_cmp rest → HasMet l sides rest → IsPair x.facet others after → HasMet l sides after
-one_pair part l sides rest others after x e are sorted h p = record { met = h.met ++ x ∷ p.second ∷ []; is = h.is ∙ ap (λ v. h.met ++ v) left ∙ joined h.met x p.second after; are = record { two = two; lower = lower } }
+pub one_pair : (part : Part) (l : List Cell) (sides rest others after : List Side) (x : Side) → rest ≡ x ∷ others →
+    AreSidesIn part l sides → IsStrictlySortedBy side_cmp rest → HasMet l sides rest → IsPair x.facet others after →
+    HasMet l sides after
+one_pair part l sides rest others after x e are sorted h p =
+    record {
+      met = h.met ++ x ∷ p.second ∷ [];
+      is =
+          h.is ∙ ap (λ v. h.met ++ v) left ∙ joined h.met x p.second after;
+      are = record { two = two; lower = lower };
+    }
   where
     -- what is left before
     left : rest ≡ x ∷ p.second ∷ after
@@ -237,7 +253,11 @@ one_pair part l sides rest others after x e are sorted h p = record { met = h.me
       | inl j ↦ m.two z j
       | inr j ↦ elim j [
         | inl q ↦ subst (λ (v : Side). IsInTwo l v.facet) q pair
-        | inr r ↦ elim r [ inl q ↦ subst (λ v. IsInTwo l v) (sym p.same ∙ ap (λ (v : Side). v.facet) q) pair | inr none ↦ absurd none ]
+        | inr r ↦ elim r [
+          | inl q ↦ subst (λ v. IsInTwo l v) (sym p.same ∙ ap (λ (v : Side). v.facet) q) pair
+          | inr none
+              ↦ absurd none
+        ]
       ]
     ]
 
@@ -247,7 +267,11 @@ one_pair part l sides rest others after x e are sorted h p = record { met = h.me
       | inl j ↦ m.lower z w j (inr (inr k))
       | inr j ↦ elim j [
         | inl q ↦ subst (λ (v : Side). facet_cmp v.facet w.facet ≡ Less) q (off w k)
-        | inr r ↦ elim r [ inl q ↦ subst (λ v. facet_cmp v w.facet ≡ Less) (sym p.same ∙ ap (λ (v : Side). v.facet) q) (off w k) | inr none ↦ absurd none ]
+        | inr r ↦ elim r [
+          | inl q ↦ subst (λ v. facet_cmp v w.facet ≡ Less) (sym p.same ∙ ap (λ (v : Side). v.facet) q)
+              (off w k)
+          | inr none ↦ absurd none
+        ]
       ]
     ]
 
@@ -256,16 +280,20 @@ one_pair part l sides rest others after x e are sorted h p = record { met = h.me
 -- all are met
 pub all_met : (part : Part) (l : List Cell) (sides rest : List Side) → rest ≡ [] → AreSidesIn part l sides →
     HasMet l sides rest → OpenIn part l None
-all_met part l sides rest e are h f i w = elim (from_append (side f i.cell) h.met [] (subst (λ (v : List Side). IsIn (side f i.cell) v) (h.is ∙ ap (λ v. h.met ++ v) e) ((are (side f i.cell)).1 (i.listed, i.has, w)))) [
-  | inl j ↦ h.are.two (side f i.cell) j
-  | inr none ↦ absurd none
-]
+all_met part l sides rest e are h f i w = elim
+    (from_append (side f i.cell) h.met [] (subst (λ (v : List Side). IsIn (side f i.cell) v)
+    (h.is ∙ ap (λ v. h.met ++ v) e) ((are (side f i.cell)).1 (i.listed, i.has, w)))) [
+      | inl j ↦ h.are.two (side f i.cell) j
+      | inr none ↦ absurd none
+    ]
 
 -- a facet without a pair is the least that is open
-module _ (part : Part) (l : List Cell) (met others : List Side) (x : Side) (are : AreSidesIn part l (met ++ x ∷ others)) (m : AreMet l met (x ∷ others)) (sorted : IsStrictlySortedBy side_cmp (x ∷ others)) where
+module _ (part : Part) (l : List Cell) (met others : List Side) (x : Side) (are : AreSidesIn part l (met ++ x ∷ others))
+    (m : AreMet l met (x ∷ others)) (sorted : IsStrictlySortedBy side_cmp (x ∷ others)) where
   -- it is a facet
   x_facet : IsFacet l x.facet
-  x_facet = let a = of_cells part l met (x ∷ others) are m x (inl refl) in record { cell = x.cell; listed = a.0; has = a.1 }
+  x_facet = let a = of_cells part l met (x ∷ others) are m x (inl refl) in
+      record { cell = x.cell; listed = a.0; has = a.1 }
 
   -- each that is before it is one of two cells
   before_two : (g : Facet) → IsFacet l g → is_in part g ≡ true → facet_cmp g x.facet ≡ Less → IsInTwo l g
@@ -277,7 +305,8 @@ module _ (part : Part) (l : List Cell) (met others : List Side) (x : Side) (are 
 
   -- where only the first has the facet it is one of one cell
   only_one : ((z : Side) → IsIn z others → ¬ (z.facet ≡ x.facet)) → IsInTwo l x.facet → ⊥
-  only_one n t = t.differ (cell_is t.first t.first_listed t.first_has ∙ sym (cell_is t.second t.second_listed t.second_has))
+  only_one n t = t.differ (cell_is t.first t.first_listed t.first_has
+      ∙ sym (cell_is t.second t.second_listed t.second_has))
     where
       -- each cell with it is that of the first
       cell_is : (c : Cell) → IsIn c l → IsIn x.facet (facets_of c) → c ≡ x.cell
@@ -287,20 +316,23 @@ module _ (part : Part) (l : List Cell) (met others : List Side) (x : Side) (are 
       ]
 
   -- and where three have it, one of three
-  three_have : (y z : Side) (r : List Side) → others ≡ y ∷ z ∷ r → y.facet ≡ x.facet → z.facet ≡ x.facet → IsInTwo l x.facet → ⊥
+  three_have : (y z : Side) (r : List Side) → others ≡ y ∷ z ∷ r → y.facet ≡ x.facet → z.facet ≡ x.facet →
+      IsInTwo l x.facet → ⊥
   unfolding IsStrictlySortedBy
   three_have y z r e fy fz t =
       let s = subst (λ (v : List Side). IsStrictlySortedBy side_cmp (x ∷ v)) e sorted in
       let xy = cells_differ x y s.0.0 (sym fy) in
       let xz = cells_differ x z s.0.1.0 (sym fz) in
       let yz = cells_differ y z s.1.0.0 (fy ∙ sym fz) in
-      let o = λ (w : Side) (i : IsIn w (x ∷ others)) (f : w.facet ≡ x.facet). (let a = of_cells part l met (x ∷ others) are m w i in t.only w.cell a.0 (subst (λ v. IsIn v (facets_of w.cell)) f a.1)) in
+      let o = λ (w : Side) (i : IsIn w (x ∷ others)) (f : w.facet ≡ x.facet). (let a =
+      of_cells part l met (x ∷ others) are m w i in t.only w.cell a.0 (subst (λ v. IsIn v (facets_of w.cell)) f a.1)) in
       let iy : IsIn y (x ∷ others) = inr (subst (λ (v : List Side). IsIn y v) (sym e) (inl refl)) in
       let iz : IsIn z (x ∷ others) = inr (subst (λ (v : List Side). IsIn z v) (sym e) (inr (inl refl))) in
       three x.cell y.cell z.cell t.first t.second xy xz yz (o x (inl refl) refl) (o y iy fy) (o z iz fz)
     where
       -- three different ones are not two
-      three : (a b c p q : Cell) → ¬ (a ≡ b) → ¬ (a ≡ c) → ¬ (b ≡ c) → (a ≡ p) ⊎ (a ≡ q) → (b ≡ p) ⊎ (b ≡ q) → (c ≡ p) ⊎ (c ≡ q) → ⊥
+      three : (a b c p q : Cell) → ¬ (a ≡ b) → ¬ (a ≡ c) → ¬ (b ≡ c) → (a ≡ p) ⊎ (a ≡ q) → (b ≡ p) ⊎ (b ≡ q) →
+          (c ≡ p) ⊎ (c ≡ q) → ⊥
       three a b c p q ab ac bc (inl i) (inl j) k = ab (i ∙ sym j)
       three a b c p q ab ac bc (inl i) (inr j) (inl k) = ac (i ∙ sym k)
       three a b c p q ab ac bc (inl i) (inr j) (inr k) = bc (j ∙ sym k)
@@ -309,15 +341,19 @@ module _ (part : Part) (l : List Cell) (met others : List Side) (x : Side) (are 
       three a b c p q ab ac bc (inr i) (inl j) (inl k) = bc (j ∙ sym k)
 
 -- the facet of the next side is later, and so are all behind it
-all_later : (f : Facet) (x y : Side) (r : List Side) → IsStrictlySortedBy side_cmp (x ∷ y ∷ r) → x.facet ≡ f → ¬ (y.facet ≡ f) → (z : Side) → IsIn z (y ∷ r) → ¬ (z.facet ≡ f)
-all_later f x y r s e n z i q = not_self f (subst (λ v. facet_cmp f v ≡ Less) q (behind_later f x (y ∷ r) s e (λ w o g h. n (subst (λ (v : Side). v.facet ≡ f) (sym (head_is g)) h)) z i))
+all_later : (f : Facet) (x y : Side) (r : List Side) → IsStrictlySortedBy side_cmp (x ∷ y ∷ r) → x.facet ≡ f →
+    ¬ (y.facet ≡ f) → (z : Side) → IsIn z (y ∷ r) → ¬ (z.facet ≡ f)
+all_later f x y r s e n z i q = not_self f (subst (λ v. facet_cmp f v ≡ Less) q
+    (behind_later f x (y ∷ r) s e (λ w o g h. n (subst (λ (v : Side). v.facet ≡ f) (sym (head_is g)) h)) z i))
   where
     -- the first of two lists that are one
     head_is : {w : Side} {o : List Side} → y ∷ r ≡ w ∷ o → y ≡ w
     head_is g = cc
 
 -- the least open facet
-pub least_open : (part : Part) (l : List Cell) (sides rest others : List Side) (x : Side) → rest ≡ x ∷ others → AreSidesIn part l sides → IsStrictlySortedBy side_cmp rest → HasMet l sides rest → IsUnpaired x.facet others → IsLeastOpenIn part l x.facet
+pub least_open : (part : Part) (l : List Cell) (sides rest others : List Side) (x : Side) → rest ≡ x ∷ others →
+    AreSidesIn part l sides → IsStrictlySortedBy side_cmp rest → HasMet l sides rest → IsUnpaired x.facet others →
+    IsLeastOpenIn part l x.facet
 least_open part l sides rest others x e are sorted h u = record {
   is = x_facet part l h.met others x a m s;
   within = (of_cells part l h.met (x ∷ others) a m x (inl refl)).2;
@@ -340,7 +376,9 @@ least_open part l sides rest others x e are sorted h u = record {
     -- it is not one of two
     none : IsUnpaired x.facet others → IsInTwo l x.facet → ⊥
     none (alone q) = only_one part l h.met others x a m s (λ z i. absurd (subst (λ (v : List Side). IsIn z v) q i))
-    none (apart y r q n) = only_one part l h.met others x a m s (λ z i. all_later x.facet x y r (subst (λ (v : List Side). IsStrictlySortedBy side_cmp (x ∷ v)) q s) refl n z (subst (λ (v : List Side). IsIn z v) q i))
+    none (apart y r q n) = only_one part l h.met others x a m s
+        (λ z i. all_later x.facet x y r (subst (λ (v : List Side). IsStrictlySortedBy side_cmp (x ∷ v)) q s) refl n z
+        (subst (λ (v : List Side). IsIn z v) q i))
     none (third y z r q fy fz) = three_have part l h.met others x a m s y z r q fy fz
 
 -- ---- what is left
@@ -351,10 +389,14 @@ no_length [] e = refl
 no_length (x ∷ l) e = cc
 
 -- behind a pair it is in order
-pub pair_sorted : (rest : List Side) (x : Side) (others after : List Side) → rest ≡ x ∷ others → IsStrictlySortedBy side_cmp rest → IsPair x.facet others after → IsStrictlySortedBy side_cmp after
+pub pair_sorted : (rest : List Side) (x : Side) (others after : List Side) → rest ≡ x ∷ others →
+    IsStrictlySortedBy side_cmp rest → IsPair x.facet others after → IsStrictlySortedBy side_cmp after
 pair_sorted rest x others after e s p =
-    rest_sorted p.second after (rest_sorted x (p.second ∷ after) (subst (λ (v : List Side). IsStrictlySortedBy side_cmp v) (e ∙ ap (λ (v : List Side). x ∷ v) p.is) s))
+    rest_sorted p.second after (rest_sorted x (p.second ∷ after)
+    (subst (λ (v : List Side). IsStrictlySortedBy side_cmp v) (e ∙ ap (λ (v : List Side). x ∷ v) p.is) s))
 
 -- and shorter
-pub pair_shorter : (rest : List Side) (x : Side) (others after : List Side) → rest ≡ x ∷ others → IsPair x.facet others after → length after < length rest
-pair_shorter rest x others after e p = subst (λ (v : List Side). length after < length v) (sym (e ∙ ap (λ (v : List Side). x ∷ v) p.is)) (omega arith)
+pub pair_shorter : (rest : List Side) (x : Side) (others after : List Side) → rest ≡ x ∷ others →
+    IsPair x.facet others after → length after < length rest
+pair_shorter rest x others after e p = subst (λ (v : List Side). length after < length v)
+    (sym (e ∙ ap (λ (v : List Side). x ∷ v) p.is)) (omega arith)

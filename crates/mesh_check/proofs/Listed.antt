@@ -1,5 +1,22 @@
 -- Quadruples and triples, each in order, as one list of cells.
-use Rattle.std.specs.Prelude.{◌≡◌, ◌+◌, ◌-◌, ◌<◌, ◌≤◌, ◌⊎◌, [], ◌∷◌, length, slice_index_or, refl, ℕ, zero, suc, List, map}
+use Rattle.std.specs.Prelude.{
+  ◌≡◌,
+  ◌+◌,
+  ◌-◌,
+  ◌<◌,
+  ◌≤◌,
+  ◌⊎◌,
+  [],
+  ◌∷◌,
+  length,
+  slice_index_or,
+  refl,
+  ℕ,
+  zero,
+  suc,
+  List,
+  map,
+}
 use Rattle.std.specs.List.{AllAdjacentBelow}
 use Rattle.std.specs.List.Sorted.{IsStrictlySortedBy}
 use Rattle.std.specs.Cmp.Lexicographic.{slice_cmp}
@@ -49,7 +66,10 @@ cells_listed s cells hull cs hs ca ha ci hi = record {
 pub ascends : (l : List ℕ) → AllAdjacentBelow (λ x y. x < y) l (length l) → IsAscending l
 ascends [] all = tt
 ascends (x ∷ []) all = (tt, tt)
-ascends (x ∷ y ∷ l) all = (all 0 0 (omega arith), ascends (y ∷ l) (λ k d h. next k d (all (suc k) d (omega (arith, h)))))
+ascends (x ∷ y ∷ l) all = (
+  all 0 0 (omega arith),
+  ascends (y ∷ l) (λ k d h. next k d (all (suc k) d (omega (arith, h)))),
+)
   where
     -- a place more in front
     next : (k d : ℕ) → slice_index_or (y ∷ l) k d < slice_index_or (x ∷ y ∷ l) (suc k + 1) d →

@@ -1,5 +1,25 @@
 -- The facets part by part: what is found in the parts so far is found of all.
-use Rattle.std.specs.Prelude.{◌≡◌, ◌<◌, ◌≤◌, ◌⊎◌, refl, ℕ, true, not, nat_lt, List, [], ◌∷◌, Option, None, Some, IfOk, Result, Ok, Err}
+use Rattle.std.specs.Prelude.{
+  ◌≡◌,
+  ◌<◌,
+  ◌≤◌,
+  ◌⊎◌,
+  refl,
+  ℕ,
+  true,
+  not,
+  nat_lt,
+  List,
+  [],
+  ◌∷◌,
+  Option,
+  None,
+  Some,
+  IfOk,
+  Result,
+  Ok,
+  Err,
+}
 use Rattle.std.specs.Ordering.{ordering_then, nat_cmp}
 use Rattle.std.specs.Cmp.Lexicographic.{slice_cmp}
 use Rattle.std.specs.declared.cmp.Ordering.{Ordering}
@@ -93,7 +113,8 @@ least_between l low high (Three t) b o = record { is = o.is; open_facet = o.open
       | inl k ↦ b u i k
       | inr k ↦ o.least (Three u) i (both_true (not (nat_lt (front u) low)) (nat_lt (front u) high)
           (not_less (front u) low k) (below_true (front u) high
-          (let w = below_from (front t) high (second_true (not (nat_lt (front t) low)) (nat_lt (front t) high) o.within) in
+          (let w = below_from (front t) high (second_true (not (nat_lt (front t) low)) (nat_lt (front t) high) o.within)
+          in
           let v = front_order u t e in omega (arith, w, v)))) e
     ]
 

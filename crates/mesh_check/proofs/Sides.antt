@@ -1,11 +1,39 @@
 -- The first flaw of a triple by the first point off its plane.
-use Rattle.std.specs.Prelude.{◌≡◌, ◌≢◌, refl, ℕ, ℤ, pos, Bool, true, false, not, ◌&&◌, ◌||◌, List, [], ◌∷◌, ◌⊎◌, None, Some, if◌then◌else◌}
+use Rattle.std.specs.Prelude.{
+  ◌≡◌,
+  ◌≢◌,
+  refl,
+  ℕ,
+  ℤ,
+  pos,
+  Bool,
+  true,
+  false,
+  not,
+  ◌&&◌,
+  ◌||◌,
+  List,
+  [],
+  ◌∷◌,
+  ◌⊎◌,
+  None,
+  Some,
+  if◌then◌else◌,
+}
 use Rattle.std.specs.Int.Signed.{lt_z}
 use Rattle.std.specs.List.{find, list_any}
 use Rattle.std.proofs.Common.{arith, inl, inr, ap, sym, subst}
 use Rattle.std.proofs.lemmas.Option.{none-some}
 use Rattle.std.proofs.lemmas.Bool.Decides.{nat_tests}
-use Rattle.list_laws.proofs.Cited.{any_from, any_true, false_if, not_both, one_true, first_true as first_of_two, second_true}
+use Rattle.list_laws.proofs.Cited.{
+  any_from,
+  any_true,
+  false_if,
+  not_both,
+  one_true,
+  first_true as first_of_two,
+  second_true,
+}
 use Rattle.point_order.specs.declared.cell.Cell.TheVariants.{Open}
 use Rattle.point_order.specs.Orientation.{orientation, is_flat, is_zero, is_collinear}
 use Rattle.point_order.specs.Conflicts.{are_opposite}
@@ -22,7 +50,8 @@ off_differs : (a b c f v : ℕ) → is_flat a b c f ≡ false → is_flat a b c 
 off_differs a b c f v n z e = not_both (is_flat a b c f) (subst (λ x. is_flat a b c x ≡ true) e z) n
 
 -- three points, one off their plane and one in it that is none of them are five
-pub five : (a b c f p : ℕ) → AreThree a b c → is_flat a b c f ≡ false → p ≢ a → p ≢ b → p ≢ c → is_flat a b c p ≡ true → AreFive a b c f p
+pub five : (a b c f p : ℕ) → AreThree a b c → is_flat a b c f ≡ false → p ≢ a → p ≢ b → p ≢ c → is_flat a b c p ≡ true →
+    AreFive a b c f p
 five a b c f p n off ea eb ec z = (
   n.0,
   n.1,
@@ -37,7 +66,8 @@ five a b c f p n off ea eb ec z = (
 )
 
 -- the same, by the tests
-pub five_off : (a b c f p : ℕ) → AreThree a b c → is_flat a b c f ≡ false → is_among p (a ∷ b ∷ c ∷ []) ≡ false → is_flat a b c p ≡ true → AreFive a b c f p
+pub five_off : (a b c f p : ℕ) → AreThree a b c → is_flat a b c f ≡ false → is_among p (a ∷ b ∷ c ∷ []) ≡ false →
+    is_flat a b c p ≡ true → AreFive a b c f p
 five_off a b c f p n off h g =
     let na : p ≢ a = grind (arith, nat_tests) in
     let nb : p ≢ b = grind (arith, nat_tests) in
@@ -47,12 +77,14 @@ five_off a b c f p n off h g =
 -- ---- searches
 
 -- a stricter search finds what the other found first, where it passes
-find_narrow : {X : Type 0} (p q : X → Bool) (s : List X) (e : X) → find q s ≡ Some e → ((x : X) → IsIn x s → p x ≡ true → q x ≡ true) → p e ≡ true → find p s ≡ Some e
+find_narrow : {X : Type 0} (p q : X → Bool) (s : List X) (e : X) → find q s ≡ Some e →
+    ((x : X) → IsIn x s → p x ≡ true → q x ≡ true) → p e ≡ true → find p s ≡ Some e
 find_narrow p q [] e f g t = absurd (none-some e f)
 find_narrow {X} p q (y ∷ s) e f g t = go (p y) (q y) refl refl f (λ h. find_narrow p q s e h (λ x m. g x (inr m)) t)
   where
     -- by both tests of the first
-    go : (b d : Bool) → p y ≡ b → q y ≡ d → (if d then Some y else find q s) ≡ Some e → (find q s ≡ Some e → find p s ≡ Some e) → (if b then Some y else find p s) ≡ Some e
+    go : (b d : Bool) → p y ≡ b → q y ≡ d → (if d then Some y else find q s) ≡ Some e →
+        (find q s ≡ Some e → find p s ≡ Some e) → (if b then Some y else find p s) ≡ Some e
     go true true u v h r = h
     go true false u v h r = absurd (not_both (q y) (g y (inl refl) u) v)
     go false true u v h r = absurd (not_both (p y) (subst (λ x. p x ≡ true) (sym (cc_some h)) t) u)
@@ -66,7 +98,8 @@ find_narrow {X} p q (y ∷ s) e f g t = go (p y) (q y) refl refl f (λ h. find_n
 
 -- signs of two tests
 signs : (p q r t : Bool) → ((p && q) || (r && t)) ≡ true → ((p ≡ true) × (q ≡ true)) ⊎ ((r ≡ true) × (t ≡ true))
-signs p q r t e = elim (one_true (p && q) (r && t) e) [ inl u ↦ inl (first_of_two p q u, second_true p q u) | inr u ↦ inr (first_of_two r t u, second_true r t u) ]
+signs p q r t e = elim (one_true (p && q) (r && t) e)
+    [ inl u ↦ inl (first_of_two p q u, second_true p q u) | inr u ↦ inr (first_of_two r t u, second_true r t u) ]
 
 -- a point with a sign is off the plane
 high_off : (z : ℤ) → lt_z (pos 0) z ≡ true → not (is_zero z) ≡ true
@@ -114,10 +147,11 @@ module _ (s : List ℕ) (a b c : ℕ) where
 
   -- a point that has one opposite is off the plane
   opposite_off : (e f : ℕ) → opp e f ≡ true → not (is_flat a b c e) ≡ true
-  opposite_off e f t = elim (signs (lt_z (pos 0) (orientation a b c e)) (lt_z (orientation a b c f) (pos 0)) (lt_z (orientation a b c e) (pos 0)) (lt_z (pos 0) (orientation a b c f)) t) [
-    | inl u ↦ high_off (orientation a b c e) u.0
-    | inr u ↦ low_off (orientation a b c e) u.0
-  ]
+  opposite_off e f t = elim (signs (lt_z (pos 0) (orientation a b c e)) (lt_z (orientation a b c f) (pos 0))
+      (lt_z (orientation a b c e) (pos 0)) (lt_z (pos 0) (orientation a b c f)) t) [
+        | inl u ↦ high_off (orientation a b c e) u.0
+        | inr u ↦ low_off (orientation a b c e) u.0
+      ]
 
   -- of two that are opposite one is opposite any point off the plane
   one_opposite : (e x y : ℕ) → not (is_flat a b c e) ≡ true → opp x y ≡ true → (opp e x ≡ true) ⊎ (opp e y ≡ true)
@@ -129,17 +163,22 @@ module _ (s : List ℕ) (a b c : ℕ) where
       let uy = lt_z (pos 0) (orientation a b c y) in
       let dy = lt_z (orientation a b c y) (pos 0) in
       elim (signs ux dy dx uy t) [
-        | inl u ↦ elim (signed (orientation a b c e) n) [ inl v ↦ inr (both_of ue dy de uy v u.1) | inr v ↦ inl (others_of ue dx de ux v u.0) ]
-        | inr u ↦ elim (signed (orientation a b c e) n) [ inl v ↦ inl (both_of ue dx de ux v u.0) | inr v ↦ inr (others_of ue dy de uy v u.1) ]
+        | inl u ↦ elim (signed (orientation a b c e) n)
+            [ inl v ↦ inr (both_of ue dy de uy v u.1) | inr v ↦ inl (others_of ue dx de ux v u.0) ]
+        | inr u ↦ elim (signed (orientation a b c e) n)
+            [ inl v ↦ inl (both_of ue dx de ux v u.0) | inr v ↦ inr (others_of ue dy de uy v u.1) ]
       ]
 
   -- no flaw, where all points are in the plane
-  pub flaw_none : is_collinear a b c ≡ false → find (λ f. not (is_flat a b c f)) s ≡ None → flaw_of s (Open (a ∷ b ∷ c ∷ [])) ≡ None
+  pub flaw_none : is_collinear a b c ≡ false → find (λ f. not (is_flat a b c f)) s ≡ None →
+      flaw_of s (Open (a ∷ b ∷ c ∷ [])) ≡ None
   flaw_none u n = rw (u, sides, inside) refl
     where
       -- no points are opposite
       apart : (e : ℕ) → IsIn e s → list_any (λ f. opp e f) s ≡ false
-      apart e m = false_if (list_any (λ f. opp e f) s) (λ t. (let r = any_from (λ f. opp e f) s t in not_both (not (is_flat a b c e)) (opposite_off e r.0 r.2) (none_found (λ f. not (is_flat a b c f)) s n e m)))
+      apart e m = false_if (list_any (λ f. opp e f) s)
+          (λ t. (let r = any_from (λ f. opp e f) s t in
+          not_both (not (is_flat a b c e)) (opposite_off e r.0 r.2) (none_found (λ f. not (is_flat a b c f)) s n e m)))
 
       -- so none are found
       sides : sides_of s (Open (a ∷ b ∷ c ∷ [])) ≡ None
@@ -150,7 +189,8 @@ module _ (s : List ℕ) (a b c : ℕ) where
       inside = rw (finds_none (is_inside s (Open (a ∷ b ∷ c ∷ []))) s (λ p m. ap (is_inside_with a b c p) n)) refl
 
   -- points on both sides
-  pub flaw_sides : (e f : ℕ) → is_collinear a b c ≡ false → find (λ f. not (is_flat a b c f)) s ≡ Some e → find (λ f. opp e f) s ≡ Some f → flaw_of s (Open (a ∷ b ∷ c ∷ [])) ≡ Some (Sides (a ∷ b ∷ c ∷ []) e f)
+  pub flaw_sides : (e f : ℕ) → is_collinear a b c ≡ false → find (λ f. not (is_flat a b c f)) s ≡ Some e →
+      find (λ f. opp e f) s ≡ Some f → flaw_of s (Open (a ∷ b ∷ c ∷ [])) ≡ Some (Sides (a ∷ b ∷ c ∷ []) e f)
   flaw_sides e f u n o = rw (u, first, o) refl
     where
       -- the first point with one opposite
@@ -162,7 +202,9 @@ module _ (s : List ℕ) (a b c : ℕ) where
           (any_true (λ f. opp e f) s f r.0 r.1)
 
   -- points on one side
-  pub flaw_inside : (e : ℕ) → is_collinear a b c ≡ false → find (λ f. not (is_flat a b c f)) s ≡ Some e → find (λ f. opp e f) s ≡ None → flaw_of s (Open (a ∷ b ∷ c ∷ [])) ≡ inside_with (Open (a ∷ b ∷ c ∷ [])) (find (λ p. is_inside_with a b c p (Some e)) s)
+  pub flaw_inside : (e : ℕ) → is_collinear a b c ≡ false → find (λ f. not (is_flat a b c f)) s ≡ Some e →
+      find (λ f. opp e f) s ≡ None → flaw_of s (Open (a ∷ b ∷ c ∷ [])) ≡ inside_with (Open (a ∷ b ∷ c ∷ []))
+      (find (λ p. is_inside_with a b c p (Some e)) s)
   flaw_inside e u n o = rw (u, sides, inside) refl
     where
       -- no points are opposite
@@ -179,5 +221,8 @@ module _ (s : List ℕ) (a b c : ℕ) where
       sides = rw (finds_none (λ e. list_any (λ f. opp e f) s) s apart) refl
 
       -- with that point off the plane
-      inside : inside_of s (Open (a ∷ b ∷ c ∷ [])) ≡ inside_with (Open (a ∷ b ∷ c ∷ [])) (find (λ p. is_inside_with a b c p (Some e)) s)
-      inside = ap (inside_with (Open (a ∷ b ∷ c ∷ []))) (find_same (is_inside s (Open (a ∷ b ∷ c ∷ []))) (λ p. is_inside_with a b c p (Some e)) s (λ p m. ap (is_inside_with a b c p) n))
+      inside : inside_of s (Open (a ∷ b ∷ c ∷ [])) ≡ inside_with (Open (a ∷ b ∷ c ∷ []))
+          (find (λ p. is_inside_with a b c p (Some e)) s)
+      inside = ap (inside_with (Open (a ∷ b ∷ c ∷ [])))
+          (find_same (is_inside s (Open (a ∷ b ∷ c ∷ []))) (λ p. is_inside_with a b c p (Some e)) s
+          (λ p m. ap (is_inside_with a b c p) n))

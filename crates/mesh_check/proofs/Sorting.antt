@@ -44,14 +44,18 @@ abbrev side : Facet → Cell → Side
 side f c = record { facet = f; cell = c }
 
 -- two answers the other way round
-then_reverse : (o r : Ordering) → ordering_then (ordering_reverse o) (ordering_reverse r) ≡ ordering_reverse (ordering_then o r)
+then_reverse : (o r : Ordering) → ordering_then (ordering_reverse o) (ordering_reverse r) ≡ ordering_reverse
+    (ordering_then o r)
 then_reverse Less r = refl
 then_reverse Equal r = refl
 then_reverse Greater r = refl
 
 -- the other way round the answer is the reverse
 side_reverse : (x y : Side) → side_cmp x y ≡ ordering_reverse (side_cmp y x)
-side_reverse x y = rw (facet_reverse x.facet y.facet, cell_reverse x.cell y.cell) (then_reverse (facet_cmp y.facet x.facet) (cell_cmp y.cell x.cell))
+side_reverse x y = rw (
+  facet_reverse x.facet y.facet,
+  cell_reverse x.cell y.cell,
+) (then_reverse (facet_cmp y.facet x.facet) (cell_cmp y.cell x.cell))
 
 -- sides that tie are one
 pub side_same : (x y : Side) → side_cmp x y ≡ Equal → x ≡ y
@@ -76,18 +80,26 @@ side_before : (x y z : Side) → side_cmp x y ≡ Less → side_cmp y z ≡ Less
 side_before x y z a b = by (facet_cmp x.facet y.facet) (facet_cmp y.facet z.facet) refl refl a b
   where
     -- by the answers on facets
-    by : (o r : Ordering) → facet_cmp x.facet y.facet ≡ o → facet_cmp y.facet z.facet ≡ r → ordering_then o (cell_cmp x.cell y.cell) ≡ Less → ordering_then r (cell_cmp y.cell z.cell) ≡ Less → side_cmp x z ≡ Less
+    by : (o r : Ordering) → facet_cmp x.facet y.facet ≡ o → facet_cmp y.facet z.facet ≡ r →
+        ordering_then o (cell_cmp x.cell y.cell) ≡ Less → ordering_then r (cell_cmp y.cell z.cell) ≡ Less →
+        side_cmp x z ≡ Less
     by Less Less h k a b = rw (facet_before x.facet y.facet z.facet h k) refl
     by Less Equal h k a b = rw (subst (λ f. facet_cmp x.facet f ≡ Less) (facet_same y.facet z.facet k) h) refl
     by Less Greater h k a b = cc
     by Equal Less h k a b = rw (subst (λ f. facet_cmp f z.facet ≡ Less) (sym (facet_same x.facet y.facet h)) k) refl
-    by Equal Equal h k a b = rw (ap (λ f. facet_cmp f z.facet) (facet_same x.facet y.facet h) ∙ k) (cell_before x.cell y.cell z.cell a b)
+    by Equal Equal h k a b = rw (ap (λ f. facet_cmp f z.facet) (facet_same x.facet y.facet h) ∙ k)
+        (cell_before x.cell y.cell z.cell a b)
     by Equal Greater h k a b = cc
     by Greater r h k a b = cc
 
 -- it is an order
 pub side_order : IsTotalOrder side_cmp
-side_order = record { antisymm = side_reverse; trans = side_before; congr = λ x y z h. ap (λ v. side_cmp v z) (side_same x y h) }
+side_order = record {
+  antisymm = side_reverse;
+  trans = side_before;
+  congr =
+      λ x y z h. ap (λ v. side_cmp v z) (side_same x y h);
+}
 
 -- ---- the sides of cells
 
@@ -170,7 +182,11 @@ map_end f [] x = refl
 map_end f (y ∷ l) x = ap (λ v. f y ∷ v) (map_end f l x)
 
 -- the sides of some cells, and of the first of a list, with those of the next
-pub one_more : (part : Part) (front : List Cell) (k : List ℕ → Cell) (l : List (List ℕ)) (i : ℕ) (q : List ℕ) (sides new : List Side) → i < length l → q ≡ slice_index_or l i q → sides ≡ flat_map (sides_in part) (front ++ map k (take i l)) → new ≡ sides ++ sides_in part (k q) → new ≡ flat_map (sides_in part) (front ++ map k (take (i + 1) l))
+pub one_more : (part : Part) (front : List Cell) (k : List ℕ → Cell) (l : List (List ℕ)) (i : ℕ) (q : List ℕ)
+    (sides new : List Side) → i < length l → q ≡ slice_index_or l i q →
+    sides ≡ flat_map (sides_in part) (front ++ map k (take i l)) → new ≡ sides ++ sides_in part (k q) →
+    new ≡ flat_map (sides_in part) (front ++ map k (take (i + 1) l))
 one_more part front k l i q sides new h e a b =
     b ∙ ap (λ v. v ++ sides_in part (k q)) a ∙ sym (flat_end (sides_in part) (front ++ map k (take i l)) (k q))
-    ∙ ap (flat_map (sides_in part)) (append_assoc front (map k (take i l)) (k q ∷ []) ∙ ap (λ v. front ++ v) (sym (map_end k (take i l) q) ∙ ap (map k) (sym (take_next l i q h e))))
+    ∙ ap (flat_map (sides_in part)) (append_assoc front (map k (take i l)) (k q ∷ [])
+    ∙ ap (λ v. front ++ v) (sym (map_end k (take i l) q) ∙ ap (map k) (sym (take_next l i q h e))))

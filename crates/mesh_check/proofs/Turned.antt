@@ -1,5 +1,23 @@
 -- The tests of a triple do not depend on whether its last two points are exchanged.
-use Rattle.std.specs.Prelude.{◌≡◌, refl, ℕ, ℤ, pos, neg_ℤ, ◌<ℤ◌, Bool, false, not, ◌&&◌, ◌||◌, ◌==◌, List, Option, None, Some}
+use Rattle.std.specs.Prelude.{
+  ◌≡◌,
+  refl,
+  ℕ,
+  ℤ,
+  pos,
+  neg_ℤ,
+  ◌<ℤ◌,
+  Bool,
+  false,
+  not,
+  ◌&&◌,
+  ◌||◌,
+  ◌==◌,
+  List,
+  Option,
+  None,
+  Some,
+}
 use Rattle.std.specs.Int.Signed.{lt_z}
 use Rattle.std.specs.List.{find}
 use Rattle.std.proofs.Common.{arith, ap, sym, ◌∙◌}
@@ -18,7 +36,9 @@ use Rattle.mesh_check.proofs.Flaws.{find_same}
 
 -- a number is positive where its opposite is negative
 high_turned : (z : ℤ) → lt_z (pos 0) (neg_ℤ z) ≡ lt_z z (pos 0)
-high_turned z = same_test (lt_z (pos 0) (neg_ℤ z)) (lt_z z (pos 0)) (λ t. less_true z (pos 0) (down (less_from (pos 0) (neg_ℤ z) t))) (λ t. less_true (pos 0) (neg_ℤ z) (up (less_from z (pos 0) t)))
+high_turned z = same_test (lt_z (pos 0) (neg_ℤ z)) (lt_z z (pos 0))
+    (λ t. less_true z (pos 0) (down (less_from (pos 0) (neg_ℤ z) t)))
+    (λ t. less_true (pos 0) (neg_ℤ z) (up (less_from z (pos 0) t)))
   where
     -- of the numbers
     down : pos 0 <ℤ neg_ℤ z → z <ℤ pos 0
@@ -30,7 +50,9 @@ high_turned z = same_test (lt_z (pos 0) (neg_ℤ z)) (lt_z z (pos 0)) (λ t. les
 
 -- and negative where it is positive
 low_turned : (z : ℤ) → lt_z (neg_ℤ z) (pos 0) ≡ lt_z (pos 0) z
-low_turned z = same_test (lt_z (neg_ℤ z) (pos 0)) (lt_z (pos 0) z) (λ t. less_true (pos 0) z (up (less_from (neg_ℤ z) (pos 0) t))) (λ t. less_true (neg_ℤ z) (pos 0) (down (less_from (pos 0) z t)))
+low_turned z = same_test (lt_z (neg_ℤ z) (pos 0)) (lt_z (pos 0) z)
+    (λ t. less_true (pos 0) z (up (less_from (neg_ℤ z) (pos 0) t)))
+    (λ t. less_true (neg_ℤ z) (pos 0) (down (less_from (pos 0) z t)))
   where
     -- of the numbers
     up : neg_ℤ z <ℤ pos 0 → pos 0 <ℤ z
@@ -57,12 +79,26 @@ zero_turned : (z : ℤ) → is_zero (neg_ℤ z) ≡ is_zero z
 zero_turned z = rw (high_turned z, low_turned z) (and_turned (not (lt_z z (pos 0))) (not (lt_z (pos 0) z)))
 
 -- opposite signs of two numbers and of their opposites
-signs_turned : (u v : ℤ) → ((lt_z (pos 0) (neg_ℤ u) && lt_z (neg_ℤ v) (pos 0)) || (lt_z (neg_ℤ u) (pos 0) && lt_z (pos 0) (neg_ℤ v))) ≡ ((lt_z (pos 0) u && lt_z v (pos 0)) || (lt_z u (pos 0) && lt_z (pos 0) v))
-signs_turned u v = rw (high_turned u, low_turned v, low_turned u, high_turned v) (or_turned (lt_z u (pos 0) && lt_z (pos 0) v) (lt_z (pos 0) u && lt_z v (pos 0)))
+signs_turned : (u v : ℤ) → ((lt_z (pos 0) (neg_ℤ u) && lt_z (neg_ℤ v) (pos 0)) ||
+    (lt_z (neg_ℤ u) (pos 0) && lt_z (pos 0) (neg_ℤ v))) ≡
+    ((lt_z (pos 0) u && lt_z v (pos 0)) || (lt_z u (pos 0) && lt_z (pos 0) v))
+signs_turned u v = rw (
+  high_turned u,
+  low_turned v,
+  low_turned u,
+  high_turned v,
+) (or_turned (lt_z u (pos 0) && lt_z (pos 0) v) (lt_z (pos 0) u && lt_z v (pos 0)))
 
 -- the same sign of two numbers and of their opposites
-same_turned : (u v : ℤ) → ((lt_z (pos 0) (neg_ℤ u) && lt_z (pos 0) (neg_ℤ v)) || (lt_z (neg_ℤ u) (pos 0) && lt_z (neg_ℤ v) (pos 0))) ≡ ((lt_z (pos 0) u && lt_z (pos 0) v) || (lt_z u (pos 0) && lt_z v (pos 0)))
-same_turned u v = rw (high_turned u, low_turned v, low_turned u, high_turned v) (or_turned (lt_z u (pos 0) && lt_z v (pos 0)) (lt_z (pos 0) u && lt_z (pos 0) v))
+same_turned : (u v : ℤ) → ((lt_z (pos 0) (neg_ℤ u) && lt_z (pos 0) (neg_ℤ v)) ||
+    (lt_z (neg_ℤ u) (pos 0) && lt_z (neg_ℤ v) (pos 0))) ≡
+    ((lt_z (pos 0) u && lt_z (pos 0) v) || (lt_z u (pos 0) && lt_z v (pos 0)))
+same_turned u v = rw (
+  high_turned u,
+  low_turned v,
+  low_turned u,
+  high_turned v,
+) (or_turned (lt_z u (pos 0) && lt_z v (pos 0)) (lt_z (pos 0) u && lt_z (pos 0) v))
 
 -- ---- triples
 
@@ -72,7 +108,10 @@ flat_turned a b c e = ap is_zero (swap_middle a b c e) ∙ zero_turned (orientat
 
 -- on opposite sides
 pub opposite_turned : (a b c m p : ℕ) → are_opposite a c b m p ≡ are_opposite a b c m p
-opposite_turned a b c m p = rw (swap_middle a b c m, swap_middle a b c p) (signs_turned (orientation a b c m) (orientation a b c p))
+opposite_turned a b c m p = rw (
+  swap_middle a b c m,
+  swap_middle a b c p,
+) (signs_turned (orientation a b c m) (orientation a b c p))
 
 -- the lifted determinant turns its sign
 out_turned : (a b c f e : ℕ) → out a c b f e ≡ neg_ℤ (out a b c f e)
@@ -80,17 +119,22 @@ out_turned a b c f e = out_is a c b f e ∙ lifted_swap23 height a b c f e ∙ a
 
 -- outside
 pub outside_turned : (a b c f e : ℕ) → is_outside a c b f e ≡ is_outside a b c f e
-outside_turned a b c f e = rw (swap_middle a b c f, out_turned a b c f e) (same_turned (orientation a b c f) (out a b c f e))
+outside_turned a b c f e = rw (
+  swap_middle a b c f,
+  out_turned a b c f e,
+) (same_turned (orientation a b c f) (out a b c f e))
 
 -- the same point is found off the plane
 pub off_turned : (s : List ℕ) (a b c : ℕ) → find (λ f. not (is_flat a c b f)) s ≡ find (λ f. not (is_flat a b c f)) s
-off_turned s a b c = find_same (λ f. not (is_flat a c b f)) (λ f. not (is_flat a b c f)) s (λ f m. ap not (flat_turned a b c f))
+off_turned s a b c = find_same (λ f. not (is_flat a c b f)) (λ f. not (is_flat a b c f)) s
+    (λ f m. ap not (flat_turned a b c f))
 
 -- inside
 pub inside_turned : (a b c p : ℕ) (o : Option ℕ) → is_inside_with a c b p o ≡ is_inside_with a b c p o
 inside_turned a b c p None = refl
 inside_turned a b c p (Some f) =
-    rw (flat_turned a b c p, outside_turned a b c f p) (ap (λ t. not (t || not (is_flat a b c p) || is_outside a b c f p)) (or_last (a == p) (c == p) (b == p)))
+    rw (flat_turned a b c p, outside_turned a b c f p)
+    (ap (λ t. not (t || not (is_flat a b c p) || is_outside a b c f p)) (or_last (a == p) (c == p) (b == p)))
 
 -- ---- four points in one plane
 

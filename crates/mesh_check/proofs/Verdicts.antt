@@ -1,9 +1,38 @@
 -- What a verdict on lists says of them.
-use Rattle.std.specs.Prelude.{◌≡◌, refl, ℕ, Bool, true, false, not, ◌||◌, List, [], ◌∷◌, Option, None, Some, Result, Ok, ◌==◌, length, slice_index_or}
+use Rattle.std.specs.Prelude.{
+  ◌≡◌,
+  refl,
+  ℕ,
+  Bool,
+  true,
+  false,
+  not,
+  ◌||◌,
+  List,
+  [],
+  ◌∷◌,
+  Option,
+  None,
+  Some,
+  Result,
+  Ok,
+  ◌==◌,
+  length,
+  slice_index_or,
+}
 use Rattle.std.specs.declared.alloc.AllocError.{AllocError}
 use Rattle.std.specs.List.{list_all}
 use Rattle.std.proofs.Common.{inl, inr, ap, sym, subst, ◌∙◌}
-use Rattle.list_laws.proofs.Cited.{all_from, all_true, both_true, not_both, not_from, not_true, second_true, first_true as first_of_two}
+use Rattle.list_laws.proofs.Cited.{
+  all_from,
+  all_true,
+  both_true,
+  not_both,
+  not_from,
+  not_true,
+  second_true,
+  first_true as first_of_two,
+}
 use Rattle.point_order.specs.declared.cell.Cell.{Cell}
 use Rattle.point_order.specs.declared.cell.Cell.TheVariants.{Full, Open}
 use Rattle.point_order.specs.declared.cell.Facet.{Facet}
@@ -23,7 +52,18 @@ use Rattle.mesh_check.specs.declared.flaw.Flaw.{Flaw}
 use Rattle.mesh_check.specs.declared.flaw.Flaw.TheVariants.{Empty, FlatCell, Sides, Inside, OpenFacet}
 use Rattle.mesh_check.specs.declared.flaw.Verdict.{Verdict}
 use Rattle.mesh_check.specs.declared.flaw.Verdict.TheVariants.{Good, Bad}
-use Rattle.mesh_check.specs.Flaws.{is_flat_cell, are_apart, is_inside, IsFacet, IsInTwo, first_flaw, IsFlaw, IsVerdict, AreCells, listed}
+use Rattle.mesh_check.specs.Flaws.{
+  is_flat_cell,
+  are_apart,
+  is_inside,
+  IsFacet,
+  IsInTwo,
+  first_flaw,
+  IsFlaw,
+  IsVerdict,
+  AreCells,
+  listed,
+}
 use Rattle.mesh_check.specs.Laws.{AreOfComplex, AreSound, IsComplex, GoodIsComplex, FlawIsTrue, FlawShows}
 use Rattle.mesh_check.proofs.Flaws.{IsSound, first_of_cell, first_true, none_flawed, sound}
 use Rattle.mesh_check.proofs.Triples.{open_is_sound, sound_is_open}
@@ -52,7 +92,9 @@ full_sound s a b c d t =
     record {
       upright = not_from (is_flat a b c d) (first_of_two (not (is_flat a b c d)) each u);
       together = λ e f me mf. refl;
-      outside = λ p m. true_not (is_among p (a ∷ b ∷ c ∷ d ∷ []) || is_outside a b c d p) (all_from (λ e. is_among e (a ∷ b ∷ c ∷ d ∷ []) || is_outside a b c d e) s (second_true (not (is_flat a b c d)) each u) p m);
+      outside = λ p m. true_not (is_among p (a ∷ b ∷ c ∷ d ∷ []) || is_outside a b c d p)
+          (all_from (λ e. is_among e (a ∷ b ∷ c ∷ d ∷ []) || is_outside a b c d e) s
+          (second_true (not (is_flat a b c d)) each u) p m);
     }
 
 -- a listed cell
@@ -60,7 +102,8 @@ listed_sound : (s : List ℕ) (c : Cell) → IsListed s c → IsSound s c
 listed_sound s (Full q) l = subst (λ (v : List ℕ). IsSound s (Full v)) (sym l.is) (full_sound s l.a l.b l.c l.d l.test)
 listed_sound s (Open t) l =
     subst (λ (v : List ℕ). IsSound s (Open v)) (sym l.is)
-    (open_is_sound s l.a l.b l.c (second_true (are_among (l.a ∷ l.b ∷ l.c ∷ []) s) (is_open s (l.a ∷ l.b ∷ l.c ∷ [])) l.test))
+    (open_is_sound s l.a l.b l.c (second_true (are_among (l.a ∷ l.b ∷ l.c ∷ []) s) (is_open s (l.a ∷ l.b ∷ l.c ∷ []))
+    l.test))
 
 -- each facet is one of two cells
 facet_in_two : (s : List ℕ) (f : Facet) → IsAscending s → AreKeys s → IsFacet (complex s) f → IsInTwo (complex s) f
@@ -79,10 +122,14 @@ facet_in_two s f a k i =
 
 -- no flaw is true of it
 none_true : (s : List ℕ) (flaw : Flaw) → IsAscending s → AreKeys s → is_solid s ≡ true → IsFlaw s (complex s) flaw → ⊥
-none_true s Empty a k i v = subst (λ (l : List Cell). IsIn (complex_is_closed_list s a k i).some l) v (complex_is_closed_list s a k i).has_some
-none_true s (FlatCell c) a k i v = not_both (is_flat_cell c) v.1 (listed_sound s c ((complex_is_closed_list s a k i).empty c v.0)).upright
-none_true s (Sides t e f) a k i v = not_both (are_apart (Open t) e f) v.3 ((listed_sound s (Open t) ((complex_is_closed_list s a k i).empty (Open t) v.0)).together e f v.1 v.2)
-none_true s (Inside c p) a k i v = not_both (is_inside s c p) v.2 ((listed_sound s c ((complex_is_closed_list s a k i).empty c v.0)).outside p v.1)
+none_true s Empty a k i v = subst (λ (l : List Cell). IsIn (complex_is_closed_list s a k i).some l) v
+    (complex_is_closed_list s a k i).has_some
+none_true s (FlatCell c) a k i v = not_both (is_flat_cell c) v.1
+    (listed_sound s c ((complex_is_closed_list s a k i).empty c v.0)).upright
+none_true s (Sides t e f) a k i v = not_both (are_apart (Open t) e f) v.3
+    ((listed_sound s (Open t) ((complex_is_closed_list s a k i).empty (Open t) v.0)).together e f v.1 v.2)
+none_true s (Inside c p) a k i v = not_both (is_inside s c p) v.2
+    ((listed_sound s c ((complex_is_closed_list s a k i).empty c v.0)).outside p v.1)
 none_true s (OpenFacet f) a k i v = v.1 (facet_in_two s f a k v.0)
 
 -- the law FlawShows
@@ -113,7 +160,8 @@ full_passes s (a ∷ b ∷ c ∷ []) r = absurd (cc r.upright)
 full_passes s (a ∷ b ∷ c ∷ d ∷ []) r =
     both_true (not (is_flat a b c d)) (list_all (λ e. is_among e (a ∷ b ∷ c ∷ d ∷ []) || is_outside a b c d e) s)
     (not_true (is_flat a b c d) r.upright)
-    (all_true (λ e. is_among e (a ∷ b ∷ c ∷ d ∷ []) || is_outside a b c d e) s (λ e m. not_false (is_among e (a ∷ b ∷ c ∷ d ∷ []) || is_outside a b c d e) (r.outside e m)))
+    (all_true (λ e. is_among e (a ∷ b ∷ c ∷ d ∷ []) || is_outside a b c d e) s
+    (λ e m. not_false (is_among e (a ∷ b ∷ c ∷ d ∷ []) || is_outside a b c d e) (r.outside e m)))
   where
     -- what is not false is true
     not_false : (p : Bool) → not p ≡ false → p ≡ true
@@ -124,7 +172,13 @@ full_passes s (a ∷ b ∷ c ∷ d ∷ e ∷ q) r = absurd (cc r.upright)
 -- the other of the two cells on a facet
 second_of : (l : List Cell) (c : Cell) (f : Facet) → IsIn c l → IsIn f (facets_of c) → IsInTwo l f → HasSecondCell l c f
 second_of l c f m h t = elim (t.only c m h) [
-  | inl e ↦ record { second = t.second; differs = λ g. t.differ (sym e ∙ sym g); listed = t.second_listed; has = t.second_has }
+  | inl e ↦ record {
+    second = t.second;
+    differs = λ g. t.differ (sym e ∙ sym g);
+    listed = t.second_listed;
+    has =
+        t.second_has;
+  }
   | inr e ↦ record { second = t.first; differs = λ g. t.differ (g ∙ e); listed = t.first_listed; has = t.first_has }
 ]
 
@@ -148,18 +202,26 @@ no_triple : (p t : List ℕ) → Two p ≡ Three t → ⊥
 no_triple p t e = cc
 
 -- another cell with the triple has such a point
-off_full : (s q t : List ℕ) → IsSound s (Full q) → ((p : ℕ) → IsIn p q → IsIn p s) → IsIn (Three t) (facets_of (Full q)) → HasOff s t
+off_full : (s q t : List ℕ) → IsSound s (Full q) → ((p : ℕ) → IsIn p q → IsIn p s) →
+    IsIn (Three t) (facets_of (Full q)) → HasOff s t
 off_full s [] t r f m = absurd m
 off_full s (a ∷ []) t r f m = absurd m
 off_full s (a ∷ b ∷ []) t r f m = absurd m
 off_full s (a ∷ b ∷ c ∷ []) t r f m = absurd m
 off_full s (a ∷ b ∷ c ∷ d ∷ []) t r f m = elim m [
-  | inl e ↦ at (same_three (b ∷ c ∷ d ∷ []) t e) (record { point = a; inside = f a (inl refl); off = flat_front a b c d ∙ r.upright })
+  | inl e ↦ at (same_three (b ∷ c ∷ d ∷ []) t e)
+      (record { point = a; inside = f a (inl refl); off = flat_front a b c d ∙ r.upright })
   | inr u ↦ elim u [
-    | inl e ↦ at (same_three (a ∷ c ∷ d ∷ []) t e) (record { point = b; inside = f b (inr (inl refl)); off = flat_second a b c d ∙ r.upright })
+    | inl e ↦ at (same_three (a ∷ c ∷ d ∷ []) t e)
+        (record { point = b; inside = f b (inr (inl refl)); off = flat_second a b c d ∙ r.upright })
     | inr v ↦ elim v [
-      | inl e ↦ at (same_three (a ∷ b ∷ d ∷ []) t e) (record { point = c; inside = f c (inr (inr (inl refl))); off = flat_third a b c d ∙ r.upright })
-      | inr w ↦ elim w [ inl e ↦ at (same_three (a ∷ b ∷ c ∷ []) t e) (record { point = d; inside = f d (inr (inr (inr (inl refl)))); off = r.upright }) | inr none ↦ absurd none ]
+      | inl e ↦ at (same_three (a ∷ b ∷ d ∷ []) t e)
+          (record { point = c; inside = f c (inr (inr (inl refl))); off = flat_third a b c d ∙ r.upright })
+      | inr w ↦ elim w [
+        | inl e ↦ at (same_three (a ∷ b ∷ c ∷ []) t e)
+            (record { point = d; inside = f d (inr (inr (inr (inl refl)))); off = r.upright })
+        | inr none ↦ absurd none
+      ]
     ]
   ]
 ]
@@ -186,7 +248,8 @@ open_with (a ∷ b ∷ c ∷ []) t m = elim m [
 ]
 open_with (a ∷ b ∷ c ∷ d ∷ u) t m = absurd m
 
-module _ (s : List ℕ) (l : List Cell) (g : AreCells s l) (none : first_flaw s l ≡ None) (two : (f : Facet) → IsFacet l f → IsInTwo l f) where
+module _ (s : List ℕ) (l : List Cell) (g : AreCells s l) (none : first_flaw s l ≡ None) (two : (f : Facet) →
+    IsFacet l f → IsInTwo l f) where
   -- each cell is sound
   each_sound : (c : Cell) → IsIn c l → IsSound s c
   each_sound c m = sound s c (none_flawed s l none c m)
@@ -262,7 +325,8 @@ same_flaw : (r flaw : Flaw) → ◌≡◌ {A = Result Verdict AllocError} (Ok (B
 same_flaw r flaw e = cc
 
 -- what a flaw says
-pub bad_says : (s : List ℕ) (l : List Cell) (r flaw : Flaw) → IsAscending s → AreKeys s → IsVerdict s l (Bad r) → ◌≡◌ {A = Result Verdict AllocError} (Ok (Bad r)) (Ok (Bad flaw)) → IsFlaw s l flaw × (IsComplex s l → ⊥)
+pub bad_says : (s : List ℕ) (l : List Cell) (r flaw : Flaw) → IsAscending s → AreKeys s → IsVerdict s l (Bad r) →
+    ◌≡◌ {A = Result Verdict AllocError} (Ok (Bad r)) (Ok (Bad flaw)) → IsFlaw s l flaw × (IsComplex s l → ⊥)
 bad_says s l r flaw a k v e =
     let f = subst (IsFlaw s l) (same_flaw r flaw e) (flaw_is_true s l r v) in
     (f, flaw_shows s l flaw a k f)

@@ -14,7 +14,7 @@ use crate::gaps::open_facet;
 use crate::matching::beside_complex;
 use cell_lists::QuadList;
 use cloud_cells::{Compared, Made};
-use point_order::{Point, Tri};
+use point_order::{Point, Quad, Tri};
 use std::alloc::{AllocError, Global};
 
 // Whether both lists are empty.
@@ -61,7 +61,8 @@ pub(crate) fn check_beside(
 /// then by their facets.
 ///
 /// The complex is made of the points at once, where they are solid. Where the lists equal it, there is no flaw; else
-/// each cell that is not known to be one of it is tried against each point, up to the first that has a flaw. The facets are looked at part by part, so that those of all cells never stand in memory at once.
+/// each cell that is not known to be one of it is tried against each point, up to the first that has a flaw. The facets
+/// are looked at part by part, so that those of all cells never stand in memory at once.
 ///
 /// The points are to ascend, and the cells and triples to stand in order, each once, with points of these.
 ///
@@ -70,7 +71,7 @@ pub(crate) fn check_beside(
 pub fn check(
     alloc: Global,
     points: &[Point],
-    cells: &QuadList,
+    cells: &[Quad],
     hull: &[Tri],
 ) -> Result<Verdict, AllocError>
     requires points { IsAscending points.now }
@@ -81,5 +82,6 @@ pub fn check(
     ensures bad { (flaw : FlawParts) → result ≡ Ok (IsBad flaw) → IsFlaw points.now (listed cells.now hull.now) flaw
         × (IsComplex points.now (listed cells.now hull.now) → ⊥) }
 {
-    check_beside(alloc, None, points, cells, hull)
+    let list = QuadList::of(alloc, points, cells)?;
+    check_beside(alloc, None, points, &list, hull)
 }

@@ -18,7 +18,7 @@ pub mod report;
 mod shapes;
 mod summary;
 
-pub use mesh_reader::{MeshFile, MeshReader, read_mesh};
+pub use mesh_reader::{MeshFile, MeshReader, PackedMesh, read_mesh};
 pub use off::{off_text, put_off};
 pub use report::{Report, mesh_text, put_report};
 pub use shapes::shape_text;

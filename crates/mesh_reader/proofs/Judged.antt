@@ -28,7 +28,7 @@ use Rattle.edit_files.specs.declared.fault.Fault.{Fault}
 use Rattle.edit_files.specs.declared.fault.ReadRefused.{ReadRefused}
 use Rattle.edit_files.specs.declared.fault.ReadRefused.TheVariants as refusals
 use Rattle.edit_files.specs.Lines.{lines_of}
-use Rattle.mesh_reader.specs.declared.mesh_file.MeshFile.{MeshFile}
+use Rattle.mesh_reader.specs.declared.mesh_file.PackedMesh.{PackedMesh}
 use Rattle.mesh_reader.specs.declared.place.Due.{Due}
 use Rattle.mesh_reader.specs.declared.place.Due.TheVariants.{Title, Head, Body, Last, Nothing}
 use Rattle.mesh_reader.specs.Grammar.{AllLead, IsMeshText, MeshParts, Reached, at_end, at_title, parts}
@@ -264,16 +264,16 @@ fault_judged bytes fault h = elim h [
 -- ---- what a call gave
 
 -- what a call gives that gives what judging does is the mesh of the text
-pub given_mesh : (bytes : List ℕ) (r : Result MeshFile ReadRefused) → Gives parts r (judge 1 at_title
+pub given_mesh : (bytes : List ℕ) (r : Result PackedMesh ReadRefused) → Gives parts r (judge 1 at_title
     (lines_of bytes)) → IfOk r (λ m. IsMeshText bytes (parts m))
 given_mesh bytes (Ok m) h = judged_mesh bytes (parts m) h
 given_mesh bytes (Err e) h = tt
 
 -- and the fault that it gives is the text's
-pub given_fault : (bytes : List ℕ) (r : Result MeshFile ReadRefused) (fault : Fault) → Gives parts r (judge 1 at_title
+pub given_fault : (bytes : List ℕ) (r : Result PackedMesh ReadRefused) (fault : Fault) → Gives parts r (judge 1 at_title
     (lines_of bytes)) → r ≡ Err (refusals.Bad fault) → IsMeshFault bytes fault
 given_fault bytes r fault h e =
-    judged_fault bytes fault (subst (λ (v : Result MeshFile ReadRefused). Gives parts v (judge 1 at_title
+    judged_fault bytes fault (subst (λ (v : Result PackedMesh ReadRefused). Gives parts v (judge 1 at_title
     (lines_of bytes))) e h)
 
 -- ---- laws

@@ -17,7 +17,7 @@ use Rattle.mesh_reader.specs.declared.place.Due.{Due}
 use Rattle.mesh_reader.specs.declared.place.Due.TheVariants.{Title, Head, Body, Last, Nothing}
 use Rattle.edit_files.specs.Lines.{lines_of}
 use Rattle.edit_files.specs.declared.fault.ReadRefused.{ReadRefused}
-use Rattle.mesh_reader.specs.declared.mesh_file.MeshFile.{MeshFile}
+use Rattle.mesh_reader.specs.declared.mesh_file.PackedMesh.{PackedMesh}
 use Rattle.mesh_reader.specs.Grammar.{
   AllLead,
   AreIndices,
@@ -147,7 +147,7 @@ pub mesh_order : (bytes : List ℕ) (f : MeshParts) → IsMeshText bytes f → I
 mesh_order bytes f h = all_order (lines_of bytes) at_title (at_end f) h none_order
 
 -- and that of a call
-pub given_order : (bytes : List ℕ) (r : Result MeshFile ReadRefused) → IfOk r (λ m. IsMeshText bytes (parts m))
+pub given_order : (bytes : List ℕ) (r : Result PackedMesh ReadRefused) → IfOk r (λ m. IsMeshText bytes (parts m))
     → IfOk r (λ m. IsInOrder (parts m))
 given_order bytes (Ok m) h = mesh_order bytes (parts m) h
 given_order bytes (Err e) h = tt

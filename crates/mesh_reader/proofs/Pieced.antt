@@ -45,7 +45,7 @@ use Rattle.edit_files.specs.declared.fault.ReadRefused.TheVariants as refusals
 use Rattle.edit_files.specs.Lines.{lines_of}
 use Rattle.edit_files.proofs.Cited.{line_first, without_append}
 use Rattle.mesh_reader.specs.declared.counted.Counted.{Counted}
-use Rattle.mesh_reader.specs.declared.mesh_file.MeshFile.{MeshFile}
+use Rattle.mesh_reader.specs.declared.mesh_file.PackedMesh.{PackedMesh}
 use Rattle.mesh_reader.specs.declared.place.Part.{Part}
 use Rattle.mesh_reader.specs.declared.place.Part.TheVariants.{Replies, Points, Cells, Hull}
 use Rattle.mesh_reader.specs.declared.place.Due.{Due}
@@ -98,7 +98,8 @@ fewer_left a line b h = lead_left a.due a.taken line b (step_sound a line b h)
 -- ---- a wrong line
 
 -- a refusal by its fault
-pub bad_one : (e : ReadRefused) (fault : Fault) → ◌≡◌ {A = Result Counted ReadRefused} (Err e) (Err (refusals.Bad fault))
+pub bad_one : (e : ReadRefused) (fault : Fault) →
+    ◌≡◌ {A = Result Counted ReadRefused} (Err e) (Err (refusals.Bad fault))
     → e ≡ refusals.Bad fault
 bad_one e fault h = cc
 
@@ -231,7 +232,7 @@ piece_taken r now next piece line behind rest p t l n b bytes h =
 
 -- an end of a text that begins no line
 pub none_given : (r : MeshReader) (bytes : List ℕ) → HasTaken r bytes → (vec_len r.begun == 0) ≡ true
-    → (given : Result MeshFile ReadRefused) → Gives parts given (comes_to r.state [])
+    → (given : Result PackedMesh ReadRefused) → Gives parts given (comes_to r.state [])
     → Gives parts given (judge 1 at_title (lines_of bytes))
 none_given r bytes h z given g =
     let k : vec_len r.begun ≡ 0 = eqb-true (vec_len r.begun) 0 z in
@@ -247,7 +248,7 @@ none_given r bytes h z given g =
 pub last_given : (r : MeshReader) (bytes : List ℕ) → HasTaken r bytes → (vec_len r.begun == 0) ≡ false
     → (line : List ℕ) → line ≡ r.begun.items → (next : State)
     → ((lines : List (List ℕ)) → comes_to next lines ≡ comes_to r.state (line ∷ lines))
-    → (given : Result MeshFile ReadRefused) → Gives parts given (comes_to next [])
+    → (given : Result PackedMesh ReadRefused) → Gives parts given (comes_to next [])
     → Gives parts given (judge 1 at_title (lines_of bytes))
 last_given r bytes h z line e next t given g =
     let k = eqb-false (vec_len r.begun) 0 z in

@@ -20,6 +20,7 @@ use Rattle.edit_files.specs.Lines.{lines_of}
 use Rattle.edit_files.specs.Numbers.{IsNumber, IsNumberOf}
 use Rattle.edit_files.specs.Forms.{HasPointForm, IsPointLine}
 use Rattle.mesh_reader.specs.declared.mesh_file.MeshFile.{MeshFile}
+use Rattle.mesh_reader.specs.declared.mesh_file.PackedMesh.{PackedMesh}
 use Rattle.mesh_reader.specs.declared.place.Part.{Part}
 use Rattle.mesh_reader.specs.declared.place.Part.TheVariants.{Replies, Points, Cells, Hull}
 use Rattle.mesh_reader.specs.declared.place.Due.{Due}
@@ -39,9 +40,14 @@ abbrev pub no_parts : MeshParts
 no_parts = record { replies = []; points = []; cells = []; hull = [] }
 
 -- a mesh without where its lists lie in memory
-abbrev pub parts : MeshFile → MeshParts
+abbrev pub parts : PackedMesh → MeshParts
 parts f =
     record { replies = f.replies.items; points = f.points.items; cells = f.cells; hull = f.hull.items }
+
+-- and one whose cells are not packed
+abbrev pub file_parts : MeshFile → MeshParts
+file_parts f =
+    record { replies = f.replies.items; points = f.points.items; cells = f.cells.items; hull = f.hull.items }
 
 -- ---- the lines
 

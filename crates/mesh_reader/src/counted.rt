@@ -7,7 +7,7 @@ ghost use Rattle.mesh_reader.specs.Grammar.{at_title, parts};
 ghost use Rattle.mesh_reader.specs.Judging.{Gives, judge, reached};
 ghost use Rattle.mesh_reader.specs.LinesLeft.{line_count, most_left};
 
-use crate::mesh_file::MeshFile;
+use crate::mesh_file::PackedMesh;
 use crate::reader::Reader;
 use edit_files::ReadRefused;
 use std::alloc::Global;
@@ -51,7 +51,7 @@ impl Counted {
     }
 
     // The mesh, where its end was read.
-    pub(crate) fn finish(self) -> Result<MeshFile, ReadRefused>
+    pub(crate) fn finish(self) -> Result<PackedMesh, ReadRefused>
         ensures { Gives parts result (judge self.number (reached self.reader) []) }
     {
         let Counted { reader, number } = self;

@@ -24,5 +24,5 @@ mod pieces;
 pub mod place;
 mod reader;
 
-pub use mesh_file::MeshFile;
+pub use mesh_file::{MeshFile, PackedMesh};
 pub use pieces::{MeshReader, read_mesh};

@@ -5,13 +5,13 @@ ghost use Rattle.edit_files.specs.declared.fault.Fault.{Fault as FaultParts};
 ghost use Rattle.edit_files.specs.declared.fault.ReadRefused.TheVariants.{Bad};
 ghost use Rattle.edit_files.specs.Lines.{lines_of};
 ghost use Rattle.mesh_reader.specs.Faults.{IsMeshFault};
-ghost use Rattle.mesh_reader.specs.Grammar.{IsMeshText, parts};
+ghost use Rattle.mesh_reader.specs.Grammar.{IsMeshText, file_parts, parts};
 ghost use Rattle.mesh_reader.specs.Judging.{Gives};
 ghost use Rattle.mesh_reader.specs.Order.{IsInOrder};
 ghost use Rattle.mesh_reader.specs.Pieces.{HasNoFeed, HasTaken, LeavesOf, comes_to};
 
 use crate::counted::Counted;
-use crate::mesh_file::MeshFile;
+use crate::mesh_file::{MeshFile, PackedMesh};
 use edit_files::{Fault, ReadRefused};
 use point_order::Point;
 use std::alloc::{AllocError, Global};
@@ -79,7 +79,7 @@ impl State {
     }
 
     // The mesh, where its end was read.
-    fn finish(self) -> Result<MeshFile, ReadRefused>
+    fn finish(self) -> Result<PackedMesh, ReadRefused>
         ensures { Gives parts result (comes_to self []) }
     {
         match self {
@@ -147,8 +147,9 @@ impl MeshReader {
     ///
     /// # Errors
     /// Where they are of none, their one fault; and want of memory.
-    pub fn finish(self) -> Result<MeshFile, ReadRefused>
-        ensures accepted { (bytes : List ℕ) → HasTaken self bytes → IfOk result (λ mesh. IsMeshText bytes (parts mesh)) }
+    pub fn finish(self) -> Result<PackedMesh, ReadRefused>
+        ensures accepted { (bytes : List ℕ) → HasTaken self bytes →
+            IfOk result (λ mesh. IsMeshText bytes (parts mesh)) }
         ensures order { (bytes : List ℕ) → HasTaken self bytes → IfOk result (λ mesh. IsInOrder (parts mesh)) }
         ensures fault { (bytes : List ℕ) (fault : FaultParts) → HasTaken self bytes → result ≡ Err (Bad fault)
             → IsMeshFault bytes fault }
@@ -172,12 +173,19 @@ impl MeshReader {
 /// # Errors
 /// Where it is of none, its one fault; and where there is no memory for what it names, that.
 pub fn read_mesh(alloc: Global, bytes: &[u8]) -> Result<MeshFile, ReadRefused>
-    ensures accepted { IfOk result (λ mesh. IsMeshText bytes.now (parts mesh)) }
-    ensures order { IfOk result (λ mesh. IsInOrder (parts mesh)) }
+    ensures accepted { IfOk result (λ mesh. IsMeshText bytes.now (file_parts mesh)) }
+    ensures order { IfOk result (λ mesh. IsInOrder (file_parts mesh)) }
     ensures fault { (fault : FaultParts) → result ≡ Err (Bad fault) → IsMeshFault bytes.now fault }
 {
-    match MeshReader::new(alloc).take(bytes) {
-        Ok(reader) => reader.finish(),
+    let Ok(reader) = MeshReader::new(alloc).take(bytes) else {
+        return Err(ReadRefused::Memory);
+    };
+    let mesh = match reader.finish() {
+        Ok(mesh) => mesh,
+        Err(why) => return Err(why),
+    };
+    match mesh.unpacked(alloc) {
+        Ok(file) => Ok(file),
         Err(_) => Err(ReadRefused::Memory),
     }
 }

@@ -22,7 +22,7 @@ ghost use Rattle.mesh_reader.specs.Judging.{
 };
 
 use crate::line::{announced, quad_of, reads, reply_of, tri_of};
-use crate::mesh_file::MeshFile;
+use crate::mesh_file::PackedMesh;
 use crate::place::{Due, Part, limit_of, lines_due};
 use cell_lists::QuadList;
 use edit_files::{Fault, ReadRefused, Why, point_of};
@@ -83,7 +83,7 @@ impl From<AllocError> for LineRefused {
 #[derive(Drop)]
 pub(crate) struct Reader {
     pub(crate) due: Due,
-    file: MeshFile,
+    file: PackedMesh,
 }
 
 // Whether the last of the points is before p.
@@ -122,7 +122,7 @@ fn is_after_triples(triples: &[Tri], tri: Tri) -> bool
     }
 }
 
-impl MeshFile {
+impl PackedMesh {
     // Takes a reply.
     fn take_reply(&mut self, line: &[u8]) -> Result<(), LineRefused>
         ensures { Steps result (parts self.new) (taken lists.Replies (parts self.old) line.now) }
@@ -185,7 +185,7 @@ impl Reader {
     pub(crate) fn new(alloc: Global) -> Reader
         ensures { reached result ≡ at_title }
     {
-        let file = MeshFile {
+        let file = PackedMesh {
             replies: Vec::new(alloc),
             points: Vec::new(alloc),
             cells: QuadList::new(alloc),
@@ -251,7 +251,7 @@ impl Reader {
     }
 
     // The mesh, where its end was read; `line` is the number of the line that would follow.
-    pub(crate) fn finish(self, line: u64) -> Result<MeshFile, ReadRefused>
+    pub(crate) fn finish(self, line: u64) -> Result<PackedMesh, ReadRefused>
         ensures { Gives parts result (ended line self.due (parts self.file)) }
     {
         match self.due {

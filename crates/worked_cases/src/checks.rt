@@ -1,15 +1,14 @@
 //! Texts of meshes, and whether their lists are the complex of their points. In a case a bar stands for a line feed,
 //! and a tilde for a carriage return.
 
-ghost use Rattle.mesh_reader.specs.Grammar.{parts};
+ghost use Rattle.mesh_reader.specs.Grammar.{file_parts};
 ghost use Rattle.mesh_reader.specs.Order.{IsInOrder};
 
 use crate::files::put_part;
 use crate::telling::{Answer, put_places, put_point};
-use cell_lists::QuadList;
 use edit_files::ReadRefused;
 use mesh_check::{Flaw, Verdict, check};
-use mesh_reader::{MeshFile, MeshReader, read_mesh};
+use mesh_reader::{MeshFile, MeshReader, PackedMesh, read_mesh};
 use point_order::Point;
 use std::alloc::{AllocError, Global};
 
@@ -40,14 +39,14 @@ fn put_flaw(answer: &mut Answer, points: &[Point], flaw: &Flaw) {
 
 // What a check of the lists comes to.
 fn judged(alloc: Global, mesh: &MeshFile) -> Result<Verdict, AllocError>
-    requires { IsInOrder (parts mesh.now) }
+    requires { IsInOrder (file_parts mesh.now) }
 {
     check(alloc, &mesh.points, &mesh.cells, &mesh.hull)
 }
 
 // The same, put down.
 fn put_judged(alloc: Global, answer: &mut Answer, mesh: &MeshFile)
-    requires { IsInOrder (parts mesh.now) }
+    requires { IsInOrder (file_parts mesh.now) }
 {
     match judged(alloc, mesh) {
         Ok(Verdict::Good) => answer.put(" good"),
@@ -58,7 +57,7 @@ fn put_judged(alloc: Global, answer: &mut Answer, mesh: &MeshFile)
 
 // The lists of a mesh, and what a check of them comes to.
 fn put_mesh(alloc: Global, answer: &mut Answer, mesh: &MeshFile)
-    requires { IsInOrder (parts mesh.now) }
+    requires { IsInOrder (file_parts mesh.now) }
 {
     for reply in &mesh.replies {
         write!(answer, " {reply:?}");
@@ -68,8 +67,8 @@ fn put_mesh(alloc: Global, answer: &mut Answer, mesh: &MeshFile)
         put_point(answer, *p);
     }
     answer.put("; cells");
-    for place in 0..mesh.cells.len() {
-        put_places(answer, &mesh.points, mesh.cells.at(place).points());
+    for quad in &mesh.cells {
+        put_places(answer, &mesh.points, quad.points());
     }
     answer.put("; hull");
     for tri in &mesh.hull {
@@ -86,14 +85,17 @@ fn read_in_two(alloc: Global, bytes: &[u8]) -> Result<MeshFile, ReadRefused> {
         return Err(ReadRefused::Memory);
     };
     match reader.take(back) {
-        Ok(reader) => reader.finish(),
+        Ok(reader) => unpacked(alloc, reader.finish()),
         Err(_) => Err(ReadRefused::Memory),
     }
 }
 
-// Whether two lists have the same cells.
-fn are_one(one: &QuadList, other: &QuadList) -> bool {
-    one.len() == other.len() && (0..one.len()).all(|place| one.at(place) == other.at(place))
+// A mesh that was read in pieces, with its cells as they are.
+fn unpacked(alloc: Global, read: Result<PackedMesh, ReadRefused>) -> Result<MeshFile, ReadRefused> {
+    match read?.unpacked(alloc) {
+        Ok(file) => Ok(file),
+        Err(_) => Err(ReadRefused::Memory),
+    }
 }
 
 // Whether two readings came to the same.
@@ -102,7 +104,7 @@ fn are_same(one: &Result<MeshFile, ReadRefused>, other: &Result<MeshFile, ReadRe
         (Ok(one), Ok(other)) => {
             one.replies == other.replies
                 && one.points == other.points
-                && are_one(&one.cells, &other.cells)
+                && one.cells == other.cells
                 && one.hull == other.hull
         }
         (Err(one), Err(other)) => one == other,

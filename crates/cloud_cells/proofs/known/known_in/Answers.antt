@@ -15,8 +15,10 @@ loop-slot-preserved c =
       | in-Some w ↦
           let there = slot_in c.args.slots.now c.loop-slot.slot-index c.slot-item.result w.in-Some.cell
           c.loop-slot-test.true c.slot-item.is (sym c.cell.ensures ∙ w.in-Some.is) in (
-            subst (λ v. AreKnown made Full c.args.cells.now v.items) (sym w.quads-is) (w.note_cell.ensures made there known.0),
-            subst (λ v. AreKnown made Open c.args.hull.now v.items) (sym w.triples-is) (w.note_triple.ensures made there known.1),
+            subst (λ v. AreKnown made Full c.args.cells.now v.items) (sym w.quads-is)
+                (w.note_cell.ensures made there known.0),
+            subst (λ v. AreKnown made Open c.args.hull.now v.items) (sym w.triples-is)
+                (w.note_triple.ensures made there known.1),
           )
       | in_default w ↦ (
         subst (λ v. AreKnown made Full c.args.cells.now v.items) (sym w.quads-is) known.0,

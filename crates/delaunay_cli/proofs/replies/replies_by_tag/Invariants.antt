@@ -6,4 +6,5 @@ use Rattle.delaunay_cli.proofs.replies.replies_by_tag.Given as goal
 
 abbrev pub invariant-loop-i : goal.invariant-loop-i
 invariant-loop-i l =
-    (length l.replies.items ≡ l.count) × ((t : ℕ) → t < l.count → get_or l.replies.items t Missing ≡ reply_at (drop l.i l.kept) t)
+    (length l.replies.items ≡ l.count) × ((t : ℕ) → t < l.count →
+    get_or l.replies.items t Missing ≡ reply_at (drop l.i l.kept) t)

@@ -10,4 +10,5 @@ returns c =
     let start = number_option (codes "start") most_start in
     let counted = c.add-command.ensures app count c.meshing.ensures c.count.ensures.rule c.count.ensures.local in
     let started = c.add.ensures (with_rule app count) start counted c.start.ensures.rule c.start.ensures.local in
-    c.add-2.ensures (with_rule (with_rule app count) start) (flag_of (codes "text")) started c.flag.ensures.rule c.flag.ensures.local
+    c.add-2.ensures (with_rule (with_rule app count) start) (flag_of (codes "text")) started c.flag.ensures.rule
+    c.flag.ensures.local

@@ -9,5 +9,7 @@ returns c =
     let w = c.workers.ensures in
     let g = c.grid.ensures in
     let app = new_app c.args.name.now in
-    let begun : (app_of c.new.result ≡ app) × ((out-Command c.new.result).has_globals ≡ false) = (c.new.ensures.app, c.new.ensures.local) in
-    c.add-2.ensures (with_rule app workers_option) grid_option (c.add.ensures app workers_option begun w.rule w.local) g.rule g.local
+    let begun : (app_of c.new.result ≡ app) × ((out-Command c.new.result).has_globals ≡ false) =
+    (c.new.ensures.app, c.new.ensures.local) in
+    c.add-2.ensures (with_rule app workers_option) grid_option (c.add.ensures app workers_option begun w.rule w.local)
+    g.rule g.local

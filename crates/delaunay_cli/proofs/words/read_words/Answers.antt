@@ -10,14 +10,17 @@ pub returns-in_default-clause-refused : goal.returns-in_default-clause-refused
 returns-in_default-clause-refused c =
     inr (
       refl,
-      grid_refused (app_of c.in_ok-program.program) c.args.words.now (subcommand_rows_of c.in-Ok.matches) c.in_ok-program.ensures (λ s. (c.in-Ok.ensures.matches s).1)
+      grid_refused (app_of c.in_ok-program.program) c.args.words.now (subcommand_rows_of c.in-Ok.matches)
+          c.in_ok-program.ensures (λ s. (c.in-Ok.ensures.matches s).1)
           (sym (ap (λ (o : Option Making). is_some o) c.in_default.is) ∙ c.making_of.ensures.size),
     )
 
 pub returns-in-Some-clause-taken : goal.returns-in-Some-clause-taken
 returns-in-Some-clause-taken c =
-    taken (app_of c.in_ok-program.program) c.args.words.now (subcommand_rows_of c.in-Ok.matches) c.in_ok-program.ensures c.in-Ok.ensures.kinds
-    (λ s. (c.in-Ok.ensures.matches s).1) (sym c.making_of.ensures.size ∙ ap (λ (o : Option Making). is_some o) c.in-Some.is)
+    taken (app_of c.in_ok-program.program) c.args.words.now (subcommand_rows_of c.in-Ok.matches) c.in_ok-program.ensures
+    c.in-Ok.ensures.kinds
+    (λ s. (c.in-Ok.ensures.matches s).1) (sym c.making_of.ensures.size
+    ∙ ap (λ (o : Option Making). is_some o) c.in-Some.is)
 
 pub returns-in-Some-clause-task : goal.returns-in-Some-clause-task
 returns-in-Some-clause-task c =
@@ -30,7 +33,8 @@ returns-after-kind-clause-refused c =
       | in-OutOfMemory w ↦ inl w.result-is
       | in_default-kind w ↦ inr (
         w.result-is,
-        refused (app_of c.in_ok-program.program) c.args.words.now (kind_of c.in-Err.error) c.in_ok-program.ensures c.in-Err.ensures.kinds
+        refused (app_of c.in_ok-program.program) c.args.words.now (kind_of c.in-Err.error) c.in_ok-program.ensures
+            c.in-Err.ensures.kinds
             (λ k. w.in_default-kind.not-OutOfMemory (c.kind.ensures ∙ k)),
       )
     ]

@@ -10,8 +10,10 @@ returns-in-Some c =
     let l = c.args.cells.now in
     let h = c.args.hull.now in
     let i = c.loop-place.place in
-    let within : i < c.len-place-end.result → i < length l = (λ h. let n = c.len-place-end.ensures in omega (arith, n, h)) in
-    sym (with_flaw s (listed (drop (i + 1) l) h) (Full c.at.result) c.in-Some.flaw (sym c.flaw_of_quad.ensures ∙ c.in-Some.is))
+    let within : i < c.len-place-end.result → i < length l =
+    (λ h. let n = c.len-place-end.ensures in omega (arith, n, h)) in
+    sym (with_flaw s (listed (drop (i + 1) l) h) (Full c.at.result) c.in-Some.flaw
+    (sym c.flaw_of_quad.ensures ∙ c.in-Some.is))
     ∙ sym (cells_front s l h i c.at.result (within c.loop-place-test.true)
     (own l i c.at.result [] (within c.loop-place-test.true) c.at.ensures)) ∙ c.loop-place.invariant
 
@@ -21,7 +23,8 @@ loop-place-preserved c =
     let l = c.args.cells.now in
     let h = c.args.hull.now in
     let i = c.loop-place.place in
-    let within : i < c.len-place-end.result → i < length l = (λ h. let n = c.len-place-end.ensures in omega (arith, n, h)) in
+    let within : i < c.len-place-end.result → i < length l =
+    (λ h. let n = c.len-place-end.ensures in omega (arith, n, h)) in
     sym (without_flaw s (listed (drop (i + 1) l) h) (Full c.at.result) (sym c.flaw_of_quad.ensures ∙ c.in_default.is))
     ∙ sym (cells_front s l h i c.at.result (within c.loop-place-test.true)
     (own l i c.at.result [] (within c.loop-place-test.true) c.at.ensures)) ∙ c.loop-place.invariant
@@ -30,4 +33,5 @@ pub returns : goal.returns
 returns c =
     c.flaw_of_triples.ensures
     ∙ sym (triples_left c.args.points.now c.args.cells.now c.args.hull.now c.loop-place.place
-    (let n = c.len-place-end.ensures in let h = c.loop-place-test.false in omega (arith, n, h))) ∙ c.loop-place.invariant
+    (let n = c.len-place-end.ensures in let h = c.loop-place-test.false in omega (arith, n, h)))
+    ∙ c.loop-place.invariant

@@ -4,4 +4,5 @@ use Rattle.mesh_check.specs.Flaws.{first_flaw, listed}
 use Rattle.mesh_check.proofs.cells.first_flaw.Given as goal
 
 abbrev pub invariant-loop-place : goal.invariant-loop-place
-invariant-loop-place l = first_flaw l.points (listed (drop l.place l.cells) l.hull) ≡ first_flaw l.points (listed l.cells l.hull)
+invariant-loop-place l = first_flaw l.points (listed (drop l.place l.cells) l.hull) ≡ first_flaw l.points
+    (listed l.cells l.hull)

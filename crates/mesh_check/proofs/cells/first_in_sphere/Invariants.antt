@@ -7,4 +7,6 @@ use Rattle.point_order.specs.Spheres.{is_outside}
 use Rattle.mesh_check.proofs.cells.first_in_sphere.Given as goal
 
 abbrev pub invariant-loop-p : goal.invariant-loop-p
-invariant-loop-p l = find (λ x. not (is_among x (l.a ∷ l.b ∷ l.c ∷ l.d ∷ []) || is_outside l.a l.b l.c l.d x)) (drop l.p-index l.points) ≡ find (λ x. not (is_among x (l.a ∷ l.b ∷ l.c ∷ l.d ∷ []) || is_outside l.a l.b l.c l.d x)) l.points
+invariant-loop-p l = find (λ x. not (is_among x (l.a ∷ l.b ∷ l.c ∷ l.d ∷ []) || is_outside l.a l.b l.c l.d x))
+    (drop l.p-index l.points) ≡ find (λ x. not
+    (is_among x (l.a ∷ l.b ∷ l.c ∷ l.d ∷ []) || is_outside l.a l.b l.c l.d x)) l.points

@@ -9,4 +9,5 @@ abbrev pub invariant-loop-place : goal.invariant-loop-place
 invariant-loop-place l = l.sides.items ≡ flat_map (sides_in l.part) ([] ++ map Full (take l.place l.cells))
 
 abbrev pub invariant-loop-tri : goal.invariant-loop-tri
-invariant-loop-tri l = l.sides.items ≡ flat_map (sides_in l.part) (map Full l.cells ++ map Open (take l.tri-index l.hull))
+invariant-loop-tri l = l.sides.items ≡ flat_map (sides_in l.part)
+    (map Full l.cells ++ map Open (take l.tri-index l.hull))

@@ -63,16 +63,20 @@ then_eq Greater r = refl
 
 -- and of sides
 eq_is : (x y : Side) → by_equality.ghosts.eq x y ≡ eq_by_cmp side_cmp x y
-eq_is x y = rw (facet_eq x.facet y.facet, cell_eq x.cell y.cell) (then_eq (facet_cmp x.facet y.facet) (cell_cmp x.cell y.cell))
+eq_is x y = rw (facet_eq x.facet y.facet, cell_eq x.cell y.cell)
+    (then_eq (facet_cmp x.facet y.facet) (cell_cmp x.cell y.cell))
 
 pub returns-clause-order : goal.returns-clause-order
 returns-clause-order c =
     let l = c.sort_unstable.new.self.items in
-    deduped_sorted side_cmp side_order by_equality.ghosts.eq eq_is l c.dedup.new.self.items (λ k d a b. ap is_lt (cmp_is (slice_index_or l (k + 1) d) (slice_index_or l k d)) ∙ c.sort_unstable.ensures.sorted k d a b) (dedup_is by_equality.ghosts.eq _ _ c.dedup.ensures.filtered)
+    deduped_sorted side_cmp side_order by_equality.ghosts.eq eq_is l c.dedup.new.self.items
+    (λ k d a b. ap is_lt (cmp_is (slice_index_or l (k + 1) d) (slice_index_or l k d))
+    ∙ c.sort_unstable.ensures.sorted k d a b) (dedup_is by_equality.ghosts.eq _ _ c.dedup.ensures.filtered)
 
 pub returns-clause-same : goal.returns-clause-same
 returns-clause-same c x =
     let s = c.sort_unstable.new.self.items in
     let same = arranged_same c.args.sides.items s c.sort_unstable.ensures.permutation in
-    let from = deduped_same side_cmp side_order side_same by_equality.ghosts.eq eq_is s c.dedup.new.self.items (dedup_is by_equality.ghosts.eq _ _ c.dedup.ensures.filtered) in
+    let from = deduped_same side_cmp side_order side_same by_equality.ghosts.eq eq_is s c.dedup.new.self.items
+    (dedup_is by_equality.ghosts.eq _ _ c.dedup.ensures.filtered) in
     (λ i. (from x).1 ((same x).1 i), λ i. (same x).0 ((from x).0 i))

@@ -29,7 +29,9 @@ itself (Two p) = (bytes_eq-Decides p p).1 refl
 
 -- so the test decides
 by_eq : (f g : Facet) → MatchBool (by_equality.ghosts.eq f g) (f ≡ g) (f ≡ g → ⊥)
-by_eq f g = decides (by_equality.ghosts.eq f g) (same f g) (λ e. subst (λ v. by_equality.ghosts.eq f v ≡ true) e (itself f))
+by_eq f g = decides (by_equality.ghosts.eq f g) (same f g)
+    (λ e. subst (λ v. by_equality.ghosts.eq f v ≡ true) e (itself f))
 
 pub returns : goal.returns
-returns c = subst (λ b. MatchBool b (c.args.f.now ≡ c.args.g.now) (c.args.f.now ≡ c.args.g.now → ⊥)) (sym c.eq.ensures) (by_eq c.args.f.now c.args.g.now)
+returns c = subst (λ b. MatchBool b (c.args.f.now ≡ c.args.g.now) (c.args.f.now ≡ c.args.g.now → ⊥)) (sym c.eq.ensures)
+    (by_eq c.args.f.now c.args.g.now)

@@ -6,5 +6,6 @@ use Rattle.mesh_check.proofs.judging.are_empty.Goals as goal
 
 pub returns-else-is_empty : goal.returns-else-is_empty
 returns-else-is_empty c =
-    subst (λ b. MatchBool b (listed c.args.cells.now c.args.hull.now ≡ []) (listed c.args.cells.now c.args.hull.now ≡ [] → ⊥)) (sym c.if-is_empty.false)
+    subst (λ b. MatchBool b (listed c.args.cells.now c.args.hull.now ≡ []) (listed c.args.cells.now c.args.hull.now ≡ []
+    → ⊥)) (sym c.if-is_empty.false)
     (not_empty c.args.cells.now c.args.hull.now (sym c.is_empty.ensures ∙ c.if-is_empty.false))

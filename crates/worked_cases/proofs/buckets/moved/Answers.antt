@@ -31,8 +31,12 @@ returns-clause-bucket c =
     let share = subst (λ (n : ℕ). IsShare n b h content) (sym same)
     (c.into_hold-home.ensures.stands.shares b content c.take-bucket.ensures.bucket) in
     let one : at_place g b content ≡ share_at g b h =
-    share_is_one g b h (at_place g b content) (record { points = share.points; cells = share.cells; entries =
-    share.entries }) refl in
+    share_is_one g b h (at_place g b content) (record {
+      points = share.points;
+      cells = share.cells;
+      entries =
+          share.entries;
+    }) refl in
     let below : b < length (empty_hold g).places =
     subst (λ (n : ℕ). b < n) (ap (λ (n : ℕ). n * n * n) (sym size) ∙ sym (length-replicate (g * g * g) None)) c.requires
     in

@@ -13,6 +13,8 @@ put_beyond-requires c =
     let r = c.requires.stands in
     let i = subst (λ (l : List Cell). IsIn c.in-Some.cell.now l)
     (sym c.in-Some.ensures.steps ∙ c.cells_at-star.ensures.in_complex (replay r.0)
-    (stands_shows c.args.hold.now r.0 r.1)) (inl refl) in
-    (replay r.0, stands_shows c.args.hold.now r.0 r.1,
-    (filtered_from (λ q. is_among c.args.p (points_of q)) (complex (replay r.0)) c.in-Some.cell.now i).0)
+    (stands_shows c.args.hold.now r.0 r.1)) (inl refl) in (
+      replay r.0,
+      stands_shows c.args.hold.now r.0 r.1,
+      (filtered_from (λ q. is_among c.args.p (points_of q)) (complex (replay r.0)) c.in-Some.cell.now i).0,
+    )

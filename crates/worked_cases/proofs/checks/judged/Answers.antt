@@ -11,6 +11,6 @@ pub check-requires-clause-cells : goal.check-requires-clause-cells
 check-requires-clause-cells c =
     let m = c.args.mesh.now in
     let o = c.requires in
-    rw (c.deref.ensures.value, c.deref-2.ensures.value)
-    (cells_listed m.points.items m.cells m.hull.items o.cells.sorted o.hull.sorted o.cells.ascending
+    rw (c.deref.ensures.value, c.deref-2.ensures.value, c.deref-3.ensures.value)
+    (cells_listed m.points.items m.cells.items m.hull.items o.cells.sorted o.hull.sorted o.cells.ascending
     o.hull.ascending o.cells.inside o.hull.inside)

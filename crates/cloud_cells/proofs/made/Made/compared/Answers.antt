@@ -21,7 +21,9 @@ returns c =
     let there = c.deref-2.ensures.value in
     rw (← c.self.view_is) (
       λ i e. (of (Full (slice_index_or c.args.cells.now i []))).0
-          (subst (λ (v : List (Option Cell)). IsIn (Full (slice_index_or c.args.cells.now i [])) (live v)) there (known.cells i e)),
+          (subst (λ (v : List (Option Cell)). IsIn (Full (slice_index_or c.args.cells.now i [])) (live v)) there
+          (known.cells i e)),
       λ i e. (of (Open (slice_index_or c.args.hull.now i []))).0
-          (subst (λ (v : List (Option Cell)). IsIn (Open (slice_index_or c.args.hull.now i [])) (live v)) there (known.hull i e)),
+          (subst (λ (v : List (Option Cell)). IsIn (Open (slice_index_or c.args.hull.now i [])) (live v)) there
+          (known.hull i e)),
     )

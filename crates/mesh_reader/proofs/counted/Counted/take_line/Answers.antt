@@ -6,7 +6,8 @@ use Rattle.mesh_reader.proofs.counted.Counted.take_line.Goals as goal
 
 pub invariant_of-result : goal.invariant_of-result
 invariant_of-result c =
-    let fewer = fewer_left (reached c.args.self.reader) c.args.line.now (reached c.take_line.new.self) c.in-Ok.ensures in
+    let fewer = fewer_left (reached c.args.self.reader) c.args.line.now (reached c.take_line.new.self) c.in-Ok.ensures
+    in
     record { few = omega (arith, fewer, c.args.self.few) }
 
 pub returns-in-Ok-clause-right : goal.returns-in-Ok-clause-right
