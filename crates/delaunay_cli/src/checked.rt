@@ -113,7 +113,8 @@ impl Watched {
 
     // The mesh that the bytes are of, as a reader tells it.
     fn finish(self) -> Result<Read, ReadRefused>
-        ensures accepted { (bytes : List ℕ) → HasTaken self bytes → IfOk result (λ read. IsMeshText bytes (parts read)) }
+        ensures accepted { (bytes : List ℕ) → HasTaken self bytes →
+            IfOk result (λ read. IsMeshText bytes (parts read)) }
         ensures order { (bytes : List ℕ) → HasTaken self bytes → IfOk result (λ read. IsInOrder (parts read)) }
         ensures fault { (bytes : List ℕ) (fault : FaultParts) → HasTaken self bytes → result ≡ Err (Bad fault)
             → IsMeshFault bytes fault }

@@ -121,8 +121,8 @@ fn told_of(alloc: Global, points: &[Point], verdict: &Verdict) -> Result<Told, A
     Ok(Told { good, text })
 }
 
-/// Judges lists of cells, as `check` does, and tells of the verdict. The complex may have been made of the points before,
-/// and is then not made again.
+/// Judges lists of cells, as `check` does, and tells of the verdict. The complex may have been made of the points
+/// before, and is then not made again.
 ///
 /// # Errors
 /// Want of memory.
