@@ -101,8 +101,11 @@ record IsFour (q : List ℕ) : Type 0 where
 -- a Full cell of a complex has four points, ascending
 four_points : (s q : List ℕ) → IsAscending s → IsIn (Full q) (complex s) → IsFour q
 four_points s q a i = (let l = listed_is_cell s (Full q) a i in
-    record { four = ap length l.is; ascending =
-    subst IsAscending (sym l.is) (l.first, (l.second, (l.third, (tt, tt)))) })
+    record {
+      four = ap length l.is;
+      ascending =
+          subst IsAscending (sym l.is) (l.first, (l.second, (l.third, (tt, tt))));
+    })
 
 -- ---- what admits a face
 
@@ -322,8 +325,15 @@ triple_admits : (s : List ℕ) (alpha : ℕ) (p t : List ℕ) → SmallTriple s 
     is_admitted s alpha p ≡ true
 triple_admits s alpha p t h c = (
     let k = listed_is_part 3 (complex s) t h.listed in
-    admitted_true s alpha p (record { cell = k.q; listed = k.listed; face = t; inside = inside_3 k.q t k.part; has =
-    c; small = h.small }))
+    admitted_true s alpha p (record {
+      cell = k.q;
+      listed = k.listed;
+      face = t;
+      inside = inside_3 k.q t k.part;
+      has =
+          c;
+      small = h.small;
+    }))
 
 -- ---- triples
 
@@ -337,9 +347,9 @@ admitted_triple_is s alpha p l i = same_test (is_admitted_triple alpha (p, cells
     there : is_admitted_triple alpha (p, cells_with p (complex s)) ≡ true → is_admitted s alpha p ≡ true
     there t = elim (one_true (list_any (is_small_cell alpha) (cells_with p (complex s)))
         (is_small_by alpha (p, cells_with p (complex s))) t) [
-      | inl e ↦ around_admits s alpha p l.ascending e
-      | inr e ↦ triple_admits s alpha p p (record { listed = i; small = sym (l.small 3 p i) ∙ e }) (contains_itself p)
-    ]
+          | inl e ↦ around_admits s alpha p l.ascending e
+          | inr e ↦ triple_admits s alpha p p (record { listed = i; small = sym (l.small 3 p i) ∙ e }) (contains_itself p)
+        ]
 
     -- it is small itself
     by_itself : SmallTriple s alpha p → is_admitted_triple alpha (p, cells_with p (complex s)) ≡ true
@@ -351,8 +361,11 @@ admitted_triple_is s alpha p l i = same_test (is_admitted_triple alpha (p, cells
         is_admitted_triple alpha (p, cells_with p (complex s)) ≡ true
     by_face a e b c (one j) = absurd (too_few 1 3 b.cell b.face p (omega arith) c j a e b.has)
     by_face a e b c (two j) = absurd (too_few 2 3 b.cell b.face p (omega arith) c j a e b.has)
-    by_face a e b c (three j) = by_itself (record { listed = i; small =
-        subst (λ v. is_small s alpha v ≡ true) (as_many 3 b.cell b.face p c j a e b.has) b.small })
+    by_face a e b c (three j) = by_itself (record {
+      listed = i;
+      small =
+          subst (λ v. is_small s alpha v ≡ true) (as_many 3 b.cell b.face p c j a e b.has) b.small;
+    })
     by_face a e b c (four j) = left_true (list_any (is_small_cell alpha) (cells_with p (complex s)))
         (is_small_by alpha (p, cells_with p (complex s))) (around_of s alpha p l.ascending b j)
 
@@ -403,15 +416,22 @@ admitted_pair_is s alpha p l i = same_test (is_admitted_pair (triples_of s) alph
         (cells_with p (complex s))) ≡ true → is_admitted s alpha p ≡ true
     by_less t = elim (one_true (is_small_by alpha (p, cells_with p (complex s)))
         (list_any (covers (small_triples s alpha) p) (cells_with p (complex s))) t) [
-      | inl e ↦ (
-          let k = listed_is_part 2 (complex s) p i in
-          admitted_true s alpha p (record { cell = k.q; listed = k.listed; face = p; inside =
-          inside_2 k.q p k.part; has = contains_itself p; small = sym (l.small 2 p i) ∙ e }))
-      | inr e ↦ (
-          let k = any_from (covers (small_triples s alpha) p) (cells_with p (complex s)) e in
-          let m = any_from (is_listed_around (small_triples s alpha) p) (facets_of k.0) k.2 in
-          by_facet m.0 m.2)
-    ]
+          | inl e ↦ (
+              let k = listed_is_part 2 (complex s) p i in
+              admitted_true s alpha p (record {
+                cell = k.q;
+                listed = k.listed;
+                face = p;
+                inside =
+                    inside_2 k.q p k.part;
+                has = contains_itself p;
+                small = sym (l.small 2 p i) ∙ e;
+              }))
+          | inr e ↦ (
+              let k = any_from (covers (small_triples s alpha) p) (cells_with p (complex s)) e in
+              let m = any_from (is_listed_around (small_triples s alpha) p) (facets_of k.0) k.2 in
+              by_facet m.0 m.2)
+        ]
 
     -- or by a cell
     there : is_admitted_pair (triples_of s) alpha (p, cells_with p (complex s)) ≡ true → is_admitted s alpha p ≡ true
@@ -424,8 +444,10 @@ admitted_pair_is s alpha p l i = same_test (is_admitted_pair (triples_of s) alph
         is_admitted_pair (triples_of s) alpha (p, cells_with p (complex s)) ≡ true
     by_triple b f j = (
         let e = small_triple_true s alpha b.face l
-        (record { listed = part_is_listed 3 (complex s) b.face (record { q = b.cell; listed = b.listed; part = j });
-        small = b.small }) in
+        (record {
+          listed = part_is_listed 3 (complex s) b.face (record { q = b.cell; listed = b.listed; part = j });
+          small = b.small;
+        }) in
         let has : contains b.cell p ≡ true = contains_through b.cell b.face p
         (contained_true b.cell b.face (part_inside 3 b.cell b.face j)) b.has in
         let t : is_listed_around (small_triples s alpha) p (Three b.face) ≡ true =
@@ -523,8 +545,10 @@ point_is_admitted s alpha p a keys solid i = (
       cell = h.q;
       listed = h.listed;
       face = p ∷ [];
-      inside = inside_1 h.q (p ∷ []) (part_true h.q (p ∷ []) (four_points s h.q a h.listed).ascending (tt,
-      tt) (λ q j. elim j [ inl e ↦ subst (λ v. IsIn v h.q) e h.has | inr none ↦ absurd none ]));
+      inside = inside_1 h.q (p ∷ []) (part_true h.q (p ∷ []) (four_points s h.q a h.listed).ascending (
+        tt,
+        tt,
+      ) (λ q j. elim j [ inl e ↦ subst (λ v. IsIn v h.q) e h.has | inr none ↦ absurd none ]));
       has = contains_itself (p ∷ []);
       small = refl;
     }))

@@ -54,8 +54,11 @@ unfolding IsStrictlySortedBy
 same_points [] f g s i j e = absurd i
 same_points (x ∷ faces) f g s i j e = elim i [
   | inl a ↦ elim j [ inl b ↦ sym a ∙ b | inr k ↦ absurd (twice g k (ap (λ (v : List ℕ × List Cell). v.0) a ∙ e)) ]
-  | inr k ↦ elim j [ inl b ↦ absurd (twice f k (ap (λ (v : List ℕ × List Cell). v.0) b ∙ sym e)) | inr m ↦ same_points
-  faces f g s.1 k m e ]
+  | inr k ↦ elim j [
+    | inl b ↦ absurd (twice f k (ap (λ (v : List ℕ × List Cell). v.0) b ∙ sym e))
+    | inr m ↦ same_points
+        faces f g s.1 k m e
+  ]
 ]
   where
     -- the first has not the points of another
@@ -80,9 +83,11 @@ pub found_at : (faces : List (List ℕ × List Cell)) (keys : List (List ℕ)) (
     (i < length faces) × ((get_or faces i ([], [])).0 ≡ t)
 found_at faces keys t i e h c = (
     let m = ap length e ∙ length-map faces (λ (f : List ℕ × List Cell). f.0) in
-    let n : i < length faces = omega (arith, h, m) in
-    (n, sym (get_or-map (λ (f : List ℕ × List Cell). f.0) faces i ([], []) t n)
-    ∙ ap (λ (v : List (List ℕ)). get_or v i t) (sym e) ∙ same_list (get_or keys i t) t c))
+    let n : i < length faces = omega (arith, h, m) in (
+      n,
+      sym (get_or-map (λ (f : List ℕ × List Cell). f.0) faces i ([], []) t n)
+          ∙ ap (λ (v : List (List ℕ)). get_or v i t) (sym e) ∙ same_list (get_or keys i t) t c,
+    ))
 
 -- the face that has the points tells whether they are listed
 pub listed_found : (a : ℕ) (faces : List (List ℕ × List Cell)) (t : List ℕ) (i : ℕ) (d : List ℕ × List Cell) →

@@ -55,7 +55,7 @@ tells_points s (p ∷ points) (x ∷ alphas) a f z = (
   record {
     admitted = λ alpha l. f alpha p (inl refl) ∙ z.0.admitted alpha l;
     kind = λ alpha l. kind_told is_admitted_point (p, cells_with (p ∷ []) (complex s)) x alpha l z.0
-    ∙ kind_is s alpha (p ∷ []) a;
+        ∙ kind_is s alpha (p ∷ []) a;
   },
   tells_points s points alphas a (λ alpha q i. f alpha q (inr i)) z.1,
 )
@@ -67,8 +67,10 @@ tells_cells : (s : List ℕ) (cells : List Cell) (ns : List ℕ) → IsAscending
 tells_cells s [] [] a f z = tt
 tells_cells s [] (n ∷ ns) a f z = absurd z
 tells_cells s (c ∷ cells) [] a f z = absurd z
-tells_cells s (c ∷ cells) (n ∷ ns) a f z = (λ alpha l. sym (small_cell_is s alpha c a (f c (inl refl))) ∙ z.0 alpha l,
-    tells_cells s cells ns a (λ d i. f d (inr i)) z.1)
+tells_cells s (c ∷ cells) (n ∷ ns) a f z = (
+  λ alpha l. sym (small_cell_is s alpha c a (f c (inl refl))) ∙ z.0 alpha l,
+  tells_cells s cells ns a (λ d i. f d (inr i)) z.1,
+)
 
 -- all of them
 pub tells_faces : (s : List ℕ) (faces : FaceLists) (known : Alphas) → AreFacesOf s faces → known.faces.now ≡ faces →
@@ -85,10 +87,10 @@ tells_faces s faces known h e k =
     let cell_test : AreLeastOf is_small_cell (complex s) known.cells.items = rw f.cells at k.cells in
     record {
       points = tells_points s s known.points.items a (λ alpha p i. point_is_admitted s alpha p a f.keys f.solid i)
-      point_test;
+          point_test;
       pairs = tells_zip s (is_admitted_pair (triples_of s)) (parts_in 2 (complex s)) known.pairs.items a
-      (λ alpha p i. admitted_pair_is s alpha p (linked s alpha a f.keys) i) pair_test;
+          (λ alpha p i. admitted_pair_is s alpha p (linked s alpha a f.keys) i) pair_test;
       triples = tells_zip s is_admitted_triple (parts_in 3 (complex s)) known.triples.items a
-      (λ alpha p i. admitted_triple_is s alpha p (linked s alpha a f.keys) i) triple_test;
+          (λ alpha p i. admitted_triple_is s alpha p (linked s alpha a f.keys) i) triple_test;
       cells = tells_cells s (complex s) known.cells.items a (λ c i. i) cell_test;
     }

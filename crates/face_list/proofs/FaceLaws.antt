@@ -71,7 +71,7 @@ into_flat : {X : Type 0} (f : List ℕ → List X) (cells : List Cell) (p : X) (
 into_flat f [] p q l i = absurd l
 into_flat f (Full r ∷ cells) p q l i = elim l [
   | inl e ↦ (let s : r ≡ q = cc in in_left p (f r) (flat_map f (full_cells cells))
-  (subst (λ v. IsIn p (f v)) (sym s) i))
+      (subst (λ v. IsIn p (f v)) (sym s) i))
   | inr j ↦ in_right p (f r) (flat_map f (full_cells cells)) (into_flat f cells p q j i)
 ]
 into_flat f (Open t ∷ cells) p q l i = elim l [ inl e ↦ cc | inr j ↦ into_flat f cells p q j i ]
@@ -120,15 +120,15 @@ inside : (s q : List ℕ) → IsIn (Full q) (complex s) → (p : ℕ) → IsIn p
 unfolding complex
 inside s q m p i = elim (from_append (Full q) (map Full (filter (is_full s) (subsets 4 s)))
     (map Open (filter (is_open s) (subsets 3 s))) m) [
-  | inl l ↦ (
-      let r = mapped_from Full (Full q) (filter (is_full s) (subsets 4 s)) l in
-      let j = filtered_from (is_full s) (subsets 4 s) r.0 r.1 in
-      let e : r.0 ≡ q = same r.0 r.2 in
-      part_inside 4 s r.0 j.0 p (subst (λ v. IsIn p v) (sym e) i))
-  | inr l ↦ (
-      let r = mapped_from Open (Full q) (filter (is_open s) (subsets 3 s)) l in
-      absurd (not_both_kinds q r.0 (sym r.2)))
-]
+      | inl l ↦ (
+          let r = mapped_from Full (Full q) (filter (is_full s) (subsets 4 s)) l in
+          let j = filtered_from (is_full s) (subsets 4 s) r.0 r.1 in
+          let e : r.0 ≡ q = same r.0 r.2 in
+          part_inside 4 s r.0 j.0 p (subst (λ v. IsIn p v) (sym e) i))
+      | inr l ↦ (
+          let r = mapped_from Open (Full q) (filter (is_open s) (subsets 3 s)) l in
+          absurd (not_both_kinds q r.0 (sym r.2)))
+    ]
   where
     -- equal cells have the same points
     same : (r : List ℕ) → Full r ≡ Full q → r ≡ q

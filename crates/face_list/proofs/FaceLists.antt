@@ -86,8 +86,13 @@ record Placed (P : Cell → Type 0) (n m : ℕ) (cells : List Cell) : Type 0 whe
 -- one place further on
 further : (P : Cell → Type 0) (n m : ℕ) (c : Cell) (cells : List Cell) → Placed P (suc n) m cells →
     Placed P n m (c ∷ cells)
-further P n m c cells h = record { place = suc h.place; inside = (let i = h.inside in omega arith); is =
-    (let i = h.is in omega (arith, i)); holds = h.holds }
+further P n m c cells h = record {
+  place = suc h.place;
+  inside = (let i = h.inside in omega arith);
+  is =
+      (let i = h.is in omega (arith, i));
+  holds = h.holds;
+}
 
 -- the numbers of the cells that pass a test
 abbrev which : (Cell → Bool) → ℕ → List Cell → List ℕ
@@ -141,9 +146,10 @@ which_rise t n (c ∷ cells) = by (which_rise t (suc n) cells) (t c) refl
 
     by : IsStrictlySortedBy nat_cmp (which t (suc n) cells) → (b : Bool) → t c ≡ b →
         IsStrictlySortedBy nat_cmp (which t n (c ∷ cells))
-    by rest true e = subst (IsStrictlySortedBy nat_cmp) (sym (which_true t n c cells e))
-        (all_by (λ m. nat_cmp n m ≡ Less) (which t (suc n) cells) (λ m i. above m (which_from t (suc n) m cells i)),
-        rest)
+    by rest true e = subst (IsStrictlySortedBy nat_cmp) (sym (which_true t n c cells e)) (
+      all_by (λ m. nat_cmp n m ≡ Less) (which t (suc n) cells) (λ m i. above m (which_from t (suc n) m cells i)),
+      rest,
+    )
     by rest false e = subst (IsStrictlySortedBy nat_cmp) (sym (which_false t n c cells e)) rest
 
 -- and name the cells that pass
@@ -171,13 +177,13 @@ item_from : {K : Type 0} (parts : Cell → List K) (n : ℕ) (k : K) (m : ℕ) (
 item_from parts n k m [] i = absurd i
 item_from {K} parts n k m (c ∷ cells) i = elim
     (from_append (k, m) (map (λ p. (p, n)) (parts c)) (items_from (suc n) parts cells) i) [
-  | inl j ↦ (
-      let r = mapped_from (λ (p : K). (p, n)) (k, m) (parts c) j in
-      let a : r.0 ≡ k = ap (λ (v : K × ℕ). v.0) r.2 in
-      let b : n ≡ m = ap (λ (v : K × ℕ). v.1) r.2 in
-      record { place = 0; inside = omega arith; is = omega (arith, b); holds = subst (λ v. IsIn v (parts c)) a r.1 })
-  | inr j ↦ further (λ c. IsIn k (parts c)) n m c cells (item_from parts (suc n) k m cells j)
-]
+      | inl j ↦ (
+          let r = mapped_from (λ (p : K). (p, n)) (k, m) (parts c) j in
+          let a : r.0 ≡ k = ap (λ (v : K × ℕ). v.0) r.2 in
+          let b : n ≡ m = ap (λ (v : K × ℕ). v.1) r.2 in
+          record { place = 0; inside = omega arith; is = omega (arith, b); holds = subst (λ v. IsIn v (parts c)) a r.1 })
+      | inr j ↦ further (λ c. IsIn k (parts c)) n m c cells (item_from parts (suc n) k m cells j)
+    ]
 
 -- and each part of a cell is an item with its number
 pub item_true : {K : Type 0} (parts : Cell → List K) (n : ℕ) (k : K) (m place : ℕ) (cells : List Cell) →
@@ -352,10 +358,13 @@ points_gathered cells t a g =
     cells t (points_in cells) g (points_in_order cells)
     (λ p i. (
       λ n h m. all_true (λ e. is_among e (points_of (cell_at cells n))) (p ∷ [])
-      (λ e j. elim j [ inl q ↦ subst (λ v. is_among v (points_of (cell_at cells n)) ≡ true) q
-      (among_true p (points_of (cell_at cells n)) m) | inr none ↦ absurd none ]),
+          (λ e j. elim j [
+            | inl q ↦ subst (λ v. is_among v (points_of (cell_at cells n)) ≡ true) q
+                (among_true p (points_of (cell_at cells n)) m)
+            | inr none ↦ absurd none
+          ]),
       λ n h m. among_from p (points_of (cell_at cells n))
-      (all_from (λ e. is_among e (points_of (cell_at cells n))) (p ∷ []) m p (inl refl)),
+          (all_from (λ e. is_among e (points_of (cell_at cells n))) (p ∷ []) m p (inl refl)),
     ))
     (λ p q l m. point_is_listed cells p (record { q = q; listed = l; has = m }))
     (λ p i. let h = listed_is_point cells p i in (h.q, h.listed, h.has))
@@ -363,8 +372,11 @@ points_gathered cells t a g =
 -- a Full cell of the list ascends
 full_ascends : (cells : List Cell) (q : List ℕ) → AreAscending cells → IsIn (Full q) cells → IsAscending q
 full_ascends [] q a i = absurd i
-full_ascends (c ∷ cells) q a i = elim i [ inl e ↦ subst (λ v. IsAscending (points_of v)) e a.0 | inr j ↦ full_ascends
-    cells q a.1 j ]
+full_ascends (c ∷ cells) q a i = elim i [
+  | inl e ↦ subst (λ v. IsAscending (points_of v)) e a.0
+  | inr j ↦ full_ascends
+      cells q a.1 j
+]
 
 -- a part has as many points
 pub part_length : (k : ℕ) (q p : List ℕ) → IsIn p (subsets k q) → length p ≡ k
@@ -372,7 +384,7 @@ part_length zero q p m = elim m [ inl e ↦ ap length (sym e) | inr none ↦ abs
 part_length (suc k) [] p m = absurd m
 part_length (suc k) (x ∷ q) p m = elim (from_append p (map (λ r. x ∷ r) (subsets k q)) (subsets (suc k) q) m) [
   | inl l ↦ (let r = mapped_from (λ r. x ∷ r) p (subsets k q) l in
-  ap length (sym r.2) ∙ ap suc (part_length k q r.0 r.1))
+      ap length (sym r.2) ∙ ap suc (part_length k q r.0 r.1))
   | inr l ↦ part_length (suc k) q p l
 ]
 
@@ -385,7 +397,7 @@ parts_gathered k cells t a g =
     (λ p c. list_all (λ e. is_among e (points_of c)) p) cells t (parts_in k cells) g (parts_in_order k cells)
     (λ p i. (
       λ n h m. all_true (λ e. is_among e (points_of (cell_at cells n))) p
-      (λ e j. among_true e (points_of (cell_at cells n)) (part_inside k (points_of (cell_at cells n)) p m e j)),
+          (λ e j. among_true e (points_of (cell_at cells n)) (part_inside k (points_of (cell_at cells n)) p m e j)),
       λ n h m. (
           let l = listed_is_part k cells p i in
           let b = part_ascending k l.q p (full_ascends cells l.q a l.listed) l.part in

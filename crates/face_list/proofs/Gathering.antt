@@ -87,8 +87,11 @@ pub none_behind : {K : Type 0} (cmp : K → K → Ordering) (o : IsTotalOrder cm
     (k : K) → IsStrictlySortedBy (item_cmp cmp) (i ∷ items) → cmp i.0 k ≡ Greater → numbers_of cmp (i ∷ items) k ≡ []
 unfolding IsStrictlySortedBy
 none_behind {K} cmp o i items k s e = none_of cmp (i ∷ items) k
-    (λ j m. elim m [ inl q ↦ subst (λ (v : K × ℕ). cmp v.0 k ≡ Greater) q e | inr n ↦ later j
-    (keys_rise cmp i j (each_by (λ z. item_cmp cmp i z ≡ Less) items s.0 j n)) ])
+    (λ j m. elim m [
+      | inl q ↦ subst (λ (v : K × ℕ). cmp v.0 k ≡ Greater) q e
+      | inr n ↦ later j
+          (keys_rise cmp i j (each_by (λ z. item_cmp cmp i z ≡ Less) items s.0 j n))
+    ])
   where
     -- the key is before the first
     first : cmp k i.0 ≡ Less
@@ -151,8 +154,10 @@ number_from {K} cmp exact items k n m = (
 -- and what stands beside it is one of them
 pub number_true : {K : Type 0} (cmp : K → K → Ordering) (o : IsTotalOrder cmp) (items : List (K × ℕ)) (k : K) (n : ℕ) →
     IsIn (k, n) items → IsIn n (numbers_of cmp items k)
-number_true {K} cmp o items k n m = mapped_true (λ (j : K × ℕ). j.1) (k,
-    n) (filter (λ (j : K × ℕ). is_eq (cmp j.0 k)) items)
+number_true {K} cmp o items k n m = mapped_true (λ (j : K × ℕ). j.1) (
+  k,
+  n,
+) (filter (λ (j : K × ℕ). is_eq (cmp j.0 k)) items)
     (filtered_true (λ (j : K × ℕ). is_eq (cmp j.0 k)) items (k, n) m (ap is_eq (level cmp o k)))
 
 -- each is one of an item
@@ -203,8 +208,10 @@ full_from {K} cells items k m = (
 -- and a key beside the number of a Full cell is one of them
 pub full_true : {K : Type 0} (cells : List Cell) (items : List (K × ℕ)) (k : K) (n : ℕ) → IsIn (k, n) items →
     is_full (cell_at cells n) ≡ true → IsIn k (full_keys cells items)
-full_true {K} cells items k n m t = mapped_true (λ (j : K × ℕ). j.0) (k,
-    n) (filter (λ (j : K × ℕ). is_full (cell_at cells j.1)) items)
+full_true {K} cells items k n m t = mapped_true (λ (j : K × ℕ). j.0) (
+  k,
+  n,
+) (filter (λ (j : K × ℕ). is_full (cell_at cells j.1)) items)
     (filtered_true (λ (j : K × ℕ). is_full (cell_at cells j.1)) items (k, n) m t)
 
 -- ---- lists that are taken apart

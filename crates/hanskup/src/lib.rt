@@ -49,8 +49,8 @@ pub use exact_sphere::sphere;
 pub use face_list::{Faces, faces, few_faces};
 pub use mesh_check::{Flaw, Verdict, check, verdict_text};
 pub use mesh_files::{
-    MeshFile, MeshReader, PackedMesh, Report, mesh_text, off_text, put_report, read_mesh, shape_text,
-    summary_text,
+    MeshFile, MeshReader, PackedMesh, Report, mesh_text, off_text, put_report, read_mesh,
+    shape_text, summary_text,
 };
 pub use mesh_handle::{Location, locate};
 pub use near_vertex::{Near, NearStart, NearTurn, NearWalk, nearest, nearest_to_each, put_near};

@@ -18,9 +18,11 @@ key_put p [] = refl
 key_put p (x ∷ s) = elim (ordered p x) [
   | inl o ↦ by o.1 (elim (with_cases p x s) [
     | inl e ↦ sym e.1
-    | inr r ↦ elim r
-        [ inl e ↦ absurd (let l = o.0 in omega (arith, l, e.0)) | inr e ↦ absurd (let l = o.0 in
-        omega (arith, l, e.0)) ]
+    | inr r ↦ elim r [
+      | inl e ↦ absurd (let l = o.0 in omega (arith, l, e.0))
+      | inr e ↦ absurd (let l = o.0 in
+          omega (arith, l, e.0))
+    ]
   ])
   | inr k ↦ elim k [
     | inl o ↦ by o.1 (elim (with_cases p x s) [

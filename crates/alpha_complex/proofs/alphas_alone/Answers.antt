@@ -13,7 +13,7 @@ alphas_of_all-requires c =
       order = triples_ordered faces c.requires;
       cells = subst (λ ns. AreLeastOf is_small_cell faces.cells ns) (sym c.deref.ensures.value) cells;
       triples = subst (λ ns. AreLeastOf is_small_by faces.triples ns) (sym c.deref-2.ensures.value)
-      c.in_ok-own_triples.ensures;
+          c.in_ok-own_triples.ensures;
     }
 
 pub returns-clause-told : goal.returns-clause-told

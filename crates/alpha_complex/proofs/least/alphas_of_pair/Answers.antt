@@ -34,9 +34,9 @@ returns c =
     let whole = subst (λ n. IsLeastOf (λ a. small a || (itself a || cover a)) n) (sym sum) all in
     record {
       admitted = subst (λ (v : List ℕ × List Cell). IsLeastOf (λ a. is_admitted_pair faces.triples a v) c.min-2.result)
-      f whole;
+          f whole;
       regular = subst (λ (v : List ℕ × List Cell). IsLeastOf (λ a. list_any (is_small_cell a) v.1)
-      c.some_least-regular.result) f c.some_least-regular.ensures;
+          c.some_least-regular.result) f c.some_least-regular.ensures;
       interior = subst (λ (v : List ℕ × List Cell). IsLeastOf (λ a. list_all (is_small_cell a) v.1) c.all_least.result)
-      f c.all_least.ensures;
+          f c.all_least.ensures;
     }

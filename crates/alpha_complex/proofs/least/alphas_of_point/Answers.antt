@@ -14,7 +14,7 @@ returns c =
     record {
       admitted = always_least (λ a. true) (λ a. refl);
       regular = subst (λ (v : ℕ × List Cell). IsLeastOf (λ a. list_any (is_small_cell a) v.1) c.some_least.result) f
-      c.some_least.ensures;
+          c.some_least.ensures;
       interior = subst (λ (v : ℕ × List Cell). IsLeastOf (λ a. list_all (is_small_cell a) v.1) c.all_least.result) f
-      c.all_least.ensures;
+          c.all_least.ensures;
     }

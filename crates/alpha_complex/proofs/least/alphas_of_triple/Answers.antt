@@ -29,14 +29,16 @@ returns c =
     c.some_least-regular.result) f c.some_least-regular.ensures in
     let interior = subst (λ (v : List ℕ × List Cell). IsLeastOf (λ a. list_all (is_small_cell a) v.1)
     c.all_least.result) f c.all_least.ensures in
-    let z = zip_at (λ x n. IsLeastOf (λ a. is_small_by a x) n) faces own.triples.now i ([],
-    []) 0 c.requires.own.triples h in
+    let z = zip_at (λ x n. IsLeastOf (λ a. is_small_by a x) n) faces own.triples.now i (
+      [],
+      [],
+    ) 0 c.requires.own.triples h in
     let itself = subst (λ n. IsLeastOf (λ a. is_small_by a (face_at faces i)) n) (sym c.number_at.ensures) z in
     let both = either_least (λ a. list_any (is_small_cell a) (face_at faces i).1) (λ a. is_small_by a (face_at faces i))
     c.some_least-regular.result c.number_at.result regular itself in
     record {
       admitted = subst (λ n. IsLeastOf (λ a. list_any (is_small_cell a) (face_at faces i).1 || is_small_by a
-      (face_at faces i)) n) (sym c.min.ensures) both;
+          (face_at faces i)) n) (sym c.min.ensures) both;
       regular = regular;
       interior = interior;
     }

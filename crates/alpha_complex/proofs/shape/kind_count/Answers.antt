@@ -10,9 +10,9 @@ loop-kind-preserved c =
     let i = c.loop-kind.kind-index in
     elim c.if-is_some.branch [
       | then-is_some w ↦ w.count-is ∙ count_on kinds i None _ c.loop-kind-test.true
-      (sym c.is_some.ensures ∙ w.if-is_some.true) c.loop-kind.invariant
+          (sym c.is_some.ensures ∙ w.if-is_some.true) c.loop-kind.invariant
       | else-is_some w ↦ w.count-is ∙ count_past kinds i None _ c.loop-kind-test.true
-      (sym c.is_some.ensures ∙ w.if-is_some.false) c.loop-kind.invariant
+          (sym c.is_some.ensures ∙ w.if-is_some.false) c.loop-kind.invariant
     ]
 
 pub returns : goal.returns

@@ -18,7 +18,7 @@ loop-index-preserved c =
     elim c.if-is_some.branch [
       | then-is_some w ↦ w.count-is ∙ count_on slots i None _ within (read ∙ w.if-is_some.true) c.loop-index.invariant
       | else-is_some w ↦ w.count-is ∙ count_past slots i None _ within (read ∙ w.if-is_some.false)
-      c.loop-index.invariant
+          c.loop-index.invariant
     ]
 
 pub returns : goal.returns

@@ -26,7 +26,7 @@ returns-clause-table g c = record {
   ends = c.in_ok-table.ensures.ends ∙ ap length (sym c.in_ok-table.ensures.keys);
   stops = c.in_ok-table.ensures.stops;
   numbers = all_numbers (length c.args.cells.now) c.args.items.items c.in_order-items.result.items
-  c.in_ok-table.table.numbers.items c.requires.numbers (λ i m. (c.in_order-items.ensures.same i).0 m)
-  (λ n m. subst (λ (l : List (g.row.K.Denot × ℕ)). IsIn n (map (λ i. i.1) l)) c.deref-2.ensures.value
-  (c.in_ok-table.ensures.numbers n m));
+      c.in_ok-table.table.numbers.items c.requires.numbers (λ i m. (c.in_order-items.ensures.same i).0 m)
+      (λ n m. subst (λ (l : List (g.row.K.Denot × ℕ)). IsIn n (map (λ i. i.1) l)) c.deref-2.ensures.value
+      (c.in_ok-table.ensures.numbers n m));
 }

@@ -21,6 +21,7 @@ returns-clause-same g c k =
     ∙ sym c.par_sort_unstable.ensures.len) in
     let a = arranged_same c.deref_mut.result.now s c.par_sort_unstable.ensures.permutation k in
     let b = c.each_once.ensures.same k in
-    let q = c.deref_mut.ensures.value in
-    (λ m. subst (IsIn k) q (a.0 (subst (IsIn k) e (b.0 m))),
-    λ m. b.1 (subst (IsIn k) (sym e) (a.1 (subst (IsIn k) (sym q) m))))
+    let q = c.deref_mut.ensures.value in (
+      λ m. subst (IsIn k) q (a.0 (subst (IsIn k) e (b.0 m))),
+      λ m. b.1 (subst (IsIn k) (sym e) (a.1 (subst (IsIn k) (sym q) m))),
+    )

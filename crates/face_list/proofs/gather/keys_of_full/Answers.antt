@@ -48,17 +48,17 @@ loop-key-preserved g c =
         order = rw w.keys-is w.in_ok-put_key.ensures.order;
         keys = λ k. rw (w.keys-is, t, full_more cells (take n items) item (sym full ∙ w.if-is_full.true)) (
           λ i. (in_end (full_keys cells (take n items)) item.0 k).1
-          (elim ((w.in_ok-put_key.ensures.keys k).0 i)
-          [ inl j ↦ inl ((c.loop-key.invariant.keys k).0 j) | inr e ↦ inr e ]),
+              (elim ((w.in_ok-put_key.ensures.keys k).0 i)
+              [ inl j ↦ inl ((c.loop-key.invariant.keys k).0 j) | inr e ↦ inr e ]),
           λ i. (w.in_ok-put_key.ensures.keys k).1
-          (elim ((in_end (full_keys cells (take n items)) item.0 k).0 i)
-          [ inl j ↦ inl ((c.loop-key.invariant.keys k).1 j) | inr e ↦ inr e ]),
+              (elim ((in_end (full_keys cells (take n items)) item.0 k).0 i)
+              [ inl j ↦ inl ((c.loop-key.invariant.keys k).1 j) | inr e ↦ inr e ]),
         );
       }
       | else-is_full w ↦ record {
         order = rw w.keys-is c.loop-key.invariant.order;
         keys = λ k. rw (w.keys-is, t, open_more cells (take n items) item (sym full ∙ w.if-is_full.false))
-        (c.loop-key.invariant.keys k);
+            (c.loop-key.invariant.keys k);
       }
     ]
 

@@ -13,10 +13,10 @@ loop-number-preserved c =
     let t = take_more cells n item c.loop-number-test.true in
     record {
       items = items_next points_of cells n item item _ _ _ c.loop-number-test.true c.loop-number.invariant.items
-      (sym c.index-cells-number.is) c.points.ensures.points c.in_ok-put.ensures;
+          (sym c.index-cells-number.is) c.points.ensures.points c.in_ok-put.ensures;
       ascending = rw (t, ← c.index-cells-number.is)
-      (ascending_more (take n cells) item c.loop-number.invariant.ascending
-      (subst IsAscending c.points.ensures.points c.points.ensures.ascending));
+          (ascending_more (take n cells) item c.loop-number.invariant.ascending
+          (subst IsAscending c.points.ensures.points c.points.ensures.ascending));
     }
 
 pub returns-clause-ascending : goal.returns-clause-ascending

@@ -25,19 +25,19 @@ invariant_of-result c =
     let alpha = c.args.alpha in
     record {
       points = kind_count is_admitted_point known.faces.now.points known.points.items (λ a. kind_at a alpha) _
-      c.requires.known.points (c.in_ok-kinds_of_all.ensures
-      ∙ ap (λ (v : List FaceAlphas). map (λ a. kind_at a alpha) v) c.deref.ensures.value);
+          c.requires.known.points (c.in_ok-kinds_of_all.ensures
+          ∙ ap (λ (v : List FaceAlphas). map (λ a. kind_at a alpha) v) c.deref.ensures.value);
       pairs = kind_count (is_admitted_pair known.faces.now.triples) known.faces.now.pairs known.pairs.items
-      (λ a. kind_where a alpha) _ c.requires.known.pairs (c.in_ok-kinds_of_admitted.ensures
-      ∙ ap (λ (v : List FaceAlphas). map (λ a. kind_where a alpha) v) c.deref-2.ensures.value);
+          (λ a. kind_where a alpha) _ c.requires.known.pairs (c.in_ok-kinds_of_admitted.ensures
+          ∙ ap (λ (v : List FaceAlphas). map (λ a. kind_where a alpha) v) c.deref-2.ensures.value);
       triples = kind_count is_admitted_triple known.faces.now.triples known.triples.items (λ a. kind_where a alpha) _
-      c.requires.known.triples (c.in_ok-kinds_of_admitted-2.ensures
-      ∙ ap (λ (v : List FaceAlphas). map (λ a. kind_where a alpha) v) c.deref-3.ensures.value);
+          c.requires.known.triples (c.in_ok-kinds_of_admitted-2.ensures
+          ∙ ap (λ (v : List FaceAlphas). map (λ a. kind_where a alpha) v) c.deref-3.ensures.value);
       cells = ap length (c.in_ok-marks.ensures
-      ∙ ap (λ (v : List ℕ). map (λ n. nat_le n alpha) v) c.deref-4.ensures.value)
-      ∙ length-map known.cells.items (λ n. nat_le n alpha)
-      ∙ sym (length_zip (λ x n. IsLeastOf (λ a. is_small_cell a x) n) known.faces.now.cells known.cells.items
-      c.requires.known.cells);
+          ∙ ap (λ (v : List ℕ). map (λ n. nat_le n alpha) v) c.deref-4.ensures.value)
+          ∙ length-map known.cells.items (λ n. nat_le n alpha)
+          ∙ sym (length_zip (λ x n. IsLeastOf (λ a. is_small_cell a x) n) known.faces.now.cells known.cells.items
+          c.requires.known.cells);
     }
 
 pub returns-clause-points : goal.returns-clause-points
