@@ -3,8 +3,8 @@ use Rattle.std.specs.Prelude.{◌≡◌, ◌⊎◌, List, []}
 use Rattle.std.proofs.Common.{inl, inr, refl, subst, sym}
 use Rattle.point_order.specs.declared.cell.Cell.{Cell}
 use Rattle.point_order.specs.Sets.{IsIn}
-use Rattle.cell_stars.specs.Gathering.{Gathers}
-use Rattle.cell_stars.proofs.Cited.{in_or_not}
+use Rattle.list_laws.specs.Lists.{Gathers}
+use Rattle.point_order.proofs.Cited.{cell_in_or_not}
 use Rattle.cell_store.specs.Changes.{IsChange}
 use Rattle.cavity.specs.Both.{AreOfBoth, IsOtherThan}
 
@@ -32,22 +32,22 @@ one_change s t u gone fresh gone2 fresh2 went came p q a b = record {
   went = λ c i. elim (p.each c i) [
     | inl r ↦ (let w = a.went c r.0 in (w.0, λ k. r.1 (b.all_fresh c k w.1)))
     | inr r ↦ (let w = b.went c r.0 in (
-      elim (in_or_not c s) [ inl k ↦ k | inr n ↦ absurd (r.1 (a.all_fresh c w.0 n)) ],
+      elim (cell_in_or_not c s) [ inl k ↦ k | inr n ↦ absurd (r.1 (a.all_fresh c w.0 n)) ],
       w.1,
     ))
   ];
-  all_gone = λ c i n. elim (in_or_not c t) [
+  all_gone = λ c i n. elim (cell_in_or_not c t) [
     | inl k ↦ p.other c (b.all_gone c k n) (λ f. (a.came c f).1 i)
     | inr k ↦ p.one c (a.all_gone c i k) (λ f. n (b.came c f).0)
   ];
   came = λ c i. elim (q.each c i) [
     | inl r ↦ (let w = a.came c r.0 in (
-      elim (in_or_not c u) [ inl k ↦ k | inr n ↦ absurd (r.1 (b.all_gone c w.0 n)) ],
+      elim (cell_in_or_not c u) [ inl k ↦ k | inr n ↦ absurd (r.1 (b.all_gone c w.0 n)) ],
       w.1,
     ))
     | inr r ↦ (let w = b.came c r.0 in (w.0, λ k. r.1 (a.all_gone c k w.1)))
   ];
-  all_fresh = λ c i n. elim (in_or_not c t) [
+  all_fresh = λ c i n. elim (cell_in_or_not c t) [
     | inl k ↦ q.one c (a.all_fresh c k n) (λ f. (b.went c f).1 i)
     | inr k ↦ q.other c (b.all_fresh c i k) (λ f. n (a.went c f).0)
   ];

@@ -14,7 +14,6 @@ ghost use Rattle.cavity.specs.Tables.{
   Knows,
 };
 
-use cell_stars::are_same;
 use cell_store::Spot;
 use point_order::{Cell, Point};
 use std::alloc::{AllocError, Global};
@@ -87,7 +86,7 @@ fn is_at(cells: &[Spot], i: usize, cell: &Cell) -> bool
     ensures { IsTrue result ↔ (slice_get cells.now i ≡ Some cell.now) }
 {
     match cells.get(i) {
-        Some(other) => are_same(other.cell(), cell),
+        Some(other) => other.cell().is_same(cell),
         None => false,
     }
 }

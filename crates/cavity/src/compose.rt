@@ -1,28 +1,14 @@
 //! Two changes, one after the other, as one.
 
-ghost use Rattle.std.specs.Prelude.{◌≡◌, List, IfOk, OnOk, MatchBool};
+ghost use Rattle.std.specs.Prelude.{List, IfOk, OnOk};
 ghost use Rattle.point_order.specs.declared.cell.Cell.{Cell};
-ghost use Rattle.point_order.specs.Sets.{IsIn};
-ghost use Rattle.cell_stars.specs.Gathering.{Gathers};
+ghost use Rattle.list_laws.specs.Lists.{Gathers};
 ghost use Rattle.cell_store.specs.Changes.{IsChange};
 ghost use Rattle.cavity.specs.Both.{AreOfBoth, IsOtherThan};
 
 use crate::fill_hole::Fresh;
-use cell_stars::are_same;
-use point_order::Cell;
+use point_order::{Cell, has_cell};
 use std::alloc::{AllocError, Global};
-
-// Whether the cell is one of these.
-fn has_cell(list: &[Cell], cell: &Cell) -> bool
-    ensures { MatchBool result (IsIn cell.now list.now) (IsIn cell.now list.now → ⊥) }
-{
-    for other in list {
-        if are_same(other, cell) {
-            return true;
-        }
-    }
-    false
-}
 
 // Adds the cells that are none of the others.
 fn add_but(list: &mut Vec<Cell>, cells: &[Cell], others: &[Cell]) -> Result<(), AllocError>

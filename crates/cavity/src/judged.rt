@@ -5,7 +5,6 @@ ghost use Rattle.cavity.specs.Lists.{IsPast, IsAtPlace};
 ghost use Rattle.cavity.specs.Tables.{IsBeside, Knows};
 
 use crate::cell_table::{Mark, Seen, home_of, look, put, table_of};
-use cell_stars::are_same;
 use cell_store::{Hold, Spot, is_on};
 use point_order::{Cell, Facet};
 use std::alloc::{AllocError, Global};
@@ -152,7 +151,7 @@ impl Judged {
         ensures { IsTrue result → IsBeside self.now.goes cell.now facet.now }
     {
         match self.goes.get(number) {
-            Some(other) => is_on(other.cell(), facet) && !are_same(other.cell(), cell),
+            Some(other) => is_on(other.cell(), facet) && !other.cell().is_same(cell),
             None => false,
         }
     }

@@ -56,7 +56,7 @@ use Rattle.cell_stars.specs.AtOnce.{
   StandsAtHere,
   StandsHere,
 }
-use Rattle.cell_stars.specs.Gathering.{Gathers}
+use Rattle.list_laws.specs.Lists.{Gathers}
 use Rattle.cell_stars.specs.Grids.{bucket_of}
 use Rattle.cell_stars.specs.Places.{AreStars, IsStarred, at, cells_of, lies_in, star_at}
 use Rattle.cell_stars.specs.Swaps.{Differ, touches}

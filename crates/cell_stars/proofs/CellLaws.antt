@@ -9,7 +9,7 @@ use Rattle.std.proofs.Common.{refl, sym, ◌∙◌, ap, subst, inl, inr}
 use Rattle.std.proofs.lemmas.List.Kept.{IsStrictlySortedBy-filter}
 use Rattle.del_laws.proofs.Cited.{same_members}
 use Rattle.list_laws.proofs.Cited.{all_by, each_by, filtered_from, filtered_true}
-use Rattle.point_order.proofs.Cited.{cell_after, cell_before, cell_same, cell_self}
+use Rattle.point_order.proofs.Cited.{cell_after, cell_before, cell_in_or_not, cell_same, cell_self}
 use Rattle.point_order.specs.declared.cell.Cell.{Cell}
 use Rattle.point_order.specs.CellOrder.{cell_cmp}
 use Rattle.point_order.specs.Sets.{IsIn}
@@ -37,14 +37,6 @@ among_from c (d ∷ l) e = by (cell_cmp d c) refl e (λ f. among_from c l f)
     by Less f e r = inr (r e)
     by Equal f e r = inl (cell_same d c f)
     by Greater f e r = inr (r e)
-
--- a cell is in a list or not
-pub in_or_not : (c : Cell) (l : List Cell) → IsIn c l ⊎ (IsIn c l → ⊥)
-in_or_not c l = by (is_cell_among c l) refl
-  where
-    by : (b : Bool) → is_cell_among c l ≡ b → IsIn c l ⊎ (IsIn c l → ⊥)
-    by true e = inl (among_from c l e)
-    by false e = inr (λ m. (let t = among_true c l m in absurd (cc (t, e))))
 
 -- ---- one more cell
 
@@ -234,7 +226,7 @@ swapped_back g b gone fresh l s there absent =
         (λ i t. absent c i t m)
 
     back : (c : Cell) → IsIn c l → IsIn c (swapped g b fresh gone (swapped g b gone fresh l))
-    back c m = elim (in_or_not c gone) [
+    back c m = elim (cell_in_or_not c gone) [
       | inl i ↦ by (touches g b c) refl i
       | inr n ↦ kept_there c m (λ i t. n i)
     ]

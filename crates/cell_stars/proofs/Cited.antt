@@ -2,7 +2,6 @@
 pub use Rattle.cell_stars.proofs.CellLaws.{
   among_from,
   among_true,
-  in_or_not,
   swapped_back,
   swapped_from,
   swapped_new,
@@ -11,7 +10,6 @@ pub use Rattle.cell_stars.proofs.CellLaws.{
   swapped_sorted,
   withs_new,
 }
-pub use Rattle.cell_stars.proofs.Gathering.{gathers}
 pub use Rattle.cell_stars.proofs.GridLaws.{bucket_below}
 pub use Rattle.cell_stars.proofs.Least.{live_at}
 pub use Rattle.cell_stars.proofs.Turned.{turn_is_one, turn_leads_back}

@@ -1,5 +1,4 @@
 pub mod CellLaws
-pub mod Gathering
 pub mod GridLaws
 pub mod Least
 pub mod KeyLaws

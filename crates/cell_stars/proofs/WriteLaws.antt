@@ -43,7 +43,8 @@ use Rattle.point_order.specs.Sets.{IsIn, IsAscending}
 use Rattle.cell_stars.specs.Places.{Placed, IsStarred, lies_in, star_at}
 use Rattle.cell_stars.specs.Plans.{AreFor, AreVertices}
 use Rattle.cell_stars.specs.Moves.{AreTouched, AreNumbered, IsNumberFor, IsOwnNumber, IsSpare, IsTurnAdded}
-use Rattle.cell_stars.specs.Gathering.{FromCell, FromPoint, Gathers}
+use Rattle.list_laws.specs.Lists.{Gathers}
+use Rattle.cell_stars.specs.Gathering.{FromCell, FromPoint}
 use Rattle.cell_stars.proofs.KeyLaws.{owned_by, in_owned, owned_in, Keys, vertices, BelongsAt, one_key, at_key, no_key}
 
 -- ---- vertices that are touched

@@ -6,7 +6,6 @@ use crate::guesses::links_at;
 use crate::links::{Links, NONE};
 use crate::matched::{Beside, Joined};
 use crate::moves::Moves;
-use crate::order::are_same;
 use crate::slots::Slot;
 use point_order::Cell;
 use std::alloc::{AllocError, Global};
@@ -51,7 +50,7 @@ impl Rest<'_> {
     // Where the cell stands among those that are put, if it is the next one.
     fn next(&mut self, cell: &Cell) -> u32 {
         if let Some(((_, next), others)) = self.cells.split_first() {
-            if are_same(next, cell) {
+            if next.is_same(cell) {
                 self.cells = others;
                 self.first = self.first.wrapping_add(1);
                 return self.first.wrapping_sub(1);

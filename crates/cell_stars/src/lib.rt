@@ -44,7 +44,6 @@ pub use cells::Cells;
 pub use grid::{BadGrid, Grid};
 pub use matched::Matched;
 pub use numbers::as_number;
-pub use order::are_same;
 pub use plan::Plan;
 pub use star::{BucketCells, Star, StarCells};
 pub use steps::Steps;

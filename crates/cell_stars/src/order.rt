@@ -8,7 +8,7 @@ ghost use Rattle.cell_stars.specs.Swaps.{cell_rest, touches as touches_of, Diffe
 ghost use Rattle.cell_stars.specs.Moves.{AreCellsMarked};
 
 use crate::grid::Grid;
-use point_order::{Cell, Point, Quad, Tri, cells_in_order};
+use point_order::{Cell, Point, cells_in_order, has_cell};
 use std::cmp::Ordering;
 
 // Whether a finite vertex of the cell lies in the bucket.
@@ -30,35 +30,6 @@ pub(crate) fn compare(a: &Cell, b: &Cell) -> Ordering
     a.cmp(b)
 }
 
-// Whether the four points are the same.
-fn are_same_four(q: &Quad, r: &Quad) -> bool
-    ensures { IsTrue result ↔ (q.now ≡ r.now) }
-{
-    let (a, b, c, d) = q.corners();
-    let (x, y, z, w) = r.corners();
-    b == y && c == z && a == x && d == w
-}
-
-// Whether the three points are.
-fn are_same_three(q: &Tri, r: &Tri) -> bool
-    ensures { IsTrue result ↔ (q.now ≡ r.now) }
-{
-    let (a, b, c) = q.corners();
-    let (x, y, z) = r.corners();
-    b == y && a == x && c == z
-}
-
-/// Whether the two are one cell. Cells that differ mostly do in the point that is compared first.
-pub fn are_same(a: &Cell, b: &Cell) -> bool
-    ensures { IsTrue result ↔ (a.now ≡ b.now) }
-{
-    match (a, b) {
-        (Cell::Full(q), Cell::Full(r)) => are_same_four(q, r),
-        (Cell::Open(q), Cell::Open(r)) => are_same_three(q, r),
-        _ => false,
-    }
-}
-
 // Whether the point is one of the cell's.
 pub(crate) fn has_vertex(cell: &Cell, p: Point) -> bool
     ensures { result ≡ is_among p (points_of cell.now) }
@@ -77,18 +48,6 @@ pub(crate) fn has_vertex(cell: &Cell, p: Point) -> bool
 
 // Up to so many cells are compared with each other, rather than put in order.
 const FEW: usize = 32;
-
-// Whether the cell is one of these.
-fn has_cell(list: &[Cell], cell: &Cell) -> bool
-    ensures { result ≡ false → IsIn cell.now list.now → ⊥ }
-{
-    for other in list {
-        if are_same(other, cell) {
-            return true;
-        }
-    }
-    false
-}
 
 // The rest of a division, by which most cells that differ are told apart.
 fn rest_of(cell: &Cell) -> usize

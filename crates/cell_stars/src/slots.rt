@@ -6,7 +6,6 @@ ghost use Rattle.point_order.specs.declared.cell.Cell.{Cell};
 ghost use Rattle.point_order.specs.Sets.{IsIn};
 
 use crate::links::Links;
-use crate::order::are_same;
 use point_order::Cell;
 use std::alloc::{AllocError, Global};
 use std::marker::Model;
@@ -101,7 +100,7 @@ pub(crate) fn stands_at(slots: &[Slot], i: u32, cell: &Cell) -> bool
     ensures { IsTrue result → at slots.now i ≡ Some cell.now }
 {
     match cell_at(slots, i) {
-        Some(other) => are_same(other, cell),
+        Some(other) => other.is_same(cell),
         None => false,
     }
 }
@@ -124,7 +123,7 @@ pub(crate) fn place_among(slots: &[Slot], star: &[u32], cell: &Cell) -> Option<u
 {
     for i in star {
         if let Some(other) = cell_at(slots, *i) {
-            if are_same(other, cell) {
+            if other.is_same(cell) {
                 return Some(*i);
             }
         }

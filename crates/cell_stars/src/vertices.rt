@@ -5,7 +5,8 @@ ghost use Rattle.point_order.specs.declared.cell.Cell.{Cell};
 ghost use Rattle.point_order.specs.Facets.{points_of};
 ghost use Rattle.point_order.specs.Sets.{IsIn};
 ghost use Rattle.cell_stars.specs.Places.{at};
-ghost use Rattle.cell_stars.specs.Gathering.{FromCell, Gathers};
+ghost use Rattle.list_laws.specs.Lists.{Gathers};
+ghost use Rattle.cell_stars.specs.Gathering.{FromCell};
 
 use point_order::{Cell, Point};
 use std::alloc::AllocError;

@@ -59,7 +59,7 @@ use Rattle.point_order.specs.Sets.{IsIn}
 use Rattle.cell_store.specs.Grids.{bucket_of}
 use Rattle.point_order.specs.Sets.{IsAscending}
 use Rattle.cell_stars.specs.Places.{Placed, cells_of, swapped_at}
-use Rattle.cell_stars.specs.Gathering.{Gathers}
+use Rattle.list_laws.specs.Lists.{Gathers}
 use Rattle.cell_stars.specs.Plans.{AreVertices, PlanView, IsPlanFor}
 use Rattle.cell_stars.specs.Turns.{AreReady}
 use Rattle.cell_store.specs.Buckets.{

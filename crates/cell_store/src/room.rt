@@ -23,7 +23,7 @@ ghost use Rattle.std.specs.Prelude.{
   map,
 };
 ghost use Rattle.point_order.specs.Sets.{IsIn, IsAscending, is_among};
-ghost use Rattle.cell_stars.specs.Gathering.{Gathers};
+ghost use Rattle.list_laws.specs.Lists.{Gathers};
 ghost use Rattle.cell_stars.specs.Plans.{IsOnceFor};
 ghost use Rattle.cell_store.specs.Buckets.{layout_at};
 ghost use Rattle.cell_store.specs.Grids.{bucket_of as number_of};

@@ -8,7 +8,7 @@ ghost use Rattle.point_order.specs.declared.cell.Facet.TheVariants.{Three, Two};
 ghost use Rattle.cell_stars.specs.Stars.{cells_around};
 ghost use Rattle.cell_store.specs.Others.{IsOtherOf, HaveNoOther};
 
-use cell_stars::{StarCells, are_same};
+use cell_stars::StarCells;
 use point_order::{Cell, Facet, Pair, Quad, Tri};
 
 /// What lies across a facet.
@@ -88,7 +88,7 @@ pub(crate) fn other_among<'a>(
         (λ o. IsOtherOf (cells_around around.entry) cell.now facet.now o.cell.now) }
 {
     while let Some(c) = around.next() {
-        if is_on(c, facet) && !are_same(c, cell) {
+        if is_on(c, facet) && !c.is_same(cell) {
             return Some(Other {
                 cell: c,
                 place: around.place(),

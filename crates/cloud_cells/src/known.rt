@@ -7,7 +7,6 @@ ghost use Rattle.point_order.specs.declared.cell.Cell.TheVariants.{Full, Open};
 ghost use Rattle.cloud_cells.specs.Known.{AreKnown};
 ghost use Rattle.cloud_cells.specs.Nets.{live};
 
-use crate::facets::are_same;
 use crate::listed::place_of;
 use crate::packed::Packed;
 use cell_lists::QuadList;
@@ -35,7 +34,7 @@ fn note_cell(marks: &mut Vec<bool>, cells: &QuadList, place: usize, cell: &Cell)
     ensures { (made : List CellParts) → IsIn cell.now made → AreKnown made Full cells.now marks.old.items
         → AreKnown made Full cells.now marks.new.items }
 {
-    if place < marks.len() && place < cells.len() && are_same(&Cell::Full(cells.at(place)), cell) {
+    if place < marks.len() && place < cells.len() && Cell::Full(cells.at(place)).is_same(cell) {
         marks[place] = true;
     }
 }
@@ -45,7 +44,7 @@ fn note_triple(marks: &mut Vec<bool>, hull: &[Tri], place: usize, cell: &Cell)
     ensures { (made : List CellParts) → IsIn cell.now made → AreKnown made Open hull.now marks.old.items
         → AreKnown made Open hull.now marks.new.items }
 {
-    if place < marks.len() && place < hull.len() && are_same(&Cell::Open(hull[place]), cell) {
+    if place < marks.len() && place < hull.len() && Cell::Open(hull[place]).is_same(cell) {
         marks[place] = true;
     }
 }

@@ -5,7 +5,6 @@ ghost use Rattle.point_order.specs.Sets.{IsIn};
 ghost use Rattle.point_order.specs.declared.cell.Cell.TheVariants.{Full, Open};
 ghost use Rattle.cloud_cells.specs.Nets.{AreAllIn};
 
-use crate::facets::are_same;
 use crate::packed::Packed;
 use cell_lists::QuadList;
 use point_order::{Cell, Tri};
@@ -55,7 +54,7 @@ fn is_listed(cells: &QuadList, hull: &[Tri], cell: &Cell) -> bool
     ensures { result ≡ true → IsIn cell.now (map Full cells.now ++ map Open hull.now) }
 {
     match listed_at(cells, hull, place_of(cells, hull, cell)) {
-        Some(other) => are_same(&other, cell),
+        Some(other) => other.is_same(cell),
         None => false,
     }
 }

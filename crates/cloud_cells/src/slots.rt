@@ -5,7 +5,7 @@ ghost use Rattle.point_order.specs.Sets.{IsIn};
 ghost use Rattle.cloud_cells.specs.Clouds.{HasOther, IsOtherOf};
 ghost use Rattle.cloud_cells.specs.Nets.{AreMoved, AreWith, HasNoOther, HasNoOtherIn, IsOtherOn, IsWithout, live, slot_at};
 
-use crate::facets::{are_same, is_on};
+use crate::facets::is_on;
 use crate::net::Spot;
 use crate::packed::Packed;
 use point_order::{Cell, Facet};
@@ -109,7 +109,7 @@ fn stands_at(slots: &[Slot], i: usize, cell: &Cell) -> bool
     ensures { IsTrue result ↔ (slot_at slots.now i ≡ Some cell.now) }
 {
     match cell_at(slots, i) {
-        Some(other) => are_same(&other, cell),
+        Some(other) => other.is_same(cell),
         None => false,
     }
 }
@@ -134,7 +134,7 @@ fn place_of(slots: &[Slot], cell: &Cell, hint: usize) -> usize
 fn is_other(other: &Cell, cell: &Cell, facet: &Facet) -> bool
     ensures { IsTrue result ↔ IsOtherOn cell.now facet.now other.now }
 {
-    is_on(other, facet) && !are_same(other, cell)
+    is_on(other, facet) && !other.is_same(cell)
 }
 
 // The cell of a slot, where it is another on the facet.

@@ -107,6 +107,7 @@ pub use Rattle.list_laws.proofs.Gathered.{
   gather_push,
   gather_skip,
   gather_step,
+  gathers,
   made_all,
   made_more,
   made_none,

@@ -1,7 +1,7 @@
 -- What a loop has gathered of the first elements of a list.
 use Rattle.std.specs.Prelude.{List, [], length, slice_index_or, ℕ, ◌++◌, ◌+◌, ◌<◌, ◌∷◌, ◌≡◌, ◌≤◌, ◌⊎◌}
 use Rattle.std.proofs.Common.{inl, inr, subst, take}
-use Rattle.list_laws.specs.Lists.{IsIn}
+use Rattle.list_laws.specs.Lists.{Gathers, IsIn}
 use Rattle.list_laws.proofs.Members.{in_pushed, pushed_new, pushed_old}
 use Rattle.list_laws.proofs.Places.{at_place, each_more, each_none, each_taken}
 
@@ -75,3 +75,13 @@ made_more {X} {Y} R xs n list new x d y h e r p s = record {
 pub made_all : {X Y : Type 0} (R : X → Y → Type 0) (xs : List X) (n : ℕ) (list : List Y) → length xs ≤ n →
     Made R xs n list → (x : X) → IsIn x xs → (y : Y) × IsIn y list × R x y
 made_all {X} {Y} R xs n list h s = each_taken (λ x. (y : Y) × IsIn y list × R x y) xs n h s.some
+
+-- what was gathered of all elements is gathered of the list
+pub gathers : {X Y : Type 0} (R : X → Y → Type 0) (xs : List X) (n : ℕ) (old list : List Y) → length xs ≤ n →
+    Gathered R xs n old list → Gathers R xs old list
+gathers {X} {Y} R xs n old list h s = record {
+  each = s.each;
+  kept = s.kept;
+  all =
+      each_taken (λ x. (y : Y) → R x y → IsIn y list) xs n h s.all;
+}

@@ -25,3 +25,9 @@ IsBelowFirst x (y ∷ ys) = x < y
 abbrev pub IsAscending : List ℕ → Type 0
 IsAscending [] = Unit {0}
 IsAscending (x ∷ xs) = IsBelowFirst x xs × IsAscending xs
+
+-- Beside what was there, all that the elements give, and nothing else.
+pub record Gathers {X Y : Type 0} (R : X → Y → Type 0) (xs : List X) (old list : List Y) : Type 0 where
+  pub each : (y : Y) → IsIn y list → IsIn y old ⊎ ((x : X) × IsIn x xs × R x y)
+  pub kept : (y : Y) → IsIn y old → IsIn y list
+  pub all : (x : X) → IsIn x xs → (y : Y) → R x y → IsIn y list

@@ -170,23 +170,16 @@ pub(crate) fn open_facet(
     open_in(alloc, Part::Pairs, cells, hull)
 }
 
-// Whether two facets are one.
-fn is_same(f: &Facet, g: &Facet) -> bool
-    ensures { MatchBool result (f.now ≡ g.now) (f.now ≡ g.now → ⊥) }
-{
-    *f == *g
-}
-
 // What stands behind the next side, where this has the facet and the one after it has not.
 fn behind_pair<'a>(facet: &Facet, others: &'a [Side]) -> Option<&'a [Side]>
     ensures { MatchOption result (IsUnpaired facet.now others.now) (λ after. IsPair facet.now others.now after.now) }
 {
     let (second, after) = others.split_first()?;
-    if !is_same(&second.facet, facet) {
+    if !second.facet.is_same(facet) {
         return None;
     }
     if let Some((third, _)) = after.split_first() {
-        if is_same(&third.facet, facet) {
+        if third.facet.is_same(facet) {
             return None;
         }
     }

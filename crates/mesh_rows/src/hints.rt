@@ -74,7 +74,7 @@ fn is_same(cells: &[Cell], door: Door, facet: &Facet) -> bool {
     let number = door.cell as usize;
     let k = door.facet as usize;
     if number < cells.len() && k < 4 {
-        cells[number].facets()[k] == *facet
+        cells[number].facets()[k].is_same(facet)
     } else {
         false
     }

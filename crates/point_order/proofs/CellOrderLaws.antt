@@ -1,15 +1,16 @@
 -- The order of cells.
-use Rattle.std.specs.Prelude.{◌≡◌}
+use Rattle.std.specs.Prelude.{◌≡◌, List, [], ◌∷◌, ◌⊎◌}
 use Rattle.std.specs.Cmp.{IsTotalOrder}
 use Rattle.std.specs.Ordering.{ordering_reverse}
 use Rattle.std.specs.declared.cmp.Ordering.{Ordering}
 use Rattle.std.specs.declared.cmp.Ordering.TheVariants.{Less, Equal, Greater}
-use Rattle.std.proofs.Common.{refl, ◌∙◌, ap}
+use Rattle.std.proofs.Common.{refl, ◌∙◌, ap, inl, inr, sym}
 use Rattle.std.proofs.lemmas.Cmp.{nat_list_cmp_total}
 use Rattle.list_laws.proofs.Cited.{same_list}
 use Rattle.point_order.specs.declared.cell.Cell.{Cell}
 use Rattle.point_order.specs.declared.cell.Cell.TheVariants.{Full, Open}
 use Rattle.point_order.specs.CellOrder.{cell_cmp}
+use Rattle.point_order.specs.Sets.{IsIn}
 use Rattle.point_order.specs.contracts.cell.CellOrd.TheImpl as by_order
 
 -- it is what the derived order answers
@@ -60,3 +61,18 @@ cell_after c d e = cell_reverse d c ∙ ap ordering_reverse e
 pub cell_order : IsTotalOrder cell_cmp
 cell_order =
     record { antisymm = cell_reverse; trans = cell_before; congr = λ c d e h. ap (λ x. cell_cmp x e) (cell_same c d h) }
+
+-- a cell is in a list or not
+pub cell_in_or_not : (c : Cell) (l : List Cell) → IsIn c l ⊎ (IsIn c l → ⊥)
+cell_in_or_not c [] = inr (λ m. m)
+cell_in_or_not c (d ∷ l) = by (cell_cmp d c) refl (cell_in_or_not c l)
+  where
+    -- and none that stands before or behind it is it
+    other : (o : Ordering) → cell_cmp d c ≡ o → (o ≡ Equal → ⊥) → d ≡ c → ⊥
+    other o e n same = n (sym e ∙ (ap (λ x. cell_cmp x c) same ∙ cell_self c))
+
+    by : (o : Ordering) → cell_cmp d c ≡ o → IsIn c l ⊎ (IsIn c l → ⊥) → IsIn c (d ∷ l) ⊎ (IsIn c (d ∷ l) → ⊥)
+    by Equal e r = inl (inl (cell_same d c e))
+    by o e (inl m) = inl (inr m)
+    by Less e (inr n) = inr (λ m. elim m [ inl same ↦ other Less e (λ x. cc x) same | inr k ↦ n k ])
+    by Greater e (inr n) = inr (λ m. elim m [ inl same ↦ other Greater e (λ x. cc x) same | inr k ↦ n k ])

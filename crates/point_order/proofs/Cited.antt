@@ -2,6 +2,7 @@
 pub use Rattle.point_order.proofs.CellOrderLaws.{
   cell_after,
   cell_before,
+  cell_in_or_not,
   cell_order,
   cell_reverse,
   cell_same,

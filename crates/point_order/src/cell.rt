@@ -1,6 +1,6 @@
 //! Cells and facets, kept with their points in ascending order.
 
-ghost use Rattle.std.specs.Prelude.{◌≡◌, ◌≢◌, ◌<◌, ◌↔◌, ℕ, List, [], ◌∷◌, ◌⊎◌, length};
+ghost use Rattle.std.specs.Prelude.{◌≡◌, ◌≢◌, ◌<◌, ◌↔◌, ℕ, List, [], ◌∷◌, ◌⊎◌, length, IsTrue};
 ghost use Rattle.point_order.specs.CellOrder.{cell_cmp};
 ghost use Rattle.point_order.specs.Facets.{facets_of, points_of, points_on};
 ghost use Rattle.point_order.specs.Subsets.{subsets};
@@ -104,6 +104,15 @@ impl Pair {
         let [a, b] = self.points;
         (a, b)
     }
+
+    /// Whether the two are one pair.
+    pub fn is_same(&self, other: &Pair) -> bool
+        ensures { IsTrue result ↔ (self.now ≡ other.now) }
+    {
+        let [a, b] = self.points;
+        let [x, y] = other.points;
+        a == x && b == y
+    }
 }
 
 impl Tri {
@@ -123,6 +132,15 @@ impl Tri {
     {
         let [a, b, c] = self.points;
         (a, b, c)
+    }
+
+    /// Whether the two are one triple. The points that mostly differ are compared first.
+    pub fn is_same(&self, other: &Tri) -> bool
+        ensures { IsTrue result ↔ (self.now ≡ other.now) }
+    {
+        let [a, b, c] = self.points;
+        let [x, y, z] = other.points;
+        b == y && a == x && c == z
     }
 
     /// The pairs of its points, in lexicographic order.
@@ -156,6 +174,15 @@ impl Quad {
     {
         let [a, b, c, d] = self.points;
         (a, b, c, d)
+    }
+
+    /// Whether the two are one quadruple. The points that mostly differ are compared first.
+    pub fn is_same(&self, other: &Quad) -> bool
+        ensures { IsTrue result ↔ (self.now ≡ other.now) }
+    {
+        let [a, b, c, d] = self.points;
+        let [x, y, z, w] = other.points;
+        b == y && c == z && a == x && d == w
     }
 
     /// The pairs of its points, in lexicographic order.
@@ -196,6 +223,17 @@ impl Facet {
         match self {
             Facet::Three(tri) => &tri.points,
             Facet::Two(pair) => &pair.points,
+        }
+    }
+
+    /// Whether the two are one facet.
+    pub fn is_same(&self, other: &Facet) -> bool
+        ensures { IsTrue result ↔ (self.now ≡ other.now) }
+    {
+        match (self, other) {
+            (Facet::Three(f), Facet::Three(g)) => f.is_same(g),
+            (Facet::Two(f), Facet::Two(g)) => f.is_same(g),
+            _ => false,
         }
     }
 }
@@ -287,6 +325,18 @@ impl Cell {
         ensures { result ≡ cell_cmp self.now other.now }
     {
         self.cmp(other)
+    }
+
+    /// Whether the two are one cell. It is what `==` answers; cells that differ mostly do in the points that are
+    /// compared first.
+    pub fn is_same(&self, other: &Cell) -> bool
+        ensures { IsTrue result ↔ (self.now ≡ other.now) }
+    {
+        match (self, other) {
+            (Cell::Full(q), Cell::Full(r)) => q.is_same(r),
+            (Cell::Open(q), Cell::Open(r)) => q.is_same(r),
+            _ => false,
+        }
     }
 
     /// Whether the point is one of the cell's.

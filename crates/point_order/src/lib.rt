@@ -20,6 +20,6 @@ mod step;
 mod text;
 
 pub use cell::{Cell, Facet, Pair, Quad, Tri};
-pub use order::{cells_in_order, points_in_order};
+pub use order::{cells_in_order, has_cell, points_in_order};
 pub use point::{OutOfRange, Point};
 pub use step::{Normal, Step};

@@ -15,10 +15,9 @@ ghost use Rattle.cell_store.specs.Shares.{Shows, ShowsWith};
 ghost use Rattle.cell_store.specs.Missing.{ArePointsHeld};
 ghost use Rattle.vertex_removal.specs.Near.{IsStar, ShowsStar, ArePointsBut, AreAdded, IsOneOf, IsOfOne};
 
-use crate::wrap::is_among as is_listed;
 use cell_store::Hold;
 use edit_history::find_four;
-use point_order::{Cell, Point, cells_in_order, points_in_order};
+use point_order::{Cell, Point, cells_in_order, has_cell, points_in_order};
 use std::alloc::{AllocError, Global};
 
 // As many cells as a point mostly has at the most: room for them is made at once.
@@ -29,7 +28,7 @@ fn do_differ(cells: &[Cell]) -> bool
     ensures { IsTrue result → AreDistinct cells.now }
 {
     for k in (0..cells.len()).rev() {
-        if is_listed(&cells[k + 1..], &cells[k]) {
+        if has_cell(&cells[k + 1..], &cells[k]) {
             return false;
         }
     }

@@ -4,11 +4,10 @@
 //! a cell that was found, lies one cell: that of the facet and the point of the link outside of whose sphere the others
 //! lie. A facet that was met from both sides is done with. When none is left, all cells are found.
 
-ghost use Rattle.std.specs.Prelude.{◌≡◌, [], ◌∷◌, ◌↔◌, IfOk, IfSome, OnOk, IsTrue};
+ghost use Rattle.std.specs.Prelude.{◌≡◌, [], ◌∷◌, IfOk, IfSome, OnOk, IsTrue};
 ghost use Rattle.list_laws.specs.Lists.{AreDistinct};
 ghost use Rattle.point_order.specs.Complex.{complex};
 ghost use Rattle.point_order.specs.Facets.{facets_of, points_of};
-ghost use Rattle.point_order.specs.Sets.{IsIn};
 ghost use Rattle.hole_laws.specs.Edits.{GoesFrom};
 ghost use Rattle.vertex_removal.specs.Near.{AreTaken};
 ghost use Rattle.vertex_removal.specs.Wraps.{
@@ -23,7 +22,7 @@ ghost use Rattle.vertex_removal.specs.Wraps.{
 };
 
 use crate::apex::{apex_over, is_over};
-use point_order::{Cell, Facet, Point, Tri};
+use point_order::{Cell, Facet, Point, has_cell};
 use sphere_ties::conflict;
 use std::alloc::{AllocError, Global};
 
@@ -152,15 +151,6 @@ fn cell_on_side(points: &[Point], v: Point, side: &Side) -> Option<Cell>
     }
 }
 
-// Whether the two triples are one. Triples that differ mostly do in the point that is compared first.
-fn are_same(q: &Tri, r: &Tri) -> bool
-    ensures { IsTrue result ↔ (q.now ≡ r.now) }
-{
-    let (a, b, c) = q.corners();
-    let (x, y, z) = r.corners();
-    b == y && a == x && c == z
-}
-
 // Whether the two are sides of one facet, which is a triple.
 fn are_of_one(one: &Side, other: &Side) -> bool
     ensures { IsTrue result → one.now.facet ≡ other.now.facet }
@@ -169,7 +159,7 @@ fn are_of_one(one: &Side, other: &Side) -> bool
         return false;
     }
     match (&one.facet, &other.facet) {
-        (Facet::Three(q), Facet::Three(r)) => are_same(q, r),
+        (Facet::Three(q), Facet::Three(r)) => q.is_same(r),
         _ => false,
     }
 }
@@ -227,18 +217,6 @@ fn meet_facets(sides: &mut Vec<Side>, cell: &Cell) -> Result<(), AllocError>
     Ok(())
 }
 
-// Whether the cell is one of those.
-pub(crate) fn is_among(cells: &[Cell], cell: &Cell) -> bool
-    ensures { IsTrue result ↔ IsIn cell.now cells.now }
-{
-    for other in cells {
-        if cell_stars::are_same(other, cell) {
-            return true;
-        }
-    }
-    false
-}
-
 // The cells that v takes away from the complex of the points near it, by wrapping the hole of the cells at v; none
 // where one of these is Open, or where there is too much to look at.
 pub(crate) fn cells_wrapped(
@@ -267,7 +245,7 @@ pub(crate) fn cells_wrapped(
             Some(cell) => cell,
             None => return Ok(None),
         };
-        if is_among(&cells, &cell) {
+        if has_cell(&cells, &cell) {
             return Ok(None);
         }
         meet_facets(&mut sides, &cell)?;

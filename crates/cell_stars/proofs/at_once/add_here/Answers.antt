@@ -1,8 +1,8 @@
 use Rattle.std.proofs.Common.{◌∙◌, ◌+◌, sym, subst, ap, List, ℕ}
 use Rattle.list_laws.proofs.Cited.{Gathered, gather_none}
 use Rattle.cell_stars.specs.AtOnce.{StandsHere}
-use Rattle.cell_stars.specs.Gathering.{Gathers}
-use Rattle.cell_stars.proofs.Gathering.{gathers}
+use Rattle.list_laws.specs.Lists.{Gathers}
+use Rattle.list_laws.proofs.Cited.{gathers}
 use Rattle.cell_stars.proofs.AtOnce.{here_more, here_not}
 use Rattle.cell_stars.proofs.at_once.add_here.Goals.{then-bucket_of-number+in_ok-push, else-bucket_of-number}
 use Rattle.cell_stars.proofs.at_once.add_here.Goals as goal

@@ -1,6 +1,6 @@
 use Rattle.std.proofs.Common.{[]}
 use Rattle.cell_stars.specs.AtOnce.{FromCellHere}
-use Rattle.cell_stars.proofs.Gathering.{gathers}
+use Rattle.list_laws.proofs.Cited.{gathers}
 use Rattle.cell_stars.proofs.AtOnce.{cell_here, same_gathered}
 use Rattle.cell_stars.proofs.at_once.vertices_here.Goals as goal
 

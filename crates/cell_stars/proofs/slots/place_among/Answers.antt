@@ -3,7 +3,7 @@ use Rattle.list_laws.proofs.Cited.{each_more, not_both}
 use Rattle.cell_stars.specs.Places.{at}
 use Rattle.cell_stars.proofs.MoveLaws.{another, no_cell}
 use Rattle.cell_stars.proofs.slots.place_among.Goals as goal
-use Rattle.cell_stars.proofs.slots.place_among.Goals.{in-Some+else-are_same, in_default}
+use Rattle.cell_stars.proofs.slots.place_among.Goals.{in-Some+else-is_same, in_default}
 
 pub loop-i-preserved : goal.loop-i-preserved
 loop-i-preserved c =
@@ -13,7 +13,7 @@ loop-i-preserved c =
     let x = get_or star c.loop-i.i-index 0 in
     each_more (λ i. at slots i ≡ Some cell → ⊥) star c.loop-i.i-index x 0 c.loop-i-test.true refl c.loop-i.invariant
     (elim c.match-cell_at.branch [
-      | in-Some+else-are_same w ↦ another slots x w.in-Some.other.now cell w.in-Some.ensures
-          (λ e. not_both w.are_same.result (w.are_same.ensures.1 e) w.if-are_same.false)
+      | in-Some+else-is_same w ↦ another slots x w.in-Some.other.now cell w.in-Some.ensures
+          (λ e. not_both w.is_same.result (w.is_same.ensures.1 e) w.if-is_same.false)
       | in_default w ↦ no_cell slots x cell w.in_default.ensures
     ])

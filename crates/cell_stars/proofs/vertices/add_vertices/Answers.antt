@@ -1,6 +1,6 @@
 use Rattle.list_laws.proofs.Cited.{gather_none}
 use Rattle.cell_stars.specs.Gathering.{FromCell}
-use Rattle.cell_stars.proofs.Gathering.{gathers}
+use Rattle.list_laws.proofs.Cited.{gathers}
 use Rattle.cell_stars.proofs.WriteLaws.{cell_step}
 use Rattle.cell_stars.proofs.vertices.add_vertices.Goals as goal
 

@@ -1,6 +1,6 @@
 use Rattle.std.proofs.Common.{sym, ◌∙◌, inl, inr}
 use Rattle.list_laws.proofs.Cited.{gather_none, gather_step}
-use Rattle.cell_stars.proofs.Cited.{gathers}
+use Rattle.list_laws.proofs.Cited.{gathers}
 use Rattle.cell_store.specs.Ready.{IsNumberOf}
 use Rattle.cell_store.proofs.room.add_numbers_at.Goals as goal
 

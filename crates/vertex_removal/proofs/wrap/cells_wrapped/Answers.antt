@@ -29,9 +29,9 @@ cell_on_side-requires-clause-facet c =
 pub wrap-preserved : goal.wrap-preserved
 wrap-preserved c =
     let k = hole_wraps c.args.points.now c.args.v c.args.star.now c.requires in
-    let new : ¬ (IsIn c.in-Some-cell_on_side.cell c.wrap.cells.items) = λ m. not_both c.is_among.result
-    (c.is_among.ensures.1 (subst (λ (l : List Cell). IsIn c.in-Some-cell_on_side.cell l)
-    (sym c.deref-in-wrap.ensures.value) m)) c.if-is_among.false in
+    let new : ¬ (IsIn c.in-Some-cell_on_side.cell c.wrap.cells.items) = λ m. not_both c.has_cell.result
+    (c.has_cell.ensures.1 (subst (λ (l : List Cell). IsIn c.in-Some-cell_on_side.cell l)
+    (sym c.deref-in-wrap.ensures.value) m)) c.if-has_cell.false in
     rw c.in_ok-push.ensures.items (wrap_more c.args.points.now c.args.v k c.wrap.cells.items c.wrap.sides.items
     c.wrap.invariant c.in-Some-cell_on_side.cell c.in-Some-cell_on_side.ensures new c.meet_facets.new.sides.items
     c.in_ok-meet_facets.ensures)

@@ -20,5 +20,5 @@ returns-then-is_on c t =
           c.in-Some.ensures.lookup.1);
       has = subst (λ (q : Cell). IsIn c.args.facet.now (facets_of q)) c.cell.ensures
           (c.is_on.ensures.0 c.if-is_on.true);
-      differs = λ e. fails c.are_same.result t (c.are_same.ensures.1 (c.cell-then-is_on.ensures ∙ e));
+      differs = λ e. fails c.is_same.result t (c.is_same.ensures.1 (c.cell-then-is_on.ensures ∙ e));
     }
