@@ -45,7 +45,7 @@ use Rattle.point_order.specs.CellOrder.{cell_cmp}
 use Rattle.point_order.specs.Complex.{complex}
 use Rattle.point_order.specs.Facets.{points_of}
 use Rattle.point_order.specs.Sets.{IsIn, IsAscending, is_among, with_point, without_point}
-use Rattle.point_order.proofs.Cited.{ascending_with, in_with, in_with_new, in_with_old}
+use Rattle.point_order.proofs.Cited.{ascending_with, cell_in_or_not, in_with, in_with_new, in_with_old}
 use Rattle.edit_history.specs.declared.history.Edit.TheVariants.{Add}
 use Rattle.edit_history.specs.declared.history.Reply.{Reply}
 use Rattle.edit_history.specs.Edits.{after, changed}
@@ -71,7 +71,7 @@ use Rattle.cell_store.specs.Between.{
   LeftIsSame,
   SightOutside,
 }
-use Rattle.cell_stars.proofs.Cited.{in_or_not, swapped_back, swapped_none, swapped_sorted}
+use Rattle.cell_stars.proofs.Cited.{swapped_back, swapped_none, swapped_sorted}
 use Rattle.cell_store.proofs.AnyLaws.{change_finds_cells, put_points}
 use Rattle.cell_store.proofs.NextLaws.{cells_next, filter_with_else, lies, mapped_some}
 use Rattle.cell_store.proofs.ShareLaws.{solid_set}
@@ -310,11 +310,11 @@ changes_compose s t u gone fresh gone2 fresh2 a b = record {
     went c i = elim (both (without_cells fresh2 gone) (without_cells fresh gone2) c i) [
       | inl j ↦ (let r = left_out gone fresh2 c j in let w = a.went c r.0 in (w.0, λ k. r.1 (b.all_fresh c k w.1)))
       | inr j ↦ (let r = left_out gone2 fresh c j in let w = b.went c r.0 in
-          (elim (in_or_not c s) [ inl k ↦ k | inr n ↦ absurd (r.1 (a.all_fresh c w.0 n)) ], w.1))
+          (elim (cell_in_or_not c s) [ inl k ↦ k | inr n ↦ absurd (r.1 (a.all_fresh c w.0 n)) ], w.1))
     ]
 
     all_gone : (c : Cell) → IsIn c s → (IsIn c u → ⊥) → IsIn c (without_cells fresh2 gone ++ without_cells fresh gone2)
-    all_gone c i n = elim (in_or_not c t) [
+    all_gone c i n = elim (cell_in_or_not c t) [
       | inl k ↦ in_right c (without_cells fresh2 gone) (without_cells fresh gone2)
           (all_out gone2 fresh c (b.all_gone c k n) (λ f. (a.came c f).1 i))
       | inr k ↦ in_left c (without_cells fresh2 gone) (without_cells fresh gone2)
@@ -324,12 +324,12 @@ changes_compose s t u gone fresh gone2 fresh2 a b = record {
     came : (c : Cell) → IsIn c (without_cells gone2 fresh ++ without_cells gone fresh2) → IsIn c u × (IsIn c s → ⊥)
     came c i = elim (both (without_cells gone2 fresh) (without_cells gone fresh2) c i) [
       | inl j ↦ (let r = left_out fresh gone2 c j in let w = a.came c r.0 in
-          (elim (in_or_not c u) [ inl k ↦ k | inr n ↦ absurd (r.1 (b.all_gone c w.0 n)) ], w.1))
+          (elim (cell_in_or_not c u) [ inl k ↦ k | inr n ↦ absurd (r.1 (b.all_gone c w.0 n)) ], w.1))
       | inr j ↦ (let r = left_out fresh2 gone c j in let w = b.came c r.0 in (w.0, λ k. r.1 (a.all_gone c k w.1)))
     ]
 
     all_fresh : (c : Cell) → IsIn c u → (IsIn c s → ⊥) → IsIn c (without_cells gone2 fresh ++ without_cells gone fresh2)
-    all_fresh c i n = elim (in_or_not c t) [
+    all_fresh c i n = elim (cell_in_or_not c t) [
       | inl k ↦ in_left c (without_cells gone2 fresh) (without_cells gone fresh2)
           (all_out fresh gone2 c (a.all_fresh c k n) (λ f. (b.went c f).1 i))
       | inr k ↦ in_right c (without_cells gone2 fresh) (without_cells gone fresh2)

@@ -17,7 +17,7 @@ use Rattle.point_order.specs.declared.cell.Cell.{Cell}
 use Rattle.point_order.specs.CellOrder.{cell_cmp}
 use Rattle.point_order.specs.Complex.{complex}
 use Rattle.point_order.specs.Sets.{IsIn, IsAscending, with_point, without_point}
-use Rattle.point_order.proofs.Cited.{ascending_with, in_with, in_with_new, in_with_old}
+use Rattle.point_order.proofs.Cited.{ascending_with, cell_in_or_not, in_with, in_with_new, in_with_old}
 use Rattle.edit_history.specs.declared.history.Entry.{Entry}
 use Rattle.edit_history.specs.declared.history.Reply.{Reply}
 use Rattle.edit_history.specs.declared.history.Reply.TheVariants.{
@@ -48,7 +48,7 @@ use Rattle.cell_store.specs.Changes.{
   ShareAfterEntry,
   ShareElsewhere,
 }
-use Rattle.cell_stars.proofs.Cited.{in_or_not, swapped_from, swapped_new, swapped_none, swapped_old, swapped_sorted}
+use Rattle.cell_stars.proofs.Cited.{swapped_from, swapped_new, swapped_none, swapped_old, swapped_sorted}
 
 -- ---- the cells
 
@@ -61,14 +61,14 @@ cells_next g b s t gone fresh ch = (forth, back)
     forth : (x : Cell) → IsIn x (swapped g b gone fresh (filter (touches g b) s)) → IsIn x (filter (touches g b) t)
     forth x m = elim (swapped_from g b gone fresh (filter (touches g b) s) x m) [
       | inl k ↦ filtered_true (touches g b) t x (ch.came x k.0).0 k.1
-      | inr k ↦ (let r = filtered_from (touches g b) s x k.0 in elim (in_or_not x t) [
+      | inr k ↦ (let r = filtered_from (touches g b) s x k.0 in elim (cell_in_or_not x t) [
         | inl i ↦ filtered_true (touches g b) t x i r.1
         | inr n ↦ absurd (k.1 (ch.all_gone x r.0 n) r.1)
       ])
     ]
 
     back : (x : Cell) → IsIn x (filter (touches g b) t) → IsIn x (swapped g b gone fresh (filter (touches g b) s))
-    back x m = (let r = filtered_from (touches g b) t x m in elim (in_or_not x s) [
+    back x m = (let r = filtered_from (touches g b) t x m in elim (cell_in_or_not x s) [
       | inl i ↦ swapped_old g b gone fresh (filter (touches g b) s) x (filtered_true (touches g b) s x i r.1)
           (λ k. (ch.went x k).1 r.0)
       | inr n ↦ swapped_new g b gone fresh (filter (touches g b) s) x (ch.all_fresh x r.0 n) r.1

@@ -52,7 +52,7 @@ use Rattle.point_order.specs.Complex.{complex}
 use Rattle.point_order.specs.Facets.{points_of}
 use Rattle.point_order.specs.Sets.{IsIn, IsAscending, is_among, ascending, with_point, without_point}
 use Rattle.point_order.specs.Solid.{is_solid}
-use Rattle.point_order.proofs.Cited.{ascending_with, in_ascending_from, in_with_old}
+use Rattle.point_order.proofs.Cited.{ascending_with, cell_in_or_not, in_ascending_from, in_with_old}
 use Rattle.edit_history.specs.declared.history.Edit.{Edit}
 use Rattle.edit_history.specs.declared.history.Edit.TheVariants.{Add, Take, Move}
 use Rattle.edit_history.specs.declared.history.Reply.{Reply}
@@ -97,7 +97,7 @@ use Rattle.cell_store.specs.Swaps.{touches, without_cells, is_cell_among}
 use Rattle.cell_store.specs.Shares.{IsSight, Shows, cells_share, points_on}
 use Rattle.cell_store.specs.Changes.{IsChange, NoneTouches}
 use Rattle.cell_store.specs.Touches.{HoldTouched, IsTouched, ShareOutsideTouch, ReachFromHeld, CommitsCommute}
-use Rattle.cell_stars.proofs.Cited.{among_from as cell_from, among_true as cell_among, in_or_not, swapped_none}
+use Rattle.cell_stars.proofs.Cited.{among_from as cell_from, among_true as cell_among, swapped_none}
 use Rattle.cell_store.proofs.HandLaws.{held_point}
 use Rattle.cell_store.proofs.NextLaws.{
   cells_after,
@@ -514,7 +514,7 @@ module _ (hold : InHand) (s t : List ℕ) (p : ℕ) (sh : Shows hold s) (th : Sh
       let there = cell_moves hold s t sh th q e has h k.before in
       record {
         before = there;
-        after = elim (in_or_not q (complex (with_point p t)))
+        after = elim (cell_in_or_not q (complex (with_point p t)))
             [ inl i ↦ i | inr no' ↦ absurd ((fro q (record { before = there; after = no' })).after k.after) ];
       }
 
