@@ -108,7 +108,7 @@ on_err n (Ok b) rest fault h = inr (b, refl, h)
 -- ---- the mesh
 
 -- lines of which a mesh comes lead from one to the next up to the end
-leads_all : (n : ℕ) (a : Reached) (lines : List (List ℕ)) (f : MeshParts) → judge n a lines ≡ Ok f → AllLead lines a
+pub leads_all : (n : ℕ) (a : Reached) (lines : List (List ℕ)) (f : MeshParts) → judge n a lines ≡ Ok f → AllLead lines a
     (at_end f)
 unfolding judge
 leads_all n a [] f h = let e = ended_ok n a.due a.taken f h in same_place a f e.0 e.1

@@ -6,4 +6,5 @@ pub mod Judged
 pub mod Turns
 pub mod Order
 pub mod Pieced
+pub mod Given
 pub mod Cited

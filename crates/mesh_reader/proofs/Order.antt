@@ -48,7 +48,7 @@ all_before cmp o (r ∷ y ∷ l) q s h x m = elim m [
 ]
 
 -- the same of numbers
-all_below : (l : List ℕ) (q : ℕ) → IsAscending l → IsAfter (λ r p. r < p) l q → (x : ℕ) → IsIn x l → x < q
+pub all_below : (l : List ℕ) (q : ℕ) → IsAscending l → IsAfter (λ r p. r < p) l q → (x : ℕ) → IsIn x l → x < q
 all_below [] q a h x m = absurd m
 all_below (r ∷ []) q a h x m = elim m [ inl e ↦ subst (λ v. v < q) e h | inr n ↦ absurd n ]
 all_below (r ∷ y ∷ l) q a h x m = elim m [

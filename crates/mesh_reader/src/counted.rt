@@ -1,10 +1,10 @@
 //! A reader that counts its lines.
 
-ghost use Rattle.std.specs.Prelude.{◌≡◌, ◌+◌, ◌≤◌, ◌∷◌, [], List, ℕ, IfOk, Err};
+ghost use Rattle.std.specs.Prelude.{◌≡◌, ◌+◌, ◌≤◌, ◌∷◌, [], List, ℕ, IfOk, Err, true};
 ghost use Rattle.edit_files.specs.declared.fault.Fault.{Fault as FaultParts};
 ghost use Rattle.edit_files.specs.declared.fault.ReadRefused.TheVariants.{Bad};
 ghost use Rattle.mesh_reader.specs.Grammar.{at_title, parts};
-ghost use Rattle.mesh_reader.specs.Judging.{Gives, judge, reached};
+ghost use Rattle.mesh_reader.specs.Judging.{Gives, ascends, judge, reached};
 ghost use Rattle.mesh_reader.specs.LinesLeft.{line_count, most_left};
 
 use crate::mesh_file::PackedMesh;
@@ -19,6 +19,7 @@ pub(crate) struct Counted {
     /// The number of the line that is due, from 1.
     pub(crate) number: u64,
     ghost few: { number + most_left reader.due ≤ line_count },
+    ghost ascending: { ascends (reached reader).taken.points ≡ true },
 }
 
 impl Counted {

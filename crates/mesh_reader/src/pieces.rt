@@ -1,11 +1,12 @@
 //! Reading the text of a mesh that comes in pieces.
 
-ghost use Rattle.std.specs.Prelude.{◌≡◌, ◌++◌, ◌∷◌, [], List, ℕ, MatchOption, IfOk, Err, true};
+ghost use Rattle.std.specs.Prelude.{◌≡◌, ◌++◌, ◌∷◌, [], List, ℕ, MatchOption, IfSome, IfOk, Err, true};
 ghost use Rattle.edit_files.specs.declared.fault.Fault.{Fault as FaultParts};
 ghost use Rattle.edit_files.specs.declared.fault.ReadRefused.TheVariants.{Bad};
 ghost use Rattle.edit_files.specs.Lines.{lines_of};
+ghost use Rattle.list_laws.specs.Lists.{IsAscending};
 ghost use Rattle.mesh_reader.specs.Faults.{IsMeshFault};
-ghost use Rattle.mesh_reader.specs.Grammar.{IsMeshText, file_parts, parts};
+ghost use Rattle.mesh_reader.specs.Grammar.{IsMeshText, MeshParts, file_parts, parts};
 ghost use Rattle.mesh_reader.specs.Judging.{Gives};
 ghost use Rattle.mesh_reader.specs.Order.{IsInOrder};
 ghost use Rattle.mesh_reader.specs.Pieces.{HasNoFeed, HasTaken, LeavesOf, comes_to};
@@ -111,8 +112,13 @@ impl MeshReader {
         }
     }
 
-    /// The points, once they are read and cells are due. What is made of them is to be looked at with the mesh.
-    pub fn points(&self) -> Option<&[Point]> {
+    /// The points, once they are read and cells are due: those of each mesh whose text begins with the bytes that were
+    /// taken (`those`). That they are given as soon as they are known, no clause says.
+    pub fn points(&self) -> Option<&[Point]>
+        ensures ascending { IfSome result (λ points. IsAscending points.now) }
+        ensures those { IfSome result (λ points. (bytes more : List ℕ) (mesh : MeshParts) → HasTaken self.now bytes
+            → IsMeshText (bytes ++ more) mesh → mesh.points ≡ points.now) }
+    {
         match &self.state {
             State::Right(counted) => counted.reader.points(),
             State::Wrong(_) => None,

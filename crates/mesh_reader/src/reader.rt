@@ -1,11 +1,11 @@
 //! Reading the text of a mesh, line by line.
 
-ghost use Rattle.std.specs.Prelude.{◌≡◌, Err, nat_lt};
+ghost use Rattle.std.specs.Prelude.{◌≡◌, IfSome, Err, nat_lt};
 ghost use Rattle.std.specs.Prelude.{if◌then◌else◌};
 ghost use Rattle.std.specs.Str.{bytes_eq};
 ghost use Rattle.edit_files.specs.declared.fault.Why.TheVariants.{Section};
 ghost use Rattle.mesh_reader.specs.declared.place.Part.TheVariants as lists;
-ghost use Rattle.mesh_reader.specs.Grammar.{at_title, parts};
+ghost use Rattle.mesh_reader.specs.Grammar.{HasAllPoints, at_title, parts};
 ghost use Rattle.mesh_reader.specs.Judging.{
   Gives,
   Steps,
@@ -198,7 +198,9 @@ impl Reader {
     }
 
     // The points, where no more are due.
-    pub(crate) fn points(&self) -> Option<&[Point]> {
+    pub(crate) fn points(&self) -> Option<&[Point]>
+        ensures { IfSome result (λ points. (points.now ≡ self.now.file.points.items) × HasAllPoints self.now.due) }
+    {
         match self.due {
             Due::Head(Part::Cells) | Due::Head(Part::Hull) => Some(&self.file.points),
             Due::Body(Part::Cells, _) | Due::Body(Part::Hull, _) => Some(&self.file.points),

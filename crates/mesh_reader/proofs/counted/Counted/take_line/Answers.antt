@@ -1,5 +1,6 @@
 use Rattle.std.proofs.Common.{◌∷◌, arith, refl, sym, ◌∙◌}
 use Rattle.mesh_reader.specs.Judging.{reached}
+use Rattle.mesh_reader.proofs.Given.{step_ascends}
 use Rattle.mesh_reader.proofs.Pieced.{bad_one, fewer_left, wrong_line}
 use Rattle.mesh_reader.proofs.Turns.{judge_on}
 use Rattle.mesh_reader.proofs.counted.Counted.take_line.Goals as goal
@@ -8,7 +9,11 @@ pub invariant_of-result : goal.invariant_of-result
 invariant_of-result c =
     let fewer = fewer_left (reached c.args.self.reader) c.args.line.now (reached c.take_line.new.self) c.in-Ok.ensures
     in
-    record { few = omega (arith, fewer, c.args.self.few) }
+    record {
+      few = omega (arith, fewer, c.args.self.few);
+      ascending = step_ascends (reached c.args.self.reader) c.args.line.now (reached c.take_line.new.self)
+          c.in-Ok.ensures c.args.self.ascending;
+    }
 
 pub returns-in-Ok-clause-right : goal.returns-in-Ok-clause-right
 returns-in-Ok-clause-right c = λ lines. sym (judge_on c.args.self.number (reached c.args.self.reader)
