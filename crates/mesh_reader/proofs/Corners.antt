@@ -39,7 +39,16 @@ use Rattle.edit_files.specs.Numbers.{IsNumber}
 use Rattle.edit_files.specs.Judging.{fields_of, number}
 use Rattle.edit_files.proofs.Cited.{Decides, number_of, of_number}
 use Rattle.mesh_reader.specs.Grammar.{AreIndices, HasNumbers, IsIndexLine, IsIndexOf, point_limit}
-use Rattle.mesh_reader.specs.Judging.{ascends, corners, corners_from, in_front, in_order, numbers, point_at, points_at}
+use Rattle.mesh_reader.specs.Judging.{
+  ascends,
+  corners_from,
+  field_numbers,
+  in_front,
+  in_order,
+  indexed_corners,
+  indexed_point,
+  indexed_points,
+}
 use Rattle.mesh_reader.proofs.Fields.{
   AreNumbers,
   AreRead,
@@ -79,7 +88,7 @@ kept_some true v p h = (refl, same_value v p h)
 kept_some false v p h = absurd (not_none p h)
 
 -- an index that is read
-index_says : (s x : List ℕ) (i p : ℕ) → number x ≡ Some i → point_at s i ≡ Some p → IsIndexOf s x p
+index_says : (s x : List ℕ) (i p : ℕ) → number x ≡ Some i → indexed_point s i ≡ Some p → IsIndexOf s x p
 index_says s x i p read h =
     let k = kept_some (ltb i (length s) && ltb i point_limit) (slice_index_or s i 0) p h in
     let t = and_parts (ltb i (length s)) (ltb i point_limit) k.0 in
@@ -87,7 +96,7 @@ index_says s x i p read h =
     (i, of_number x i read (omega (arith, low)), ltb-true i (length s) t.0, low, k.1)
 
 -- and one that is right is read
-says_index : (s x : List ℕ) (p : ℕ) (h : IsIndexOf s x p) → (number x ≡ Some h.0) × (point_at s h.0 ≡ Some p)
+says_index : (s x : List ℕ) (p : ℕ) (h : IsIndexOf s x p) → (number x ≡ Some h.0) × (indexed_point s h.0 ≡ Some p)
 says_index s x p h =
     let a : ltb h.0 (length s) ≡ true = lt-ltb h.0 (length s) h.2 in
     let b : ltb h.0 point_limit ≡ true = lt-ltb h.0 point_limit h.3 in
@@ -95,21 +104,21 @@ says_index s x p h =
     (number_of x h.0 h.1 (omega (arith, low)), rw (a, b) (ap (λ (v : ℕ). Some v) h.4))
 
 -- indices that are read
-indices_say : (s : List ℕ) (fields : List (List ℕ)) (ns q : List ℕ) → AreRead fields ns → points_at s ns ≡ Some q
+indices_say : (s : List ℕ) (fields : List (List ℕ)) (ns q : List ℕ) → AreRead fields ns → indexed_points s ns ≡ Some q
     → AreIndices s fields q
-unfolding points_at
+unfolding indexed_points
 indices_say s [] [] [] r h = tt
 indices_say s [] [] (p ∷ q) r h = absurd cc
 indices_say s [] (n ∷ ns) q r h = absurd r
 indices_say s (x ∷ fields) [] q r h = absurd r
 indices_say s (x ∷ fields) (n ∷ ns) [] r h =
-    let f = front_some (point_at s n) (points_at s ns) [] h in absurd (none_there f.0 f.1 f.4)
+    let f = front_some (indexed_point s n) (indexed_points s ns) [] h in absurd (none_there f.0 f.1 f.4)
   where
     -- an empty list has no first
     none_there : (n : ℕ) (rest : List ℕ) → [] ≡ n ∷ rest → ⊥
     none_there n rest e = cc
 indices_say s (x ∷ fields) (n ∷ ns) (p ∷ q) r h =
-    let f = front_some (point_at s n) (points_at s ns) (p ∷ q) h in
+    let f = front_some (indexed_point s n) (indexed_points s ns) (p ∷ q) h in
     let first : f.0 ≡ p = firsts p f.0 q f.1 f.4 in
     let others : f.1 ≡ q = rests p f.0 q f.1 f.4 in (
       index_says s x n p r.0 (f.2 ∙ ap (λ (k : ℕ). Some k) first),
@@ -127,8 +136,8 @@ indices_say s (x ∷ fields) (n ∷ ns) (p ∷ q) r h =
 
 -- and those that are right are read
 say_indices : (s : List ℕ) (fields : List (List ℕ)) (q : List ℕ) → AreIndices s fields q → (ns : List ℕ)
-    × AreRead fields ns × (points_at s ns ≡ Some q)
-unfolding points_at
+    × AreRead fields ns × (indexed_points s ns ≡ Some q)
+unfolding indexed_points
 say_indices s [] [] h = ([], tt, refl)
 say_indices s [] (p ∷ q) h = absurd h
 say_indices s (x ∷ fields) [] h = absurd h
@@ -137,7 +146,7 @@ say_indices s (x ∷ fields) (p ∷ q) h =
     let rest = say_indices s fields q h.1 in (
       h.0.0 ∷ rest.0,
       (one.0, rest.1),
-      ap (λ (o : Option ℕ). in_front o (points_at s rest.0)) one.1 ∙ ap (λ (o : Option
+      ap (λ (o : Option ℕ). in_front o (indexed_points s rest.0)) one.1 ∙ ap (λ (o : Option
           (List ℕ)). in_front (Some p) o) rest.2,
     )
 
@@ -174,15 +183,15 @@ order_some (Some r) q h = order_kept r q (ascends r) refl h
 
 -- what was read, where corners were
 from_some : (s : List ℕ) (o : Option (List ℕ)) (q : List ℕ) → corners_from s o ≡ Ok q → (ns : List ℕ) × (o ≡ Some ns)
-    × (points_at s ns ≡ Some q) × (ascends q ≡ true)
+    × (indexed_points s ns ≡ Some q) × (ascends q ≡ true)
 from_some s None q h = absurd cc
-from_some s (Some ns) q h = let k = order_some (points_at s ns) q h in (ns, refl, k.0, k.1)
+from_some s (Some ns) q h = let k = order_some (indexed_points s ns) q h in (ns, refl, k.0, k.1)
 
 -- points that are read of a line are what it says
-corners_sound : (n : ℕ) (s line q : List ℕ) → corners n s line ≡ Ok q → IsIndexLine n s line q
-unfolding corners
+corners_sound : (n : ℕ) (s line q : List ℕ) → indexed_corners n s line ≡ Ok q → IsIndexLine n s line q
+unfolding indexed_corners
 corners_sound n s line q h =
-    let k = from_some s (numbers n (fields_of line)) q h in
+    let k = from_some s (field_numbers n (fields_of line)) q h in
     let read = numbers_some n (fields_of line) k.0 k.1 in
     record {
       fields = fields_of line;
@@ -197,13 +206,13 @@ order_is : (q : List ℕ) → ascends q ≡ true → in_order (Some q) ≡ Ok q
 order_is q h = rw h refl
 
 -- points that a line says are read of it
-corners_complete : (n : ℕ) (s line q : List ℕ) → IsIndexLine (suc n) s line q → corners (suc n) s line ≡ Ok q
-unfolding corners
+corners_complete : (n : ℕ) (s line q : List ℕ) → IsIndexLine (suc n) s line q → indexed_corners (suc n) s line ≡ Ok q
+unfolding indexed_corners
 corners_complete n s line q h =
     let say = say_indices s h.fields q h.indices in
     let each = indices_numbers s h.fields q h.indices in
-    let read : numbers (suc n) (fields_of line) ≡ Some say.0 =
-    ap (numbers (suc n)) (joined_fields n line h.fields h.count each h.is) ∙ read_numbers
+    let read : field_numbers (suc n) (fields_of line) ≡ Some say.0 =
+    ap (field_numbers (suc n)) (joined_fields n line h.fields h.count each h.is) ∙ read_numbers
     (suc n) h.fields say.0 h.count say.1 in
     ap (corners_from s) read ∙ ap in_order say.2 ∙ order_is q (says_ascends q h.ascending)
 
@@ -233,16 +242,17 @@ from_err s None why h = inl (refl, refused why h)
     -- equal refusals
     refused : (why : Why) → ◌≡◌ {A = Result (List ℕ) Why} (Err Field) (Err why) → why ≡ Field
     refused why h = cc
-from_err s (Some ns) why h = inr (ns, refl, order_refused (points_at s ns) why h)
+from_err s (Some ns) why h = inr (ns, refl, order_refused (indexed_points s ns) why h)
 
 -- a line of indices is refused for its numbers, or for its range where it has them
-corners_err : (n : ℕ) (s line : List ℕ) (why : Why) → corners n s line ≡ Err why → ((numbers n (fields_of line)
-    ≡ None) × (why ≡ Field)) ⊎ ((ns : List ℕ) × (numbers n (fields_of line) ≡ Some ns) × (why ≡ Range))
-unfolding corners
-corners_err n s line why h = from_err s (numbers n (fields_of line)) why h
+corners_err : (n : ℕ) (s line : List ℕ) (why : Why) → indexed_corners n s line ≡ Err why
+    → ((field_numbers n (fields_of line)
+    ≡ None) × (why ≡ Field)) ⊎ ((ns : List ℕ) × (field_numbers n (fields_of line) ≡ Some ns) × (why ≡ Range))
+unfolding indexed_corners
+corners_err n s line why h = from_err s (field_numbers n (fields_of line)) why h
 
 -- a line that is refused for its form has not so many numbers
-corners_field : (n : ℕ) (s line : List ℕ) → corners (suc n) s line ≡ Err Field → HasNumbers (suc n) line → ⊥
+corners_field : (n : ℕ) (s line : List ℕ) → indexed_corners (suc n) s line ≡ Err Field → HasNumbers (suc n) line → ⊥
 corners_field n s line h form =
     let read = form_read n line form in
     elim (corners_err (suc n) s line Field h) [
@@ -251,21 +261,23 @@ corners_field n s line h form =
     ]
 
 -- one that is refused for its range has
-corners_range : (n : ℕ) (s line : List ℕ) → corners n s line ≡ Err Range → HasNumbers n line
+corners_range : (n : ℕ) (s line : List ℕ) → indexed_corners n s line ≡ Err Range → HasNumbers n line
 corners_range n s line h = elim (corners_err n s line Range h) [
   | inl k ↦ absurd (field_not_range (sym k.1))
   | inr k ↦ read_form n line k.0 k.1
 ]
 
 -- a line of indices is refused for its form or for its range
-corners_only : (n : ℕ) (s line : List ℕ) (why : Why) → corners n s line ≡ Err why → (why ≡ Field) ⊎ (why ≡ Range)
+corners_only : (n : ℕ) (s line : List ℕ) (why : Why) → indexed_corners n s line ≡ Err why
+    → (why ≡ Field) ⊎ (why ≡ Range)
 corners_only n s line why h = elim (corners_err n s line why h) [
   | inl k ↦ inl k.1
   | inr k ↦ inr k.2
 ]
 
 -- corners are read of the lines of indices
-pub corners_decided : (n : ℕ) (s : List ℕ) → Decides (corners (suc n) s) (IsIndexLine (suc n) s) (HasNumbers (suc n))
+pub corners_decided : (n : ℕ) (s : List ℕ)
+    → Decides (indexed_corners (suc n) s) (IsIndexLine (suc n) s) (HasNumbers (suc n))
 corners_decided n s = record {
   sound = λ line q h. corners_sound (suc n) s line q h;
   complete = λ line q h. corners_complete n s line q h;
@@ -277,14 +289,15 @@ corners_decided n s = record {
 -- ---- the points of a line, one after another
 
 -- without one of them there are none
-pub missing_point : (s : List ℕ) (i : ℕ) (rest : List ℕ) → point_at s i ≡ None → points_at s (i ∷ rest) ≡ None
-unfolding points_at
-missing_point s i rest h = ap (λ (o : Option ℕ). in_front o (points_at s rest)) h
+pub missing_point : (s : List ℕ) (i : ℕ) (rest : List ℕ) → indexed_point s i ≡ None → indexed_points s (i ∷ rest) ≡ None
+unfolding indexed_points
+missing_point s i rest h = ap (λ (o : Option ℕ). in_front o (indexed_points s rest)) h
 
 -- nor without the others
-pub missing_others : (s : List ℕ) (i : ℕ) (rest : List ℕ) → points_at s rest ≡ None → points_at s (i ∷ rest) ≡ None
-unfolding points_at
-missing_others s i rest h = ap (λ (o : Option (List ℕ)). in_front (point_at s i) o) h ∙ none (point_at s i)
+pub missing_others : (s : List ℕ) (i : ℕ) (rest : List ℕ) → indexed_points s rest ≡ None
+    → indexed_points s (i ∷ rest) ≡ None
+unfolding indexed_points
+missing_others s i rest h = ap (λ (o : Option (List ℕ)). in_front (indexed_point s i) o) h ∙ none (indexed_point s i)
   where
     -- nothing behind a front
     none : (o : Option ℕ) → in_front o None ≡ None
@@ -292,15 +305,15 @@ missing_others s i rest h = ap (λ (o : Option (List ℕ)). in_front (point_at s
     none (Some n) = refl
 
 -- with both there are
-pub with_point : (s : List ℕ) (i p : ℕ) (rest q : List ℕ) → point_at s i ≡ Some p → points_at s rest ≡ Some q
-    → points_at s (i ∷ rest) ≡ Some (p ∷ q)
-unfolding points_at
-with_point s i p rest q h k = ap (λ (o : Option ℕ). in_front o (points_at s rest)) h ∙ ap (λ (o : Option
+pub with_point : (s : List ℕ) (i p : ℕ) (rest q : List ℕ) → indexed_point s i ≡ Some p → indexed_points s rest ≡ Some q
+    → indexed_points s (i ∷ rest) ≡ Some (p ∷ q)
+unfolding indexed_points
+with_point s i p rest q h k = ap (λ (o : Option ℕ). in_front o (indexed_points s rest)) h ∙ ap (λ (o : Option
     (List ℕ)). in_front (Some p) o) k
 
 -- of no index no point is wanting
-pub no_points : (s : List ℕ) → points_at s [] ≡ Some []
-unfolding points_at
+pub no_points : (s : List ℕ) → indexed_points s [] ≡ Some []
+unfolding indexed_points
 no_points s = refl
 
 -- in order they are what was made of them
@@ -316,12 +329,13 @@ order_made o q r h e = subst (λ (v : Option (List ℕ)). MatchOption v (in_orde
     by_test false a = ap in_order h ∙ rw a refl
 
 -- a line of other than so many numbers
-pub corners_none : (n : ℕ) (s line : List ℕ) → numbers n (fields_of line) ≡ None → corners n s line ≡ Err Field
-unfolding corners
+pub corners_none : (n : ℕ) (s line : List ℕ) → field_numbers n (fields_of line) ≡ None
+    → indexed_corners n s line ≡ Err Field
+unfolding indexed_corners
 corners_none n s line h = ap (corners_from s) h
 
 -- and one of so many
-pub corners_some : (n : ℕ) (s line ns : List ℕ) (r : Result (List ℕ) Why) → numbers n (fields_of line) ≡ Some ns
-    → in_order (points_at s ns) ≡ r → corners n s line ≡ r
-unfolding corners
+pub corners_some : (n : ℕ) (s line ns : List ℕ) (r : Result (List ℕ) Why) → field_numbers n (fields_of line) ≡ Some ns
+    → in_order (indexed_points s ns) ≡ r → indexed_corners n s line ≡ r
+unfolding indexed_corners
 corners_some n s line ns r h e = ap (corners_from s) h ∙ e

@@ -55,8 +55,17 @@ use Rattle.mesh_reader.specs.Grammar.{
   most_of,
   word_of,
 }
-use Rattle.mesh_reader.specs.Faults.{IsReason}
-use Rattle.mesh_reader.specs.Judging.{announced, headed, moved, number_in, step, step_at, stripped, taken}
+use Rattle.mesh_reader.specs.Faults.{IsMeshReason}
+use Rattle.mesh_reader.specs.Judging.{
+  announced,
+  head_count,
+  headed,
+  stripped,
+  taken,
+  then_due,
+  transition,
+  transition_at,
+}
 use Rattle.mesh_reader.proofs.Fields.{not_none, same_value}
 use Rattle.mesh_reader.proofs.Taken.{err_one, ok_err, ok_one, taken_decided, taken_form}
 
@@ -95,18 +104,18 @@ strip_cases word line (Some x) h = ap (stripped word) h ∙ strip_front word x.n
 
 -- by the word as it was searched for
 pub announced_by : (p : Part) (line word : List ℕ) (o : Option (List ℕ)) → word ≡ word_of p → stripped word line ≡ o
-    → announced p line ≡ number_in o
+    → announced p line ≡ head_count o
 unfolding announced
-announced_by p line word o e h = ap number_in (ap (λ (w : List ℕ). stripped w line) (sym e) ∙ h)
+announced_by p line word o e h = ap head_count (ap (λ (w : List ℕ). stripped w line) (sym e) ∙ h)
 
 -- what a head announces is the number behind its word
 announced_is : (p : Part) (line digits : List ℕ) → line ≡ word_of p ++ digits → announced p line ≡ number digits
 unfolding announced
-announced_is p line digits h = ap (λ (l : List ℕ). number_in (stripped (word_of p) l)) h ∙ ap number_in (strip_front
+announced_is p line digits h = ap (λ (l : List ℕ). head_count (stripped (word_of p) l)) h ∙ ap head_count (strip_front
     (word_of p) digits)
 
 -- a number that was read, with what it was read of
-in_some : (o : Option (List ℕ)) (n : ℕ) → number_in o ≡ Some n → (digits : List ℕ) × (o ≡ Some digits) ×
+in_some : (o : Option (List ℕ)) (n : ℕ) → head_count o ≡ Some n → (digits : List ℕ) × (o ≡ Some digits) ×
     (number digits ≡ Some n)
 in_some None n h = absurd (not_none n h)
 in_some (Some digits) n h = (digits, refl, h)
@@ -227,20 +236,21 @@ word_not line word next h = by_test (bytes_eq line word) refl
 -- ---- a line of a list
 
 -- a line of a list that led on was taken
-moved_ok : (due : Due) (r : Result MeshParts Why) (b : Reached) → moved due r ≡ Ok b → (g : MeshParts) × (r ≡ Ok g) ×
+moved_ok : (due : Due) (r : Result MeshParts Why) (b : Reached) → then_due due r ≡ Ok b → (g : MeshParts) × (r ≡ Ok g) ×
     (b ≡ record { due = due; taken = g })
 moved_ok due (Err why) b h = absurd (ok_err b why (sym h))
 moved_ok due (Ok g) b h = (g, refl, sym (ok_one (record { due = due; taken = g }) b h))
 
 -- and one that was refused was not, for the same reason
-moved_err : (due : Due) (r : Result MeshParts Why) (why : Why) → moved due r ≡ Err why → r ≡ Err why
+moved_err : (due : Due) (r : Result MeshParts Why) (why : Why) → then_due due r ≡ Err why → r ≡ Err why
 moved_err due (Err w) why h = ap (λ v. Err v) (err_one {A = Reached} w why h)
 moved_err due (Ok g) why h = absurd (ok_err (record { due = due; taken = g }) why h)
 
 -- ---- a line, where this is due
 
 -- where the reading goes on, the line leads there
-at_sound : (due : Due) (f : MeshParts) (line : List ℕ) (b : Reached) → step_at due f line ≡ Ok b → Leads due f line b
+at_sound : (due : Due) (f : MeshParts) (line : List ℕ) (b : Reached) → transition_at due f line ≡ Ok b
+    → Leads due f line b
 at_sound Title f line b h = word_ok line (codes "mesh3-out 1") (record { due = Head Replies; taken = f }) b h
 at_sound (Head p) f line b h =
     let k = headed_ok p f (announced p line) b h in
@@ -252,29 +262,30 @@ at_sound Last f line b h = word_ok line (codes "end") (record { due = Nothing; t
 at_sound Nothing f line b h = absurd (ok_err b Section (sym h))
 
 -- where a line leads on, the reading goes there
-at_complete : (due : Due) (f : MeshParts) (line : List ℕ) (b : Reached) → Leads due f line b → step_at due f line ≡ Ok b
+at_complete : (due : Due) (f : MeshParts) (line : List ℕ) (b : Reached) → Leads due f line b
+    → transition_at due f line ≡ Ok b
 at_complete Title f line b h = word_is line (codes "mesh3-out 1") (record { due = Head Replies; taken = f }) h.0 ∙ ap
     (λ (r : Reached). Ok r) (sym h.1)
 at_complete (Head p) f line b h =
     ap (headed p f) (read_head p h.0 line h.1) ∙ headed_is p f h.0 h.1.most ∙ ap (λ (r : Reached). Ok r) (sym h.2)
 at_complete (Body p n) f line b h =
-    ap (moved (lines_due p n)) ((taken_decided p f).complete line h.0 h.1) ∙ ap (λ (r : Reached). Ok r) (sym h.2)
+    ap (then_due (lines_due p n)) ((taken_decided p f).complete line h.0 h.1) ∙ ap (λ (r : Reached). Ok r) (sym h.2)
 at_complete Last f line b h = word_is line (codes "end") (record { due = Nothing; taken = f }) h.0 ∙ ap (λ
     (r : Reached). Ok r) (sym h.1)
 at_complete Nothing f line b h = absurd h
 
 -- a line that leads on is not refused
-no_reason : (due : Due) (f : MeshParts) (line : List ℕ) (b : Reached) (why : Why) → step_at due f line ≡ Err why
+no_reason : (due : Due) (f : MeshParts) (line : List ℕ) (b : Reached) (why : Why) → transition_at due f line ≡ Err why
     → Leads due f line b → ⊥
 no_reason due f line b why h leads = ok_err b why (sym (at_complete due f line b leads) ∙ h)
 
 -- why a head was refused is why it is wrong
 head_reason : (p : Part) (f : MeshParts) (line : List ℕ) (why : Why) → headed p f (announced p line) ≡ Err why
-    → IsReason (Head p) f line why
+    → IsMeshReason (Head p) f line why
 head_reason p f line why h = elim (headed_err p f (announced p line) why h) [
-  | inl k ↦ subst (λ (w : Why). IsReason (Head p) f line w) (sym k.1) (λ form. let s = form_some p line form in
+  | inl k ↦ subst (λ (w : Why). IsMeshReason (Head p) f line w) (sym k.1) (λ form. let s = form_some p line form in
       not_none s.0 (sym k.0 ∙ s.1))
-  | inr k ↦ subst (λ (w : Why). IsReason (Head p) f line w) (sym k.3) (
+  | inr k ↦ subst (λ (w : Why). IsMeshReason (Head p) f line w) (sym k.3) (
     some_form p line k.0 k.1,
     λ n head. no_reason (Head p) f line (record { due = lines_due p n; taken = f }) why h
         (n, head, refl),
@@ -282,12 +293,13 @@ head_reason p f line why h = elim (headed_err p f (announced p line) why h) [
 ]
 
 -- and so with a line of a list
-body_reason : (p : Part) (n : ℕ) (f : MeshParts) (line : List ℕ) (why : Why) → taken p f line ≡ Err why → IsReason
+body_reason : (p : Part) (n : ℕ) (f : MeshParts) (line : List ℕ) (why : Why) → taken p f line ≡ Err why → IsMeshReason
     (Body p n) f line why
 body_reason p n f line why h = elim ((taken_decided p f).only line why h) [
-  | inl k ↦ subst (λ (w : Why). IsReason (Body p n) f line w) (sym k) (λ form. (taken_decided p f).field line (h ∙ ap
+  | inl k ↦ subst (λ (w : Why). IsMeshReason (Body p n) f line w) (sym k)
+      (λ form. (taken_decided p f).field line (h ∙ ap
       (λ (w : Why). Err w) k) form)
-  | inr k ↦ subst (λ (w : Why). IsReason (Body p n) f line w) (sym k) (
+  | inr k ↦ subst (λ (w : Why). IsMeshReason (Body p n) f line w) (sym k) (
     (taken_decided p f).range line (h ∙ ap (λ (w : Why). Err w) k),
     λ g is. ok_err g why (sym
         ((taken_decided p f).complete line g is) ∙ h),
@@ -295,17 +307,18 @@ body_reason p n f line why h = elim ((taken_decided p f).only line why h) [
 ]
 
 -- why a line was refused
-at_reason : (due : Due) (f : MeshParts) (line : List ℕ) (why : Why) → step_at due f line ≡ Err why
-    → IsReason due f line why
+at_reason : (due : Due) (f : MeshParts) (line : List ℕ) (why : Why) → transition_at due f line ≡ Err why
+    → IsMeshReason due f line why
 at_reason Title f line why h =
     let k = word_err line (codes "mesh3-out 1") (record { due = Head Replies; taken = f }) why h in
-    subst (λ (w : Why). IsReason Title f line w) (sym k.1) k.0
+    subst (λ (w : Why). IsMeshReason Title f line w) (sym k.1) k.0
 at_reason (Head p) f line why h = head_reason p f line why h
 at_reason (Body p n) f line why h = body_reason p n f line why (moved_err (lines_due p n) (taken p f line) why h)
 at_reason Last f line why h =
     let k = word_err line (codes "end") (record { due = Nothing; taken = f }) why h in
-    subst (λ (w : Why). IsReason Last f line w) (sym k.1) k.0
-at_reason Nothing f line why h = subst (λ (w : Why). IsReason Nothing f line w) (err_one {A = Reached} Section why h) tt
+    subst (λ (w : Why). IsMeshReason Last f line w) (sym k.1) k.0
+at_reason Nothing f line why h = subst (λ (w : Why). IsMeshReason Nothing f line w)
+    (err_one {A = Reached} Section why h) tt
 
 -- ---- the other way round
 
@@ -344,7 +357,8 @@ off_range p f line (Err why) e form h = elim ((taken_decided p f).only line why 
 ]
 
 -- where a line is wrong, it is refused, and for this reason
-reason_at : (due : Due) (f : MeshParts) (line : List ℕ) (why : Why) → IsReason due f line why → step_at due f line
+reason_at : (due : Due) (f : MeshParts) (line : List ℕ) (why : Why) → IsMeshReason due f line why
+    → transition_at due f line
     ≡ Err why
 reason_at Title f line Section h = word_not line (codes "mesh3-out 1") (record { due = Head Replies; taken = f }) h
 reason_at (Head p) f line Section h = none_head p f line (announced p line) refl h
@@ -358,12 +372,12 @@ reason_at Last f line TooMany h = absurd h
 reason_at Nothing f line TooMany h = absurd h
 reason_at Title f line Field h = absurd h
 reason_at (Head p) f line Field h = absurd h
-reason_at (Body p n) f line Field h = ap (moved (lines_due p n)) (off_form p f line (taken p f line) refl h)
+reason_at (Body p n) f line Field h = ap (then_due (lines_due p n)) (off_form p f line (taken p f line) refl h)
 reason_at Last f line Field h = absurd h
 reason_at Nothing f line Field h = absurd h
 reason_at Title f line Range h = absurd h
 reason_at (Head p) f line Range h = absurd h
-reason_at (Body p n) f line Range h = ap (moved (lines_due p n)) (off_range p f line (taken p f line) refl h.0 h.1)
+reason_at (Body p n) f line Range h = ap (then_due (lines_due p n)) (off_range p f line (taken p f line) refl h.0 h.1)
 reason_at Last f line Range h = absurd h
 reason_at Nothing f line Range h = absurd h
 reason_at due f line Truncated h = absurd h
@@ -371,21 +385,23 @@ reason_at due f line Truncated h = absurd h
 -- ---- a step
 
 -- a step leads where it goes
-pub step_sound : (a : Reached) (line : List ℕ) (b : Reached) → step a line ≡ Ok b → Leads a.due a.taken line b
-unfolding step
+pub step_sound : (a : Reached) (line : List ℕ) (b : Reached) → transition a line ≡ Ok b → Leads a.due a.taken line b
+unfolding transition
 step_sound a line b h = at_sound a.due a.taken line b h
 
 -- and goes where the line leads
-pub step_complete : (a : Reached) (line : List ℕ) (b : Reached) → Leads a.due a.taken line b → step a line ≡ Ok b
-unfolding step
+pub step_complete : (a : Reached) (line : List ℕ) (b : Reached) → Leads a.due a.taken line b → transition a line ≡ Ok b
+unfolding transition
 step_complete a line b h = at_complete a.due a.taken line b h
 
 -- the reason of a refusal is why the line is wrong
-pub step_reason : (a : Reached) (line : List ℕ) (why : Why) → step a line ≡ Err why → IsReason a.due a.taken line why
-unfolding step
+pub step_reason : (a : Reached) (line : List ℕ) (why : Why) → transition a line ≡ Err why
+    → IsMeshReason a.due a.taken line why
+unfolding transition
 step_reason a line why h = at_reason a.due a.taken line why h
 
 -- and where a line is wrong it is refused for that reason
-pub reason_step : (a : Reached) (line : List ℕ) (why : Why) → IsReason a.due a.taken line why → step a line ≡ Err why
-unfolding step
+pub reason_step : (a : Reached) (line : List ℕ) (why : Why) → IsMeshReason a.due a.taken line why
+    → transition a line ≡ Err why
+unfolding transition
 reason_step a line why h = reason_at a.due a.taken line why h

@@ -36,7 +36,7 @@ use Rattle.edit_files.proofs.Cited.{
   some_field,
 }
 use Rattle.mesh_reader.specs.Grammar.{HasNumbers}
-use Rattle.mesh_reader.specs.Judging.{in_front, numbers}
+use Rattle.mesh_reader.specs.Judging.{field_numbers, in_front}
 
 -- what both are in one
 pub same_value : {A : Type 0} (x y : A) → ◌≡◌ {A = Option A} (Some x) (Some y) → x ≡ y
@@ -62,33 +62,34 @@ front_some (Some n) (Some rest) ns h = (n, rest, refl, refl, sym (same_value (n 
 
 -- fields that are read each by itself are read together
 pub read_numbers : (n : ℕ) (fields : List (List ℕ)) (ns : List ℕ) → length fields ≡ n → AreRead fields ns
-    → numbers n fields ≡ Some ns
-unfolding numbers
+    → field_numbers n fields ≡ Some ns
+unfolding field_numbers
 read_numbers zero [] [] e h = refl
 read_numbers (suc n) [] [] e h = absurd (let g : ⊥ = omega (arith, e) in g)
 read_numbers n [] (m ∷ ns) e h = absurd h
 read_numbers n (x ∷ fields) [] e h = absurd h
 read_numbers zero (x ∷ fields) (m ∷ ns) e h = absurd (let g : ⊥ = omega (arith, e) in g)
 read_numbers (suc n) (x ∷ fields) (m ∷ ns) e h =
-    ap (λ (o : Option ℕ). in_front o (numbers n fields)) h.0
+    ap (λ (o : Option ℕ). in_front o (field_numbers n fields)) h.0
     ∙ ap (λ (o : Option (List ℕ)). in_front (Some m) o) (read_numbers n fields ns (omega (arith, e)) h.1)
 
 -- and the other way round
-pub numbers_some : (n : ℕ) (fields : List (List ℕ)) (ns : List ℕ) → numbers n fields ≡ Some ns → (length fields ≡ n)
+pub numbers_some : (n : ℕ) (fields : List (List ℕ)) (ns : List ℕ) → field_numbers n fields ≡ Some ns
+    → (length fields ≡ n)
     × AreRead fields ns
-unfolding numbers
+unfolding field_numbers
 numbers_some zero [] [] h = (refl, tt)
 numbers_some zero [] (m ∷ ns) h = absurd cc
 numbers_some zero (x ∷ fields) ns h = absurd (not_none ns h)
 numbers_some (suc n) [] ns h = absurd (not_none ns h)
 numbers_some (suc n) (x ∷ fields) [] h =
-    let f = front_some (number x) (numbers n fields) [] h in absurd (none_there f.0 f.1 f.4)
+    let f = front_some (number x) (field_numbers n fields) [] h in absurd (none_there f.0 f.1 f.4)
   where
     -- an empty list has no first
     none_there : (n : ℕ) (rest : List ℕ) → [] ≡ n ∷ rest → ⊥
     none_there n rest e = cc
 numbers_some (suc n) (x ∷ fields) (m ∷ ns) h =
-    let f = front_some (number x) (numbers n fields) (m ∷ ns) h in
+    let f = front_some (number x) (field_numbers n fields) (m ∷ ns) h in
     let first : m ≡ f.0 = firsts m f.0 ns f.1 f.4 in
     let others : ns ≡ f.1 = rests m f.0 ns f.1 f.4 in
     let left = numbers_some n fields ns (f.3 ∙ ap (λ (l : List ℕ). Some l) (sym others)) in
@@ -137,17 +138,18 @@ joined_fields n line [] e h is = absurd (let g : ⊥ = omega (arith, e) in g)
 joined_fields n line (x ∷ fields) e h is = ap fields_of is ∙ fields_joined x fields h
 
 -- the numbers of a line of the form
-pub form_read : (n : ℕ) (line : List ℕ) → HasNumbers (suc n) line → (ns : List ℕ) × (numbers (suc n) (fields_of line)
+pub form_read : (n : ℕ) (line : List ℕ) → HasNumbers (suc n) line
+    → (ns : List ℕ) × (field_numbers (suc n) (fields_of line)
     ≡ Some ns)
 form_read n line h =
     let read = all_read h.fields h.each in (
       read.0,
-      ap (numbers (suc n)) (joined_fields n line h.fields h.count h.each h.is) ∙ read_numbers
+      ap (field_numbers (suc n)) (joined_fields n line h.fields h.count h.each h.is) ∙ read_numbers
           (suc n) h.fields read.0 h.count read.1,
     )
 
 -- a line that is read has the form
-pub read_form : (n : ℕ) (line ns : List ℕ) → numbers n (fields_of line) ≡ Some ns → HasNumbers n line
+pub read_form : (n : ℕ) (line ns : List ℕ) → field_numbers n (fields_of line) ≡ Some ns → HasNumbers n line
 read_form n line ns h =
     let read = numbers_some n (fields_of line) ns h in
     record {
@@ -165,46 +167,48 @@ front_none None = refl
 front_none (Some n) = refl
 
 -- a line of one field has no two numbers
-pub one_alone : (n : ℕ) (line x : List ℕ) → fields_of line ≡ x ∷ [] → numbers (suc (suc n)) (fields_of line) ≡ None
-unfolding numbers
-one_alone n line x e = ap (numbers (suc (suc n))) e ∙ front_none (number x)
+pub one_alone : (n : ℕ) (line x : List ℕ) → fields_of line ≡ x ∷ []
+    → field_numbers (suc (suc n)) (fields_of line) ≡ None
+unfolding field_numbers
+one_alone n line x e = ap (field_numbers (suc (suc n))) e ∙ front_none (number x)
 
 -- the first field and the others
-pub first_and_others : (n : ℕ) (line x rest : List ℕ) → fields_of line ≡ x ∷ fields_of rest → numbers (suc n)
-    (fields_of line) ≡ in_front (number x) (numbers n (fields_of rest))
-unfolding numbers
-first_and_others n line x rest e = ap (numbers (suc n)) e
+pub first_and_others : (n : ℕ) (line x rest : List ℕ) → fields_of line ≡ x ∷ fields_of rest → field_numbers (suc n)
+    (fields_of line) ≡ in_front (number x) (field_numbers n (fields_of rest))
+unfolding field_numbers
+first_and_others n line x rest e = ap (field_numbers (suc n)) e
 
 -- two fields
-pub two_fields : (line x rest y : List ℕ) → fields_of line ≡ x ∷ fields_of rest → fields_of rest ≡ y ∷ [] → numbers 2
+pub two_fields : (line x rest y : List ℕ) → fields_of line ≡ x ∷ fields_of rest → fields_of rest ≡ y ∷ []
+    → field_numbers 2
     (fields_of line) ≡ in_front (number x) (in_front (number y) (Some []))
-unfolding numbers
-two_fields line x rest y e f = ap (numbers 2) (e ∙ ap (λ (l : List (List ℕ)). x ∷ l) f)
+unfolding field_numbers
+two_fields line x rest y e f = ap (field_numbers 2) (e ∙ ap (λ (l : List (List ℕ)). x ∷ l) f)
 
 -- and more than two
 pub more_fields : (line x rest y more : List ℕ) → fields_of line ≡ x ∷ fields_of rest → fields_of rest
-    ≡ y ∷ fields_of more → numbers 2 (fields_of line) ≡ None
-unfolding numbers
+    ≡ y ∷ fields_of more → field_numbers 2 (fields_of line) ≡ None
+unfolding field_numbers
 more_fields line x rest y more e f =
     let some = some_field more in
-    ap (numbers 2) (e ∙ ap (λ (l : List (List ℕ)). x ∷ l) (f ∙ ap (λ (l : List (List ℕ)). y ∷ l) some.2))
+    ap (field_numbers 2) (e ∙ ap (λ (l : List (List ℕ)). x ∷ l) (f ∙ ap (λ (l : List (List ℕ)). y ∷ l) some.2))
     ∙ ap (λ (o : Option (List ℕ)). in_front (number x) o) (front_none (number y)) ∙ front_none (number x)
 
 -- without the first number there are none
-pub no_first : (n : ℕ) (line x rest : List ℕ) → fields_of line ≡ x ∷ fields_of rest → number x ≡ None → numbers
+pub no_first : (n : ℕ) (line x rest : List ℕ) → fields_of line ≡ x ∷ fields_of rest → number x ≡ None → field_numbers
     (suc n) (fields_of line) ≡ None
-no_first n line x rest e h = first_and_others n line x rest e ∙ ap (λ (o : Option ℕ). in_front o (numbers n
+no_first n line x rest e h = first_and_others n line x rest e ∙ ap (λ (o : Option ℕ). in_front o (field_numbers n
     (fields_of rest))) h
 
 -- nor without the others
-pub no_others : (n : ℕ) (line x rest : List ℕ) → fields_of line ≡ x ∷ fields_of rest → numbers n (fields_of rest)
-    ≡ None → numbers (suc n) (fields_of line) ≡ None
+pub no_others : (n : ℕ) (line x rest : List ℕ) → fields_of line ≡ x ∷ fields_of rest → field_numbers n (fields_of rest)
+    ≡ None → field_numbers (suc n) (fields_of line) ≡ None
 no_others n line x rest e h = first_and_others n line x rest e ∙ ap (λ (o : Option (List ℕ)). in_front (number x) o) h
     ∙ front_none (number x)
 
 -- with both there are
 pub with_first : (n : ℕ) (line x rest : List ℕ) (k : ℕ) (ns : List ℕ) → fields_of line ≡ x ∷ fields_of rest → number x
-    ≡ Some k → numbers n (fields_of rest) ≡ Some ns → numbers (suc n) (fields_of line) ≡ Some (k ∷ ns)
+    ≡ Some k → field_numbers n (fields_of rest) ≡ Some ns → field_numbers (suc n) (fields_of line) ≡ Some (k ∷ ns)
 with_first n line x rest k ns e h g =
-    first_and_others n line x rest e ∙ ap (λ (o : Option ℕ). in_front o (numbers n (fields_of rest))) h ∙ ap (λ
+    first_and_others n line x rest e ∙ ap (λ (o : Option ℕ). in_front o (field_numbers n (fields_of rest))) h ∙ ap (λ
     (o : Option (List ℕ)). in_front (Some k) o) g

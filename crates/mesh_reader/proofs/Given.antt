@@ -13,8 +13,9 @@ use Rattle.mesh_reader.specs.declared.place.Due.TheVariants.{Title, Head, Body, 
 use Rattle.mesh_reader.specs.declared.pieces.MeshReader.{MeshReader}
 use Rattle.mesh_reader.specs.declared.pieces.State.{State}
 use Rattle.mesh_reader.specs.declared.pieces.State.TheVariants.{Right}
-use Rattle.mesh_reader.specs.Grammar.{AllLead, HasAllPoints, IsBehindPoints, IsMeshText, IsTaken, Leads, MeshParts, Reached, at_end, lines_due}
-use Rattle.mesh_reader.specs.Judging.{ascends, reached, step}
+use Rattle.mesh_reader.specs.Grammar.{AllLead, IsMeshText, IsTaken, Leads, MeshParts, Reached, at_end, lines_due}
+use Rattle.mesh_reader.specs.LinesLeft.{HasAllPoints, IsBehindPoints}
+use Rattle.mesh_reader.specs.Judging.{ascends, reached, transition}
 use Rattle.mesh_reader.specs.Pieces.{HasTaken, comes_to}
 use Rattle.mesh_reader.proofs.Corners.{ascends_says, says_ascends}
 use Rattle.mesh_reader.proofs.Decided.{step_sound}
@@ -86,7 +87,8 @@ lead_ascends Last f line b h o = subst (λ (r : Reached). IsAscending r.taken.po
 lead_ascends Nothing f line b h o = absurd h
 
 -- and behind one that is judged
-pub step_ascends : (a : Reached) (line : List ℕ) (b : Reached) → step a line ≡ Ok b → ascends a.taken.points ≡ true
+pub step_ascends : (a : Reached) (line : List ℕ) (b : Reached) → transition a line ≡ Ok b
+    → ascends a.taken.points ≡ true
     → ascends b.taken.points ≡ true
 step_ascends a line b h o =
     says_ascends b.taken.points
@@ -96,7 +98,8 @@ step_ascends a line b h o =
 
 -- what the reader of lines gives
 abbrev pub AreThose : Counted → Option (Bor (List ℕ)) → Type 0
-AreThose counted given = IfSome given (λ x. (x.now ≡ counted.reader.file.points.items) × HasAllPoints counted.reader.due)
+AreThose counted given = IfSome given (λ x. (x.now ≡ counted.reader.file.points.items)
+    × HasAllPoints counted.reader.due)
 
 -- it ascends
 pub given_ascend : (counted : Counted) (given : Option (Bor (List ℕ))) → AreThose counted given

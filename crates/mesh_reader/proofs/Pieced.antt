@@ -55,7 +55,8 @@ use Rattle.mesh_reader.specs.declared.reader.LineRefused.TheVariants as line_ref
 use Rattle.mesh_reader.specs.declared.pieces.MeshReader.{MeshReader}
 use Rattle.mesh_reader.specs.declared.pieces.State.{State}
 use Rattle.mesh_reader.specs.Grammar.{Leads, MeshParts, Reached, at_title, behind, lines_due, most_of, parts}
-use Rattle.mesh_reader.specs.Judging.{Gives, Refuses, judge, refused_at, step}
+use Rattle.edit_files.specs.Judging.{Gives}
+use Rattle.mesh_reader.specs.Judging.{IsRefusal, judge_mesh, refusal_at, transition}
 use Rattle.mesh_reader.specs.LinesLeft.{most_behind, most_left}
 use Rattle.mesh_reader.specs.Pieces.{HasNoFeed, HasTaken, LeavesOf, comes_to}
 use Rattle.mesh_reader.proofs.Decided.{step_sound}
@@ -91,7 +92,7 @@ lead_left Last f line next h =
 lead_left Nothing f line next h = absurd h
 
 -- behind a right line there may be fewer
-pub fewer_left : (a : Reached) (line : List ℕ) (b : Reached) → step a line ≡ Ok b
+pub fewer_left : (a : Reached) (line : List ℕ) (b : Reached) → transition a line ≡ Ok b
     → most_left b.due + 1 ≤ most_left a.due
 fewer_left a line b h = lead_left a.due a.taken line b (step_sound a line b h)
 
@@ -104,8 +105,9 @@ pub bad_one : (e : ReadRefused) (fault : Fault) →
 bad_one e fault h = cc
 
 -- then its fault is that of the text, whatever follows
-pub wrong_line : (e : LineRefused) (n : ℕ) (a : Reached) (line : List ℕ) (fault : Fault) → Refuses e (step a line)
-    → refused_at n e ≡ refusals.Bad fault → (lines : List (List ℕ)) → judge n a (line ∷ lines) ≡ Err fault
+pub wrong_line : (e : LineRefused) (n : ℕ) (a : Reached) (line : List ℕ) (fault : Fault)
+    → IsRefusal e (transition a line)
+    → refusal_at n e ≡ refusals.Bad fault → (lines : List (List ℕ)) → judge_mesh n a (line ∷ lines) ≡ Err fault
 wrong_line line_refusals.Memory n a line fault h e lines = absurd (cc)
 wrong_line (line_refusals.Bad why) n a line fault h e lines =
     let same : ◌≡◌ {A = Fault} (record { line = n; why = why }) fault = cc in
@@ -159,20 +161,20 @@ line_taken before state next all rest line behind h t p more =
 
 -- then it makes of the line that is begun what is to be made of the text
 pub taken_all : (r : MeshReader) (bytes : List ℕ) → HasTaken r bytes → comes_to r.state (lines_of r.begun.items)
-    ≡ judge 1 at_title (lines_of bytes)
+    ≡ judge_mesh 1 at_title (lines_of bytes)
 taken_all r bytes h =
     ap (λ (l : List ℕ). comes_to r.state (lines_of l)) (sym (append-nil r.begun.items)) ∙ h.same []
-    ∙ ap (λ (l : List ℕ). judge 1 at_title (lines_of l)) (append-nil bytes)
+    ∙ ap (λ (l : List ℕ). judge_mesh 1 at_title (lines_of l)) (append-nil bytes)
 
 -- no line is begun
 pub none_begun : (r : MeshReader) (bytes : List ℕ) → HasTaken r bytes → r.begun.items ≡ []
-    → comes_to r.state [] ≡ judge 1 at_title (lines_of bytes)
+    → comes_to r.state [] ≡ judge_mesh 1 at_title (lines_of bytes)
 none_begun r bytes h e = ap (λ (l : List ℕ). comes_to r.state (lines_of l)) (sym e) ∙ taken_all r bytes h
 
 -- the line that is begun is the last
 pub last_taken : (r : MeshReader) (bytes : List ℕ) (next : State) → HasTaken r bytes → 0 < length r.begun.items
     → ((lines : List (List ℕ)) → comes_to next lines ≡ comes_to r.state (r.begun.items ∷ lines))
-    → comes_to next [] ≡ judge 1 at_title (lines_of bytes)
+    → comes_to next [] ≡ judge_mesh 1 at_title (lines_of bytes)
 last_taken r bytes next h l t =
     t [] ∙ ap (comes_to r.state) (sym (last_line r.begun.items h.begun l)) ∙ taken_all r bytes h
 
@@ -195,7 +197,7 @@ piece_ignored r now piece any s b bytes h =
           ap (λ (v : State). comes_to v (lines_of (now.begun.items ++ more))) s
           ∙ any (lines_of (now.begun.items ++ more)) (lines_of (r.begun.items ++ (piece ++ more)))
           ∙ h.same (piece ++ more)
-          ∙ ap (λ (l : List ℕ). judge 1 at_title (lines_of l)) (sym (append_assoc bytes piece more));
+          ∙ ap (λ (l : List ℕ). judge_mesh 1 at_title (lines_of l)) (sym (append_assoc bytes piece more));
     }
 
 -- a piece that ends no line
@@ -209,7 +211,7 @@ piece_begun r now piece n s b bytes h =
           ∙ ap (λ (l : List ℕ). comes_to r.state (lines_of (l ++ more))) b
           ∙ ap (λ (l : List ℕ). comes_to r.state (lines_of l)) (append_assoc r.begun.items piece more)
           ∙ h.same (piece ++ more)
-          ∙ ap (λ (l : List ℕ). judge 1 at_title (lines_of l)) (sym (append_assoc bytes piece more));
+          ∙ ap (λ (l : List ℕ). judge_mesh 1 at_title (lines_of l)) (sym (append_assoc bytes piece more));
     }
 
 -- and one that ends a line
@@ -225,7 +227,7 @@ piece_taken r now next piece line behind rest p t l n b bytes h =
           ap (λ (v : List ℕ). comes_to now.state (lines_of (v ++ more))) b ∙ l more ∙ t (lines_of (behind ++ more))
           ∙ ap (comes_to r.state) (sym (line_cut r.begun.items line behind piece more h.begun p.1 p.0))
           ∙ h.same (piece ++ more)
-          ∙ ap (λ (v : List ℕ). judge 1 at_title (lines_of v)) (sym (append_assoc bytes piece more));
+          ∙ ap (λ (v : List ℕ). judge_mesh 1 at_title (lines_of v)) (sym (append_assoc bytes piece more));
     }
 
 -- ---- what a call gave
@@ -233,7 +235,7 @@ piece_taken r now next piece line behind rest p t l n b bytes h =
 -- an end of a text that begins no line
 pub none_given : (r : MeshReader) (bytes : List ℕ) → HasTaken r bytes → (vec_len r.begun == 0) ≡ true
     → (given : Result PackedMesh ReadRefused) → Gives parts given (comes_to r.state [])
-    → Gives parts given (judge 1 at_title (lines_of bytes))
+    → Gives parts given (judge_mesh 1 at_title (lines_of bytes))
 none_given r bytes h z given g =
     let k : vec_len r.begun ≡ 0 = eqb-true (vec_len r.begun) 0 z in
     let none : length r.begun.items ≡ 0 = omega (arith, k, r.begun.ok.0) in
@@ -249,7 +251,7 @@ pub last_given : (r : MeshReader) (bytes : List ℕ) → HasTaken r bytes → (v
     → (line : List ℕ) → line ≡ r.begun.items → (next : State)
     → ((lines : List (List ℕ)) → comes_to next lines ≡ comes_to r.state (line ∷ lines))
     → (given : Result PackedMesh ReadRefused) → Gives parts given (comes_to next [])
-    → Gives parts given (judge 1 at_title (lines_of bytes))
+    → Gives parts given (judge_mesh 1 at_title (lines_of bytes))
 last_given r bytes h z line e next t given g =
     let k = eqb-false (vec_len r.begun) 0 z in
     let some : 0 < length r.begun.items = omega (arith, k, r.begun.ok.0) in

@@ -59,7 +59,7 @@ use Rattle.mesh_reader.specs.Grammar.{
   MeshParts,
   reply_word,
 }
-use Rattle.mesh_reader.specs.Judging.{corners, is_after, is_less, reply_among, reply_of, taken, with_one}
+use Rattle.mesh_reader.specs.Judging.{indexed_corners, is_after_last, is_less, reply_among, reply_of, taken, with_one}
 use Rattle.mesh_reader.proofs.Corners.{corners_decided, index_form}
 
 -- an answer is not a refusal
@@ -82,14 +82,14 @@ field_not_range h = cc
 
 -- where the test decides the order, it decides it of the last
 pub after_says : {X : Type 0} (before : X → X → Bool) (Before : X → X → Type 0) → ((a b : X) → before a b ≡ true
-    → Before a b) → (l : List X) (q : X) → is_after before l q ≡ true → IsAfter Before l q
+    → Before a b) → (l : List X) (q : X) → is_after_last before l q ≡ true → IsAfter Before l q
 after_says before Before f [] q h = tt
 after_says before Before f (r ∷ []) q h = f r q h
 after_says before Before f (r ∷ o ∷ l) q h = after_says before Before f (o ∷ l) q h
 
 -- and where it is so the test passes
 pub says_after : {X : Type 0} (before : X → X → Bool) (Before : X → X → Type 0) → ((a b : X) → Before a b → before a b
-    ≡ true) → (l : List X) (q : X) → IsAfter Before l q → is_after before l q ≡ true
+    ≡ true) → (l : List X) (q : X) → IsAfter Before l q → is_after_last before l q ≡ true
 says_after before Before f [] q h = refl
 says_after before Before f (r ∷ []) q h = f r q h
 says_after before Before f (r ∷ o ∷ l) q h = says_after before Before f (o ∷ l) q h
@@ -248,21 +248,24 @@ reply_adds f = adds reply_of (λ r. true) (λ r. record f { replies = f.replies 
     (HasFormOf Replies) replies_decided (λ line r h. (r, h))
 
 -- with points, which are to come behind those before
-point_adds : (f : MeshParts) → Adds point (is_after nat_lt f.points) (λ p. record f { points = f.points ++ p ∷ [] })
+point_adds : (f : MeshParts) → Adds point (is_after_last nat_lt f.points)
+    (λ p. record f { points = f.points ++ p ∷ [] })
     IsPointLine HasPointForm
-point_adds f = adds point (is_after nat_lt f.points) (λ p. record f { points = f.points ++ p ∷ [] }) IsPointLine
+point_adds f = adds point (is_after_last nat_lt f.points) (λ p. record f { points = f.points ++ p ∷ [] }) IsPointLine
     HasPointForm points_decided point_form
 
 -- with cells
-cell_adds : (f : MeshParts) → Adds (corners 4 f.points) (is_after is_less f.cells)
+cell_adds : (f : MeshParts) → Adds (indexed_corners 4 f.points) (is_after_last is_less f.cells)
     (λ q. record f { cells = f.cells ++ q ∷ [] }) (IsIndexLine 4 f.points) (HasNumbers 4)
-cell_adds f = adds (corners 4 f.points) (is_after is_less f.cells) (λ q. record f { cells = f.cells ++ q ∷ [] })
+cell_adds f = adds (indexed_corners 4 f.points) (is_after_last is_less f.cells)
+    (λ q. record f { cells = f.cells ++ q ∷ [] })
     (IsIndexLine 4 f.points) (HasNumbers 4) (corners_decided 3 f.points) (λ line q h. index_form 4 f.points line q h)
 
 -- and with triples
-triple_adds : (f : MeshParts) → Adds (corners 3 f.points) (is_after is_less f.hull)
+triple_adds : (f : MeshParts) → Adds (indexed_corners 3 f.points) (is_after_last is_less f.hull)
     (λ q. record f { hull = f.hull ++ q ∷ [] }) (IsIndexLine 3 f.points) (HasNumbers 3)
-triple_adds f = adds (corners 3 f.points) (is_after is_less f.hull) (λ q. record f { hull = f.hull ++ q ∷ [] })
+triple_adds f = adds (indexed_corners 3 f.points) (is_after_last is_less f.hull)
+    (λ q. record f { hull = f.hull ++ q ∷ [] })
     (IsIndexLine 3 f.points) (HasNumbers 3) (corners_decided 2 f.points) (λ line q h. index_form 3 f.points line q h)
 
 -- ---- all lists
@@ -339,7 +342,8 @@ taken_form Hull f line g h = index_form 3 f.points line h.0 h.1
 -- ---- the last of a list, as it is found
 
 -- the last of a list with one behind it is that one
-pub after_last : {X : Type 0} (before : X → X → Bool) (front : List X) (r q : X) → is_after before (front ++ r ∷ []) q
+pub after_last : {X : Type 0} (before : X → X → Bool) (front : List X) (r q : X)
+    → is_after_last before (front ++ r ∷ []) q
     ≡ before r q
 after_last before [] r q = refl
 after_last before (x ∷ []) r q = refl

@@ -32,12 +32,12 @@ IsOutOfRange (Body p n) f line = HasFormOf p line × ((g : MeshParts) → ¬ (Is
 IsOutOfRange _ f line = ⊥
 
 -- why a line is wrong where this is due: the first of the reasons that holds
-abbrev pub IsReason : Due → MeshParts → List ℕ → Why → Type 0
-IsReason due f line Section = IsWrongWord due line
-IsReason due f line TooMany = IsTooMany due line
-IsReason due f line Field = IsOfNoForm due line
-IsReason due f line Range = IsOutOfRange due f line
-IsReason due f line Truncated = ⊥
+abbrev pub IsMeshReason : Due → MeshParts → List ℕ → Why → Type 0
+IsMeshReason due f line Section = IsWrongWord due line
+IsMeshReason due f line TooMany = IsTooMany due line
+IsMeshReason due f line Field = IsOfNoForm due line
+IsMeshReason due f line Range = IsOutOfRange due f line
+IsMeshReason due f line Truncated = ⊥
 
 -- the first wrong line: its number, from 1, and why it is wrong
 pub record IsWrongLine (lines : List (List ℕ)) (fault : Fault) : Type 0 where
@@ -48,7 +48,7 @@ pub record IsWrongLine (lines : List (List ℕ)) (fault : Fault) : Type 0 where
   pub at : Reached
   pub right_so_far : AllLead front at_title at
   pub number : fault.line ≡ length front + 1
-  pub reason : IsReason at.due at.taken line fault.why
+  pub reason : IsMeshReason at.due at.taken line fault.why
 
 -- all lines are right, and more are due
 pub record IsCutOff (lines : List (List ℕ)) (fault : Fault) : Type 0 where

@@ -166,21 +166,6 @@ abbrev pub lines_due : Part → ℕ → Due
 lines_due p zero = behind p
 lines_due p (suc n) = Body p n
 
--- no more points are due behind this list
-abbrev pub IsBehindPoints : Part → Type 0
-IsBehindPoints Replies = ⊥
-IsBehindPoints Points = ⊥
-IsBehindPoints Cells = ⊤
-IsBehindPoints Hull = ⊤
-
--- nor where this is due
-abbrev pub HasAllPoints : Due → Type 0
-HasAllPoints Title = ⊥
-HasAllPoints (Head p) = IsBehindPoints p
-HasAllPoints (Body p n) = IsBehindPoints p
-HasAllPoints Last = ⊤
-HasAllPoints Nothing = ⊤
-
 -- where a reading is: what is due, and what was taken
 pub record Reached : Type 0 where
   pub due : Due

@@ -1,5 +1,5 @@
--- How many lines may follow.
-use Rattle.std.specs.Prelude.{ℕ, ◌+◌}
+-- Which lines may follow: how many, and whether points are among them.
+use Rattle.std.specs.Prelude.{ℕ, ◌+◌, ⊤}
 use Rattle.mesh_reader.specs.declared.place.Part.{Part}
 use Rattle.mesh_reader.specs.declared.place.Part.TheVariants.{Replies, Points, Cells, Hull}
 use Rattle.mesh_reader.specs.declared.place.Due.{Due}
@@ -22,5 +22,20 @@ most_left Last = 1
 most_left Nothing = 0
 
 -- one more than a text may have lines
-abbrev pub line_count : ℕ
-line_count = 34078727
+abbrev pub line_bound : ℕ
+line_bound = 34078727
+
+-- no more points are due behind this list
+abbrev pub IsBehindPoints : Part → Type 0
+IsBehindPoints Replies = ⊥
+IsBehindPoints Points = ⊥
+IsBehindPoints Cells = ⊤
+IsBehindPoints Hull = ⊤
+
+-- nor where this is due
+abbrev pub HasAllPoints : Due → Type 0
+HasAllPoints Title = ⊥
+HasAllPoints (Head p) = IsBehindPoints p
+HasAllPoints (Body p n) = IsBehindPoints p
+HasAllPoints Last = ⊤
+HasAllPoints Nothing = ⊤

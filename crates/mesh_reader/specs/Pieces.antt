@@ -7,7 +7,7 @@ use Rattle.mesh_reader.specs.declared.pieces.MeshReader.{MeshReader}
 use Rattle.mesh_reader.specs.declared.pieces.State.{State}
 use Rattle.mesh_reader.specs.declared.pieces.State.TheVariants.{Right, Wrong}
 use Rattle.mesh_reader.specs.Grammar.{MeshParts, at_title}
-use Rattle.mesh_reader.specs.Judging.{judge, reached}
+use Rattle.mesh_reader.specs.Judging.{judge_mesh, reached}
 
 -- no line feed (10) is among the bytes
 abbrev pub HasNoFeed : List ℕ → Type 0
@@ -15,7 +15,7 @@ HasNoFeed bytes = AllByRecursion (λ b. (b == 10) ≡ false) bytes
 
 -- what is made of the lines that follow
 abbrev pub comes_to : State → List (List ℕ) → Result MeshParts Fault
-comes_to (Right counted) lines = judge counted.number (reached counted.reader) lines
+comes_to (Right counted) lines = judge_mesh counted.number (reached counted.reader) lines
 comes_to (Wrong fault) lines = Err fault
 
 -- the same is made of what is left, whatever follows it, as of all of it
@@ -28,4 +28,4 @@ LeavesOf before all now left =
 pub record HasTaken (r : MeshReader) (bytes : List ℕ) : Type 0 where
   pub begun : HasNoFeed r.begun.items
   pub same : (more : List ℕ) → comes_to r.state (lines_of (r.begun.items ++ more))
-      ≡ judge 1 at_title (lines_of (bytes ++ more))
+      ≡ judge_mesh 1 at_title (lines_of (bytes ++ more))

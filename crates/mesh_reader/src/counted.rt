@@ -4,8 +4,9 @@ ghost use Rattle.std.specs.Prelude.{◌≡◌, ◌+◌, ◌≤◌, ◌∷◌, []
 ghost use Rattle.edit_files.specs.declared.fault.Fault.{Fault as FaultParts};
 ghost use Rattle.edit_files.specs.declared.fault.ReadRefused.TheVariants.{Bad};
 ghost use Rattle.mesh_reader.specs.Grammar.{at_title, parts};
-ghost use Rattle.mesh_reader.specs.Judging.{Gives, ascends, judge, reached};
-ghost use Rattle.mesh_reader.specs.LinesLeft.{line_count, most_left};
+ghost use Rattle.edit_files.specs.Judging.{Gives};
+ghost use Rattle.mesh_reader.specs.Judging.{ascends, judge_mesh, reached};
+ghost use Rattle.mesh_reader.specs.LinesLeft.{line_bound, most_left};
 
 use crate::mesh_file::PackedMesh;
 use crate::reader::Reader;
@@ -18,7 +19,7 @@ pub(crate) struct Counted {
     pub(crate) reader: Reader,
     /// The number of the line that is due, from 1.
     pub(crate) number: u64,
-    ghost few: { number + most_left reader.due ≤ line_count },
+    ghost few: { number + most_left reader.due ≤ line_bound },
     ghost ascending: { ascends (reached reader).taken.points ≡ true },
 }
 
@@ -36,10 +37,10 @@ impl Counted {
     // Takes the line that is due.
     pub(crate) fn take_line(self, line: &[u8]) -> Result<Counted, ReadRefused>
         ensures right { IfOk result (λ next. (lines : List (List ℕ)) →
-            judge next.number (reached next.reader) lines
-            ≡ judge self.number (reached self.reader) (line.now ∷ lines)) }
+            judge_mesh next.number (reached next.reader) lines
+            ≡ judge_mesh self.number (reached self.reader) (line.now ∷ lines)) }
         ensures wrong { (fault : FaultParts) → result ≡ Err (Bad fault) → (lines : List (List ℕ)) →
-            judge self.number (reached self.reader) (line.now ∷ lines) ≡ Err fault }
+            judge_mesh self.number (reached self.reader) (line.now ∷ lines) ≡ Err fault }
     {
         let Counted { mut reader, number } = self;
         match reader.take_line(line) {
@@ -53,7 +54,7 @@ impl Counted {
 
     // The mesh, where its end was read.
     pub(crate) fn finish(self) -> Result<PackedMesh, ReadRefused>
-        ensures { Gives parts result (judge self.number (reached self.reader) []) }
+        ensures { Gives parts result (judge_mesh self.number (reached self.reader) []) }
     {
         let Counted { reader, number } = self;
         reader.finish(number)

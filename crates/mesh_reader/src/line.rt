@@ -25,11 +25,11 @@ ghost use Rattle.mesh_reader.specs.Grammar.{point_limit};
 ghost use Rattle.mesh_reader.specs.Judging.{
   announced as announced_by,
   ascends,
-  corners,
+  field_numbers,
   in_order,
-  numbers,
-  point_at as point_at_index,
-  points_at,
+  indexed_corners,
+  indexed_point as point_at_index,
+  indexed_points,
   reply_of as reply_in,
   stripped,
 };
@@ -117,8 +117,8 @@ pub(crate) fn reply_of(line: &[u8]) -> Result<Reply, Why>
 
 // Two numbers with one space between them.
 fn two_of(line: &[u8]) -> Option<(u64, u64)>
-    ensures { MatchOption result (numbers 2 (fields_of line.now) ≡ None)
-        (λ t. numbers 2 (fields_of line.now) ≡ Some (t.0 ∷ t.1 ∷ [])) }
+    ensures { MatchOption result (field_numbers 2 (fields_of line.now) ≡ None)
+        (λ t. field_numbers 2 (fields_of line.now) ≡ Some (t.0 ∷ t.1 ∷ [])) }
 {
     let (first, rest) = first_field(line);
     let (second, more) = first_field(rest?);
@@ -132,8 +132,8 @@ fn two_of(line: &[u8]) -> Option<(u64, u64)>
 
 // Three numbers.
 fn three_of(line: &[u8]) -> Option<(u64, u64, u64)>
-    ensures { MatchOption result (numbers 3 (fields_of line.now) ≡ None)
-        (λ t. numbers 3 (fields_of line.now) ≡ Some (t.0 ∷ t.1 ∷ t.2 ∷ [])) }
+    ensures { MatchOption result (field_numbers 3 (fields_of line.now) ≡ None)
+        (λ t. field_numbers 3 (fields_of line.now) ≡ Some (t.0 ∷ t.1 ∷ t.2 ∷ [])) }
 {
     let (first, rest) = first_field(line);
     let (second, third) = two_of(rest?)?;
@@ -143,8 +143,8 @@ fn three_of(line: &[u8]) -> Option<(u64, u64, u64)>
 
 // Four numbers.
 fn four_of(line: &[u8]) -> Option<(u64, u64, u64, u64)>
-    ensures { MatchOption result (numbers 4 (fields_of line.now) ≡ None)
-        (λ t. numbers 4 (fields_of line.now) ≡ Some (t.0 ∷ t.1 ∷ t.2 ∷ t.3 ∷ [])) }
+    ensures { MatchOption result (field_numbers 4 (fields_of line.now) ≡ None)
+        (λ t. field_numbers 4 (fields_of line.now) ≡ Some (t.0 ∷ t.1 ∷ t.2 ∷ t.3 ∷ [])) }
 {
     let (first, rest) = first_field(line);
     let (second, third, fourth) = three_of(rest?)?;
@@ -193,8 +193,8 @@ fn quad_from(points: [Point; 4]) -> Option<Quad>
 
 // The triple of the points at three indices.
 fn tri_at(points: &[Point], i: u64, j: u64, k: u64) -> Option<Tri>
-    ensures { MatchOption result (in_order (points_at points.now (i ∷ j ∷ k ∷ [])) ≡ Err Range)
-        (λ t. in_order (points_at points.now (i ∷ j ∷ k ∷ [])) ≡ Ok t) }
+    ensures { MatchOption result (in_order (indexed_points points.now (i ∷ j ∷ k ∷ [])) ≡ Err Range)
+        (λ t. in_order (indexed_points points.now (i ∷ j ∷ k ∷ [])) ≡ Ok t) }
 {
     let a = point_at(points, i)?;
     let b = point_at(points, j)?;
@@ -204,8 +204,8 @@ fn tri_at(points: &[Point], i: u64, j: u64, k: u64) -> Option<Tri>
 
 // The cell of the points at four indices.
 fn quad_at(points: &[Point], i: u64, j: u64, k: u64, l: u64) -> Option<Quad>
-    ensures { MatchOption result (in_order (points_at points.now (i ∷ j ∷ k ∷ l ∷ [])) ≡ Err Range)
-        (λ q. in_order (points_at points.now (i ∷ j ∷ k ∷ l ∷ [])) ≡ Ok q) }
+    ensures { MatchOption result (in_order (indexed_points points.now (i ∷ j ∷ k ∷ l ∷ [])) ≡ Err Range)
+        (λ q. in_order (indexed_points points.now (i ∷ j ∷ k ∷ l ∷ [])) ≡ Ok q) }
 {
     let a = point_at(points, i)?;
     let b = point_at(points, j)?;
@@ -216,7 +216,7 @@ fn quad_at(points: &[Point], i: u64, j: u64, k: u64, l: u64) -> Option<Quad>
 
 // The triple of a line.
 pub(crate) fn tri_of(points: &[Point], line: &[u8]) -> Result<Tri, Why>
-    ensures { result ≡ corners 3 points.now line.now }
+    ensures { result ≡ indexed_corners 3 points.now line.now }
 {
     let Some((i, j, k)) = three_of(line) else {
         return Err(Why::Field);
@@ -229,7 +229,7 @@ pub(crate) fn tri_of(points: &[Point], line: &[u8]) -> Result<Tri, Why>
 
 // The cell of a line.
 pub(crate) fn quad_of(points: &[Point], line: &[u8]) -> Result<Placed, Why>
-    ensures { result ≡ corners 4 points.now line.now }
+    ensures { result ≡ indexed_corners 4 points.now line.now }
 {
     let Some((i, j, k, l)) = four_of(line) else {
         return Err(Why::Field);

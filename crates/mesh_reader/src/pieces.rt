@@ -7,7 +7,7 @@ ghost use Rattle.edit_files.specs.Lines.{lines_of};
 ghost use Rattle.list_laws.specs.Lists.{IsAscending};
 ghost use Rattle.mesh_reader.specs.Faults.{IsMeshFault};
 ghost use Rattle.mesh_reader.specs.Grammar.{IsMeshText, MeshParts, file_parts, parts};
-ghost use Rattle.mesh_reader.specs.Judging.{Gives};
+ghost use Rattle.edit_files.specs.Judging.{Gives};
 ghost use Rattle.mesh_reader.specs.Order.{IsInOrder};
 ghost use Rattle.mesh_reader.specs.Pieces.{HasNoFeed, HasTaken, LeavesOf, comes_to};
 

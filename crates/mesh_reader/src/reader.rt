@@ -3,23 +3,24 @@
 ghost use Rattle.std.specs.Prelude.{◌≡◌, IfSome, Err, nat_lt};
 ghost use Rattle.std.specs.Prelude.{if◌then◌else◌};
 ghost use Rattle.std.specs.Str.{bytes_eq};
+ghost use Rattle.edit_files.specs.Judging.{Gives};
 ghost use Rattle.edit_files.specs.declared.fault.Why.TheVariants.{Section};
 ghost use Rattle.mesh_reader.specs.declared.place.Part.TheVariants as lists;
-ghost use Rattle.mesh_reader.specs.Grammar.{HasAllPoints, at_title, parts};
+ghost use Rattle.mesh_reader.specs.Grammar.{at_title, parts};
 ghost use Rattle.mesh_reader.specs.Judging.{
-  Gives,
-  Steps,
+  IsTransition,
   announced as announced_by,
-  ended,
   headed,
-  is_after,
+  is_after_last,
   is_less,
-  move,
+  judged_end,
+  now_due,
   reached,
-  refused_at,
-  step,
+  refusal_at,
   taken,
+  transition,
 };
+ghost use Rattle.mesh_reader.specs.LinesLeft.{HasAllPoints};
 
 use crate::line::{announced, quad_of, reads, reply_of, tri_of};
 use crate::mesh_file::PackedMesh;
@@ -40,7 +41,7 @@ pub(crate) enum LineRefused {
 impl LineRefused {
     // Why the text was not read, where this line has that number.
     pub(crate) fn of_line(self, line: u64) -> ReadRefused
-        ensures { result ≡ refused_at line self }
+        ensures { result ≡ refusal_at line self }
     {
         match self {
             LineRefused::Bad(why) => ReadRefused::Bad(Fault { line, why }),
@@ -88,7 +89,7 @@ pub(crate) struct Reader {
 
 // Whether the last of the points is before p.
 fn is_after_points(points: &[Point], p: Point) -> bool
-    ensures { result ≡ is_after nat_lt points.now p }
+    ensures { result ≡ is_after_last nat_lt points.now p }
 {
     match points.split_last() {
         Some((last, _)) => *last < p,
@@ -98,7 +99,7 @@ fn is_after_points(points: &[Point], p: Point) -> bool
 
 // Whether the last of the cells is before this one.
 fn is_after_cells(cells: &QuadList, quad: Quad) -> bool
-    ensures { result ≡ is_after is_less cells.now quad }
+    ensures { result ≡ is_after_last is_less cells.now quad }
 {
     match cells.last() {
         Some(last) => match Cell::Full(last).compare(&Cell::Full(quad)) {
@@ -111,7 +112,7 @@ fn is_after_cells(cells: &QuadList, quad: Quad) -> bool
 
 // Whether the last of the triples is before this one.
 fn is_after_triples(triples: &[Tri], tri: Tri) -> bool
-    ensures { result ≡ is_after is_less triples.now tri }
+    ensures { result ≡ is_after_last is_less triples.now tri }
 {
     match triples.split_last() {
         Some((last, _)) => match Cell::Open(*last).compare(&Cell::Open(tri)) {
@@ -125,7 +126,7 @@ fn is_after_triples(triples: &[Tri], tri: Tri) -> bool
 impl PackedMesh {
     // Takes a reply.
     fn take_reply(&mut self, line: &[u8]) -> Result<(), LineRefused>
-        ensures { Steps result (parts self.new) (taken lists.Replies (parts self.old) line.now) }
+        ensures { IsTransition result (parts self.new) (taken lists.Replies (parts self.old) line.now) }
     {
         self.replies.push(reply_of(line)?)?;
         Ok(())
@@ -133,7 +134,7 @@ impl PackedMesh {
 
     // Takes a point.
     fn take_point(&mut self, line: &[u8]) -> Result<(), LineRefused>
-        ensures { Steps result (parts self.new) (taken lists.Points (parts self.old) line.now) }
+        ensures { IsTransition result (parts self.new) (taken lists.Points (parts self.old) line.now) }
     {
         let point = point_of(line)?;
         if !is_after_points(&self.points, point) {
@@ -146,7 +147,7 @@ impl PackedMesh {
 
     // Takes a cell.
     fn take_cell(&mut self, line: &[u8]) -> Result<(), LineRefused>
-        ensures { Steps result (parts self.new) (taken lists.Cells (parts self.old) line.now) }
+        ensures { IsTransition result (parts self.new) (taken lists.Cells (parts self.old) line.now) }
     {
         let placed = quad_of(&self.points, line)?;
         if !is_after_cells(&self.cells, placed.quad()) {
@@ -158,7 +159,7 @@ impl PackedMesh {
 
     // Takes a triple.
     fn take_triple(&mut self, line: &[u8]) -> Result<(), LineRefused>
-        ensures { Steps result (parts self.new) (taken lists.Hull (parts self.old) line.now) }
+        ensures { IsTransition result (parts self.new) (taken lists.Hull (parts self.old) line.now) }
     {
         let tri = tri_of(&self.points, line)?;
         if !is_after_triples(&self.hull, tri) {
@@ -170,7 +171,7 @@ impl PackedMesh {
 
     // Takes a line of a list.
     fn take(&mut self, part: Part, line: &[u8]) -> Result<(), LineRefused>
-        ensures { Steps result (parts self.new) (taken part (parts self.old) line.now) }
+        ensures { IsTransition result (parts self.new) (taken part (parts self.old) line.now) }
     {
         match part {
             Part::Replies => self.take_reply(line),
@@ -210,7 +211,7 @@ impl Reader {
 
     // Takes the line that follows.
     pub(crate) fn take_line(&mut self, line: &[u8]) -> Result<(), LineRefused>
-        ensures { Steps result (reached self.new) (step (reached self.old) line.now) }
+        ensures { IsTransition result (reached self.new) (transition (reached self.old) line.now) }
     {
         match self.due {
             Due::Title => self.take_word(line, b"mesh3-out 1", Due::Head(Part::Replies)),
@@ -227,8 +228,8 @@ impl Reader {
 
     // Takes a line that is to be this word, and goes on to what is due then.
     fn take_word(&mut self, line: &[u8], word: &[u8], next: Due) -> Result<(), LineRefused>
-        ensures { Steps result (reached self.new)
-            (if bytes_eq line.now word.now then move next (parts self.old.file) else Err Section) }
+        ensures { IsTransition result (reached self.new)
+            (if bytes_eq line.now word.now then now_due next (parts self.old.file) else Err Section) }
     {
         if !reads(line, word) {
             return Err(LineRefused::Bad(Why::Section));
@@ -239,7 +240,7 @@ impl Reader {
 
     // Takes the head of a list.
     fn take_head(&mut self, part: Part, line: &[u8]) -> Result<(), LineRefused>
-        ensures { Steps result (reached self.new)
+        ensures { IsTransition result (reached self.new)
             (headed part (parts self.old.file) (announced_by part line.now)) }
     {
         let Some(count) = announced(part, line) else {
@@ -254,7 +255,7 @@ impl Reader {
 
     // The mesh, where its end was read; `line` is the number of the line that would follow.
     pub(crate) fn finish(self, line: u64) -> Result<PackedMesh, ReadRefused>
-        ensures { Gives parts result (ended line self.due (parts self.file)) }
+        ensures { Gives parts result (judged_end line self.due (parts self.file)) }
     {
         match self.due {
             Due::Nothing => Ok(self.file),

@@ -1,6 +1,6 @@
 use Rattle.std.proofs.Common.{sym, ap}
 use Rattle.std.specs.Prelude.{[], ◌∷◌}
-use Rattle.mesh_reader.specs.Judging.{in_order, points_at}
+use Rattle.mesh_reader.specs.Judging.{in_order, indexed_points}
 use Rattle.mesh_reader.proofs.Corners.{missing_others, missing_point, no_points, order_made, with_point}
 use Rattle.mesh_reader.proofs.line.quad_at.Goals as goal
 
@@ -34,7 +34,7 @@ returns-in_err-d c =
 pub returns : goal.returns
 returns c =
     let s = c.args.points.now in
-    order_made (points_at s (c.args.i ∷ c.args.j ∷ c.args.k ∷ c.args.l ∷ []))
+    order_made (indexed_points s (c.args.i ∷ c.args.j ∷ c.args.k ∷ c.args.l ∷ []))
     (c.in_ok-a.a ∷ c.in_ok-b.b ∷ c.in_ok-c.c ∷ c.in_ok-d.d ∷ []) c.quad_from.result
     (with_point s c.args.i c.in_ok-a.a (c.args.j ∷ c.args.k ∷ c.args.l ∷ [])
     (c.in_ok-b.b ∷ c.in_ok-c.c ∷ c.in_ok-d.d ∷ []) (sym c.in_ok-a.ensures)
