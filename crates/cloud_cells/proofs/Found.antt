@@ -22,13 +22,13 @@ use Rattle.std.proofs.lemmas.List.{length-append, take_all}
 use Rattle.list_laws.proofs.Cited.{from_append, take_next}
 use Rattle.point_order.specs.declared.cell.Cell.{Cell}
 use Rattle.point_order.specs.Sets.{IsIn}
-use Rattle.cloud_cells.specs.Nets.{live}
+use Rattle.cloud_cells.specs.Nets.{cells_of_slots}
 use Rattle.cloud_cells.proofs.Nets.{live_append}
 
 -- the cells of some slots are listed, and are so many
 pub record AreFound (l : List Cell) (slots : List (Option Cell)) (n : ℕ) : Type 0 where
-  pub among : (q : Cell) → IsIn q (live slots) → IsIn q l
-  pub count : n ≡ length (live slots)
+  pub among : (q : Cell) → IsIn q (cells_of_slots slots) → IsIn q l
+  pub count : n ≡ length (cells_of_slots slots)
 
 -- of no slot
 pub none_found : (l : List Cell) → AreFound l [] 0
@@ -37,14 +37,15 @@ none_found l = record { among = λ q i. absurd i; count = refl }
 module _ (l : List Cell) (slots : List (Option Cell)) (i n : ℕ) (o : Option Cell) (h : i < length slots)
     (e : o ≡ slice_index_or slots i o) (f : AreFound l (take i slots) n) where
   -- the cells of one slot more
-  next_live : live (take (i + 1) slots) ≡ live (take i slots) ++ live (o ∷ [])
-  next_live = ap live (take_next slots i o h e) ∙ live_append (take i slots) (o ∷ [])
+  next_live : cells_of_slots (take (i + 1) slots) ≡ cells_of_slots (take i slots) ++ cells_of_slots (o ∷ [])
+  next_live = ap cells_of_slots (take_next slots i o h e) ∙ live_append (take i slots) (o ∷ [])
 
   -- a free slot
   pub free_slot : o ≡ None → AreFound l (take (i + 1) slots) n
   free_slot z =
-      let same : live (take (i + 1) slots) ≡ live (take i slots) =
-      next_live ∙ ap (λ (v : Option Cell). live (take i slots) ++ live (v ∷ [])) z ∙ append-nil (live (take i slots)) in
+      let same : cells_of_slots (take (i + 1) slots) ≡ cells_of_slots (take i slots) =
+      next_live ∙ ap (λ (v : Option Cell). cells_of_slots (take i slots) ++ cells_of_slots (v ∷ [])) z
+      ∙ append-nil (cells_of_slots (take i slots)) in
       record {
         among = λ q m. f.among q (subst (λ (v : List Cell). IsIn q v) same m);
         count = f.count ∙ ap (λ (v : List Cell). length v) (sym same);
@@ -53,16 +54,16 @@ module _ (l : List Cell) (slots : List (Option Cell)) (i n : ℕ) (o : Option Ce
   -- a slot with a cell that is listed
   pub cell_slot : (c : Cell) → o ≡ Some c → IsIn c l → AreFound l (take (i + 1) slots) (n + 1)
   cell_slot c z m =
-      let more : live (take (i + 1) slots) ≡ live (take i slots) ++ c ∷ [] =
-      next_live ∙ ap (λ (v : Option Cell). live (take i slots) ++ live (v ∷ [])) z in
+      let more : cells_of_slots (take (i + 1) slots) ≡ cells_of_slots (take i slots) ++ c ∷ [] =
+      next_live ∙ ap (λ (v : Option Cell). cells_of_slots (take i slots) ++ cells_of_slots (v ∷ [])) z in
       record {
-        among = λ q j. elim (from_append q (live (take i slots)) (c ∷ [])
+        among = λ q j. elim (from_append q (cells_of_slots (take i slots)) (c ∷ [])
             (subst (λ (v : List Cell). IsIn q v) more j)) [
               | inl k ↦ f.among q k
               | inr k ↦ elim k [ inl g ↦ subst (λ (v : Cell). IsIn v l) g m | inr none ↦ absurd none ]
             ];
-        count = (let k = f.count in let a = length-append (live (take i slots)) (c ∷ []) in
-            let b : length (live (take (i + 1) slots)) ≡ length (live (take i slots) ++ c ∷ []) =
+        count = (let k = f.count in let a = length-append (cells_of_slots (take i slots)) (c ∷ []) in
+            let b : length (cells_of_slots (take (i + 1) slots)) ≡ length (cells_of_slots (take i slots) ++ c ∷ []) =
             ap (λ (v : List Cell). length v) more in omega (arith, k, a, b));
       }
 

@@ -6,12 +6,12 @@ use Rattle.list_laws.specs.Lists.{AreDistinct}
 use Rattle.point_order.specs.declared.cell.Cell.{Cell}
 use Rattle.point_order.specs.Sets.{IsIn}
 use Rattle.cloud_cells.specs.Clouds.{AreCellsOf}
-use Rattle.cloud_cells.specs.Nets.{AreMoved, live}
+use Rattle.cloud_cells.specs.Nets.{AreMoved, cells_of_slots}
 use Rattle.cloud_cells.proofs.Nets.{live_append, live_in}
 
 -- the cell of a slot is one of those of all
 pub slot_in : (slots : List (Option Cell)) (i : ℕ) (o : Option Cell) (c : Cell) → i < length slots →
-    o ≡ slice_index_or slots i o → o ≡ Some c → IsIn c (live slots)
+    o ≡ slice_index_or slots i o → o ≡ Some c → IsIn c (cells_of_slots slots)
 slot_in slots i o c h e s = live_in slots i c (within_list slots i o None h e ∙ s)
 
 -- ---- cells that are moved behind others
@@ -42,29 +42,32 @@ moved_once (x ∷ a) b c d = (λ i. d.0 ((moved_in a b c x).1 i), moved_once a b
 
 -- the last slot is moved behind others
 pub move_one : (l : List Cell) (left packed : List (Option Cell)) (o : Option Cell) →
-    AreMoved l (live (left ++ o ∷ []) ++ live packed) → AreMoved l (live left ++ live (packed ++ o ∷ []))
+    AreMoved l (cells_of_slots (left ++ o ∷ []) ++ cells_of_slots packed)
+    → AreMoved l (cells_of_slots left ++ cells_of_slots (packed ++ o ∷ []))
 move_one l left packed None m =
-    subst (λ (v : List Cell). AreMoved l (live left ++ v))
-    (sym (live_append packed (None ∷ []) ∙ append-nil (live packed)))
-    (subst (λ (v : List Cell). AreMoved l (v ++ live packed)) (live_append left (None ∷ []) ∙ append-nil (live left)) m)
+    subst (λ (v : List Cell). AreMoved l (cells_of_slots left ++ v))
+    (sym (live_append packed (None ∷ []) ∙ append-nil (cells_of_slots packed)))
+    (subst (λ (v : List Cell). AreMoved l (v ++ cells_of_slots packed)) (live_append left (None ∷ [])
+    ∙ append-nil (cells_of_slots left)) m)
 move_one l left packed (Some c) m =
-    let k = subst (λ (v : List Cell). AreMoved l (v ++ live packed)) (live_append left (Some c ∷ [])) m in
-    subst (λ (v : List Cell). AreMoved l (live left ++ v)) (sym (live_append packed (Some c ∷ []))) (record {
+    let k = subst (λ (v : List Cell). AreMoved l (v ++ cells_of_slots packed)) (live_append left (Some c ∷ [])) m in
+    subst (λ (v : List Cell). AreMoved l (cells_of_slots left ++ v)) (sym (live_append packed (Some c ∷ []))) (record {
       members = λ q. (
-        λ i. (moved_in (live left) (live packed) c q).0 ((k.members q).0 i),
-        λ i. (k.members q).1 ((moved_in (live left) (live packed) c q).1 i),
+        λ i. (moved_in (cells_of_slots left) (cells_of_slots packed) c q).0 ((k.members q).0 i),
+        λ i. (k.members q).1 ((moved_in (cells_of_slots left) (cells_of_slots packed) c q).1 i),
       );
-      once = λ d. moved_once (live left) (live packed) c (k.once d);
+      once = λ d. moved_once (cells_of_slots left) (cells_of_slots packed) c (k.once d);
     })
 
 -- before any is moved
-pub none_moved : (slots : List (Option Cell)) → AreMoved (live slots) (live slots ++ live [])
+pub none_moved : (slots : List (Option Cell))
+    → AreMoved (cells_of_slots slots) (cells_of_slots slots ++ cells_of_slots [])
 none_moved slots = record {
   members = λ q. (
-    λ i. subst (λ (v : List Cell). IsIn q v) (sym (append-nil (live slots))) i,
-    λ i. subst (λ (v : List Cell). IsIn q v) (append-nil (live slots)) i,
+    λ i. subst (λ (v : List Cell). IsIn q v) (sym (append-nil (cells_of_slots slots))) i,
+    λ i. subst (λ (v : List Cell). IsIn q v) (append-nil (cells_of_slots slots)) i,
   );
-  once = λ d. subst (λ (v : List Cell). AreDistinct v) (sym (append-nil (live slots))) d;
+  once = λ d. subst (λ (v : List Cell). AreDistinct v) (sym (append-nil (cells_of_slots slots))) d;
 }
 
 -- the cells of a complex that were moved are its cells

@@ -10,17 +10,18 @@ use Rattle.cloud_cells.specs.declared.known.Compared.{Compared}
 use Rattle.cloud_cells.specs.declared.known.Compared.TheVariants.{Same, Other}
 
 -- the cells are those of the complex of s, which is ascending and solid
-pub record IsMade (s : List ℕ) (made : List Cell) : Type 0 where
+pub record IsMadeOf (s : List ℕ) (made : List Cell) : Type 0 where
   pub ascending : IsAscending s
   pub solid : is_solid s ≡ true
   pub cells : AreCellsOf s made
 
 -- each cell of the list that is marked is one of these
-abbrev pub AreKnown : List Cell → (List ℕ → Cell) → List (List ℕ) → List Bool → Type 0
-AreKnown made kind l marks = (i : ℕ) → slice_index_or marks i false ≡ true → IsIn (kind (slice_index_or l i [])) made
+abbrev pub AreMarkedAmong : List Cell → (List ℕ → Cell) → List (List ℕ) → List Bool → Type 0
+AreMarkedAmong made kind l marks = (i : ℕ) → slice_index_or marks i false ≡ true
+    → IsIn (kind (slice_index_or l i [])) made
 
 -- the lists are the complex of s, or each cell that is marked is one of it
 abbrev pub IsCompared : List ℕ → List (List ℕ) → List (List ℕ) → Compared → Type 0
 IsCompared s cells hull Same = map Full cells ++ map Open hull ≡ complex s
 IsCompared s cells hull (Other known) =
-    AreKnown (complex s) Full cells known.cells.items × AreKnown (complex s) Open hull known.hull.items
+    AreMarkedAmong (complex s) Full cells known.cells.items × AreMarkedAmong (complex s) Open hull known.hull.items

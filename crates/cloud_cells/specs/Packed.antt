@@ -15,23 +15,24 @@ pub record IsPoint (c : Corner) : Type 0 where
   pub z : c.z < 16384
 
 -- the key of that point
-unfoldable pub key_of : Corner → ℕ
-key_of c = c.x * 268435456 + c.y * 16384 + c.z
+unfoldable pub corner_key : Corner → ℕ
+corner_key c = c.x * 268435456 + c.y * 16384 + c.z
 
 -- three corners have points in ascending order
-pub record AreThree (a b c : Corner) : Type 0 where
+pub record AreThreeCorners (a b c : Corner) : Type 0 where
   pub first : IsPoint a
   pub second : IsPoint b
   pub third : IsPoint c
-  pub order : (key_of a < key_of b) × (key_of b < key_of c)
+  pub order : (corner_key a < corner_key b) × (corner_key b < corner_key c)
 
 -- so do four, where the fourth has one
 pub record AreCorners (a b c d : Corner) : Type 0 where
-  pub three : a.x ≢ no_point → AreThree a b c
-  pub fourth : a.x ≢ no_point → d.x ≢ no_point → IsPoint d × (key_of c < key_of d)
+  pub three : a.x ≢ no_point → AreThreeCorners a b c
+  pub fourth : a.x ≢ no_point → d.x ≢ no_point → IsPoint d × (corner_key c < corner_key d)
 
 -- the cell: there is none where the first corner has no point, and it is Open where the fourth has none
 abbrev pub cell_in : Corner → Corner → Corner → Corner → Option Cell
 cell_in a b c d =
-    if a.x == no_point then None else (if d.x == no_point then Some (Open (key_of a ∷ key_of b ∷ key_of c ∷ []))
-    else Some (Full (key_of a ∷ key_of b ∷ key_of c ∷ key_of d ∷ [])))
+    if a.x == no_point then None else (if d.x == no_point then Some
+    (Open (corner_key a ∷ corner_key b ∷ corner_key c ∷ []))
+    else Some (Full (corner_key a ∷ corner_key b ∷ corner_key c ∷ corner_key d ∷ [])))

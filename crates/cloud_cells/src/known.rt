@@ -4,8 +4,8 @@ ghost use Rattle.std.specs.Prelude.{IfOk, List};
 ghost use Rattle.point_order.specs.Sets.{IsIn};
 ghost use Rattle.point_order.specs.declared.cell.Cell.{Cell as CellParts};
 ghost use Rattle.point_order.specs.declared.cell.Cell.TheVariants.{Full, Open};
-ghost use Rattle.cloud_cells.specs.Known.{AreKnown};
-ghost use Rattle.cloud_cells.specs.Nets.{live};
+ghost use Rattle.cloud_cells.specs.Known.{AreMarkedAmong};
+ghost use Rattle.cloud_cells.specs.Nets.{cells_of_slots};
 
 use crate::listed::place_of;
 use crate::packed::Packed;
@@ -31,8 +31,8 @@ pub enum Compared {
 
 // Notes the cell as known, where it stands at the place of the list.
 fn note_cell(marks: &mut Vec<bool>, cells: &QuadList, place: usize, cell: &Cell)
-    ensures { (made : List CellParts) → IsIn cell.now made → AreKnown made Full cells.now marks.old.items
-        → AreKnown made Full cells.now marks.new.items }
+    ensures { (made : List CellParts) → IsIn cell.now made → AreMarkedAmong made Full cells.now marks.old.items
+        → AreMarkedAmong made Full cells.now marks.new.items }
 {
     if place < marks.len() && place < cells.len() && Cell::Full(cells.at(place)).is_same(cell) {
         marks[place] = true;
@@ -41,8 +41,8 @@ fn note_cell(marks: &mut Vec<bool>, cells: &QuadList, place: usize, cell: &Cell)
 
 // The same of a triple.
 fn note_triple(marks: &mut Vec<bool>, hull: &[Tri], place: usize, cell: &Cell)
-    ensures { (made : List CellParts) → IsIn cell.now made → AreKnown made Open hull.now marks.old.items
-        → AreKnown made Open hull.now marks.new.items }
+    ensures { (made : List CellParts) → IsIn cell.now made → AreMarkedAmong made Open hull.now marks.old.items
+        → AreMarkedAmong made Open hull.now marks.new.items }
 {
     if place < marks.len() && place < hull.len() && Cell::Open(hull[place]).is_same(cell) {
         marks[place] = true;
@@ -56,8 +56,8 @@ pub(crate) fn known_in(
     cells: &QuadList,
     hull: &[Tri],
 ) -> Result<Known, AllocError>
-    ensures cells { IfOk result (λ known. AreKnown (live slots.now) Full cells.now known.cells.items) }
-    ensures hull { IfOk result (λ known. AreKnown (live slots.now) Open hull.now known.hull.items) }
+    ensures cells { IfOk result (λ known. AreMarkedAmong (cells_of_slots slots.now) Full cells.now known.cells.items) }
+    ensures hull { IfOk result (λ known. AreMarkedAmong (cells_of_slots slots.now) Open hull.now known.hull.items) }
 {
     let mut quads = vec![in alloc; false; cells.len()]?;
     let mut triples = vec![in alloc; false; hull.len()]?;

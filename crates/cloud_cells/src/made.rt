@@ -26,14 +26,14 @@ pub struct Made {
 
 impl Model for Made {
     ghost use Rattle.std.specs.Prelude.{List, ℕ};
-    ghost use Rattle.cloud_cells.specs.Known.{IsMade};
-    ghost use Rattle.cloud_cells.specs.Nets.{live};
+    ghost use Rattle.cloud_cells.specs.Known.{IsMadeOf};
+    ghost use Rattle.cloud_cells.specs.Nets.{cells_of_slots};
 
     ghost Value = { List ℕ };
 
     ghost view = { λ m. m.points.items };
 
-    ghost invariant = { λ m. IsMade m.points.items (live m.packed.items) };
+    ghost invariant = { λ m. IsMadeOf m.points.items (cells_of_slots m.packed.items) };
 }
 
 impl Made {

@@ -2,7 +2,7 @@
 
 ghost use Rattle.std.specs.Prelude.{◌≡◌, ◌<◌, ◌∷◌, [], Some, None};
 ghost use Rattle.point_order.specs.declared.cell.Cell.TheVariants.{Full, Open};
-ghost use Rattle.cloud_cells.specs.Packed.{AreCorners, AreThree, IsPoint, key_of, no_point};
+ghost use Rattle.cloud_cells.specs.Packed.{AreCorners, AreThreeCorners, IsPoint, corner_key, no_point};
 
 use point_order::{Cell, Point};
 use std::marker::Model;
@@ -22,7 +22,7 @@ impl Corner {
     // The corner of a point.
     fn of(p: Point) -> Corner
         ensures point { IsPoint result }
-        ensures key { key_of result ≡ p }
+        ensures key { corner_key result ≡ p }
     {
         let _ = p.key();
         Corner {
@@ -46,7 +46,7 @@ impl Corner {
     // Its point.
     fn point(self) -> Point
         requires { IsPoint self }
-        ensures { result ≡ key_of self }
+        ensures { result ≡ corner_key self }
     {
         match Point::new(self.x as i64, self.y as i64, self.z as i64) {
             Ok(p) => p,
@@ -57,18 +57,18 @@ impl Corner {
 
 // The Open cell of three corners.
 fn hull_of(a: Corner, b: Corner, c: Corner) -> Cell
-    requires { AreThree a b c }
-    ensures { result ≡ Open (key_of a ∷ key_of b ∷ key_of c ∷ []) }
+    requires { AreThreeCorners a b c }
+    ensures { result ≡ Open (corner_key a ∷ corner_key b ∷ corner_key c ∷ []) }
 {
     Cell::hull(a.point(), b.point(), c.point())
 }
 
 // The Full cell of four.
 fn full_of(a: Corner, b: Corner, c: Corner, d: Corner) -> Cell
-    requires three { AreThree a b c }
+    requires three { AreThreeCorners a b c }
     requires fourth { IsPoint d }
-    requires order { key_of c < key_of d }
-    ensures { result ≡ Full (key_of a ∷ key_of b ∷ key_of c ∷ key_of d ∷ []) }
+    requires order { corner_key c < corner_key d }
+    ensures { result ≡ Full (corner_key a ∷ corner_key b ∷ corner_key c ∷ corner_key d ∷ []) }
 {
     Cell::full(a.point(), b.point(), c.point(), d.point())
 }

@@ -1,13 +1,36 @@
 //! What stands in a slot, and what stood there before it was taken out.
 
-ghost use Rattle.std.specs.Prelude.{◌≡◌, ◌↔◌, ◌<◌, ◌∷◌, [], ◌++◌, Some, None, length, IfOk, IsTrue, MatchOption, OnOk};
+ghost use Rattle.std.specs.Prelude.{
+  ◌≡◌,
+  ◌↔◌,
+  ◌<◌,
+  ◌∷◌,
+  [],
+  ◌++◌,
+  Some,
+  None,
+  length,
+  IfOk,
+  IsTrue,
+  MatchOption,
+  OnOk,
+};
 ghost use Rattle.point_order.specs.Sets.{IsIn};
-ghost use Rattle.cloud_cells.specs.Clouds.{HasOther, IsOtherOf};
-ghost use Rattle.cloud_cells.specs.Nets.{AreMoved, AreWith, HasNoOther, HasNoOtherIn, IsOtherOn, IsWithout, live, slot_at};
+ghost use Rattle.cloud_cells.specs.Clouds.{HasOtherIn, IsOtherIn};
+ghost use Rattle.cloud_cells.specs.Nets.{
+  AreMoved,
+  AreWith,
+  HasNoOther,
+  HasNoOtherIn,
+  IsOtherOn,
+  IsWithout,
+  cells_of_slots,
+  slot_at,
+};
 
 use crate::facets::is_on;
-use crate::net::Spot;
 use crate::packed::Packed;
+use crate::spot::Spot;
 use point_order::{Cell, Facet};
 use std::alloc::{AllocError, Global};
 use std::marker::Model;
@@ -116,7 +139,7 @@ fn stands_at(slots: &[Slot], i: usize, cell: &Cell) -> bool
 
 // The slot of a cell, which is likely to be the hint.
 fn place_of(slots: &[Slot], cell: &Cell, hint: usize) -> usize
-    requires { IsIn cell.now (live slots.now) }
+    requires { IsIn cell.now (cells_of_slots slots.now) }
     ensures { slot_at slots.now result ≡ Some cell.now }
 {
     if stands_at(slots, hint, cell) {
@@ -140,7 +163,7 @@ fn is_other(other: &Cell, cell: &Cell, facet: &Facet) -> bool
 // The cell of a slot, where it is another on the facet.
 pub(crate) fn other_at(slots: &[Slot], i: usize, cell: &Cell, facet: &Facet) -> Option<Cell>
     ensures { MatchOption result (HasNoOther slots.now i cell.now facet.now)
-        (λ other. IsOtherOf (live slots.now) cell.now facet.now other) }
+        (λ other. IsOtherIn (cells_of_slots slots.now) cell.now facet.now other) }
 {
     let other = cell_at(slots, i)?;
     if is_other(&other, cell, facet) {
@@ -151,8 +174,8 @@ pub(crate) fn other_at(slots: &[Slot], i: usize, cell: &Cell, facet: &Facet) -> 
 
 // The cell across a facet of a cell, and its slot, where all are looked at. There is to be one.
 pub(crate) fn other_across(slots: &[Slot], cell: &Cell, facet: &Facet) -> (Cell, usize)
-    requires { HasOther (live slots.now) cell.now facet.now }
-    ensures { IsOtherOf (live slots.now) cell.now facet.now result.0 }
+    requires { HasOtherIn (cells_of_slots slots.now) cell.now facet.now }
+    ensures { IsOtherIn (cells_of_slots slots.now) cell.now facet.now result.0 }
 {
     for i in 0..slots.len() {
         if let Some(other) = other_at(slots, i, cell, facet) {
@@ -165,7 +188,7 @@ pub(crate) fn other_across(slots: &[Slot], cell: &Cell, facet: &Facet) -> (Cell,
 // The cell of those taken out that is another on the facet, likely the one at the hint.
 pub(crate) fn gone_across(gone: &[Spot], cell: &Cell, facet: &Facet, hint: usize) -> Option<Cell>
     ensures { MatchOption result (HasNoOtherIn gone.now cell.now facet.now)
-        (λ other. IsOtherOf gone.now cell.now facet.now other) }
+        (λ other. IsOtherIn gone.now cell.now facet.now other) }
 {
     if hint < gone.len() {
         let other = gone[hint].cell();
@@ -183,8 +206,8 @@ pub(crate) fn gone_across(gone: &[Spot], cell: &Cell, facet: &Facet, hint: usize
 
 // Takes a cell out of its slot, so many after the first, and answers which that was.
 pub(crate) fn take_out(slots: &mut Vec<Slot>, cell: &Cell, hint: usize, number: usize) -> usize
-    requires { IsIn cell.now (live slots.old.items) }
-    ensures { IsWithout (live slots.old.items) cell.now (live slots.new.items) }
+    requires { IsIn cell.now (cells_of_slots slots.old.items) }
+    ensures { IsWithout (cells_of_slots slots.old.items) cell.now (cells_of_slots slots.new.items) }
 {
     let place = place_of(slots, cell, hint);
     if place < slots.len() {
@@ -202,7 +225,7 @@ fn is_free(slots: &[Slot], i: usize) -> bool
 
 // Puts a cell into the slot of the hint, where that is free, or behind all, and answers which that was.
 pub(crate) fn put_in(slots: &mut Vec<Slot>, cell: Cell, hint: usize) -> Result<usize, AllocError>
-    ensures { OnOk result (AreWith (live slots.old.items) cell (live slots.new.items)) }
+    ensures { OnOk result (AreWith (cells_of_slots slots.old.items) cell (cells_of_slots slots.new.items)) }
 {
     if is_free(slots, hint) {
         slots[hint].fill(cell);
@@ -215,7 +238,7 @@ pub(crate) fn put_in(slots: &mut Vec<Slot>, cell: Cell, hint: usize) -> Result<u
 
 // Puts the cell of a slot, if it has one, behind the cells.
 pub(crate) fn push_slot(cells: &mut Vec<Cell>, slot: &Slot) -> Result<(), AllocError>
-    ensures { OnOk result (cells.new.items ≡ cells.old.items ++ live (slot.now ∷ [])) }
+    ensures { OnOk result (cells.new.items ≡ cells.old.items ++ cells_of_slots (slot.now ∷ [])) }
 {
     match slot.cell() {
         Some(cell) => {
@@ -244,7 +267,7 @@ fn move_slot(slots: &mut Vec<Slot>, packed: &mut Vec<Packed>, slot: Slot) -> Res
 // What stands in slots, without what is likely of it. The last go first, and their room is given back before all are
 // packed, so that both lists never stand in memory whole.
 pub(crate) fn packed_of(alloc: Global, mut slots: Vec<Slot>) -> Result<Vec<Packed>, AllocError>
-    ensures { IfOk result (λ packed. AreMoved (live slots.items) (live packed.items)) }
+    ensures { IfOk result (λ packed. AreMoved (cells_of_slots slots.items) (cells_of_slots packed.items)) }
 {
     let mut packed = Vec::with_capacity(alloc, slots.len())?;
     while let Some(slot) = slots.pop() {

@@ -1,6 +1,6 @@
 use Rattle.std.proofs.Common.{subst, List, Option, ◌++◌}
 use Rattle.point_order.specs.declared.cell.Cell.{Cell}
-use Rattle.cloud_cells.specs.Nets.{AreMoved, live}
+use Rattle.cloud_cells.specs.Nets.{AreMoved, cells_of_slots}
 use Rattle.cloud_cells.proofs.Marks.{move_one, none_moved}
 use Rattle.cloud_cells.proofs.slots.packed_of.Goals as goal
 
@@ -11,6 +11,7 @@ pub loop-slot-preserved : goal.loop-slot-preserved
 loop-slot-preserved c =
     let packed = c.loop-slot.packed.items in
     rw (c.in_ok-move_slot.ensures.slots, c.in_ok-move_slot.ensures.packed)
-    (move_one (live c.args.slots.items) c.pop.new.self.items packed c.in-Some.slot
-    (subst (λ (v : List (Option Cell)). AreMoved (live c.args.slots.items) (live v ++ live packed))
+    (move_one (cells_of_slots c.args.slots.items) c.pop.new.self.items packed c.in-Some.slot
+    (subst (λ (v : List (Option Cell)). AreMoved (cells_of_slots c.args.slots.items)
+    (cells_of_slots v ++ cells_of_slots packed))
     c.in-Some.ensures.items c.loop-slot.invariant))

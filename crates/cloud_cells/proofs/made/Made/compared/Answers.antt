@@ -2,7 +2,7 @@ use Rattle.std.proofs.Common.{[], slice_index_or, subst, List, Option}
 use Rattle.point_order.specs.declared.cell.Cell.TheVariants.{Full, Open}
 use Rattle.point_order.specs.declared.cell.Cell.{Cell}
 use Rattle.point_order.specs.Sets.{IsIn}
-use Rattle.cloud_cells.specs.Nets.{AreAllIn, live}
+use Rattle.cloud_cells.specs.Nets.{AreAllIn, cells_of_slots}
 use Rattle.cloud_cells.proofs.Growing.{all_listed}
 use Rattle.cloud_cells.proofs.made.Made.compared.Goals as goal
 
@@ -21,9 +21,11 @@ returns c =
     let there = c.deref-2.ensures.value in
     rw (← c.self.view_is) (
       λ i e. (of (Full (slice_index_or c.args.cells.now i []))).0
-          (subst (λ (v : List (Option Cell)). IsIn (Full (slice_index_or c.args.cells.now i [])) (live v)) there
+          (subst (λ (v : List (Option Cell)). IsIn (Full (slice_index_or c.args.cells.now i [])) (cells_of_slots v))
+          there
           (known.cells i e)),
       λ i e. (of (Open (slice_index_or c.args.hull.now i []))).0
-          (subst (λ (v : List (Option Cell)). IsIn (Open (slice_index_or c.args.hull.now i [])) (live v)) there
+          (subst (λ (v : List (Option Cell)). IsIn (Open (slice_index_or c.args.hull.now i [])) (cells_of_slots v))
+          there
           (known.hull i e)),
     )

@@ -1,20 +1,20 @@
 use Rattle.std.proofs.Common.{◌++◌, subst, sym}
 use Rattle.point_order.specs.declared.cell.Cell.{Cell}
-use Rattle.cloud_cells.specs.Clouds.{IsOtherOf}
-use Rattle.cloud_cells.specs.Nets.{live}
+use Rattle.cloud_cells.specs.Clouds.{IsOtherIn}
+use Rattle.cloud_cells.specs.Nets.{cells_of_slots}
 use Rattle.cloud_cells.proofs.Taking.{other_left, other_right}
 use Rattle.cloud_cells.proofs.net.Net.behind.Goals as goal
 
 pub returns-in-Some : goal.returns-in-Some
 returns-in-Some c =
-    let l = live c.args.self.now in
+    let l = cells_of_slots c.args.self.now in
     let g = c.args.gone.now in
-    subst (λ (o : Cell). IsOtherOf (l ++ g) c.args.spot.now c.args.facet.now o) (sym c.other.view_is)
+    subst (λ (o : Cell). IsOtherIn (l ++ g) c.args.spot.now c.args.facet.now o) (sym c.cell.ensures)
     (other_left l g c.args.spot.now c.args.facet.now c.in-Some.other c.in-Some.ensures)
 
 pub returns-in-Some-gone_across : goal.returns-in-Some-gone_across
 returns-in-Some-gone_across c =
-    let l = live c.args.self.now in
+    let l = cells_of_slots c.args.self.now in
     let g = c.args.gone.now in
-    subst (λ (q : Cell). IsOtherOf (l ++ g) q c.args.facet.now c.in-Some-gone_across.cell) c.spot.view_is
-    (other_right l g c.spot.inside.cell c.args.facet.now c.in-Some-gone_across.cell c.in-Some-gone_across.ensures)
+    subst (λ (q : Cell). IsOtherIn (l ++ g) q c.args.facet.now c.in-Some-gone_across.cell) c.cell-own.ensures
+    (other_right l g c.cell-own.result.now c.args.facet.now c.in-Some-gone_across.cell c.in-Some-gone_across.ensures)

@@ -1,0 +1,52 @@
+//! A cell and its likely place.
+
+ghost use Rattle.std.specs.Prelude.{◌≡◌};
+
+use point_order::Cell;
+use std::marker::Model;
+
+// A cell at hand, and where it is likely to stand. Contracts see it as the cell.
+#[derive(Drop)]
+pub(crate) struct Spot {
+    cell: Cell,
+    place: usize,
+}
+
+impl Model for Spot {
+    ghost use Rattle.point_order.specs.declared.cell.Cell.{Cell};
+
+    ghost Value = { Cell };
+
+    ghost view = { λ s. s.cell };
+}
+
+impl Spot {
+    // The cell, which is likely to stand in the slot.
+    pub(crate) fn new(cell: Cell, place: usize) -> Spot
+        ensures { result ≡ cell }
+    {
+        Spot { cell, place }
+    }
+
+    // The cell.
+    pub(crate) fn cell(&self) -> &Cell
+        ensures { result.now ≡ self.now }
+    {
+        &self.cell
+    }
+
+    // Where it is likely to stand.
+    pub(crate) fn place(&self) -> usize {
+        self.place
+    }
+
+    // The same once more.
+    pub(crate) fn copied(&self) -> Spot
+        ensures { result ≡ self.now }
+    {
+        Spot {
+            cell: self.cell,
+            place: self.place,
+        }
+    }
+}
