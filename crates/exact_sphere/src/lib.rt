@@ -40,7 +40,8 @@ fn alternating(p: i128, q: i128, r: i128, s: i128) -> i128
 /// The in-sphere polynomial: the determinant of five points lifted to the paraboloid of squares.
 ///
 /// Where `a`, `b`, `c`, `d` have a positive orientation it is positive where `e` lies outside their sphere, negative
-/// where it lies inside, and 0 where it lies on it. It is computed from the steps from `a`, with their squares.
+/// where it lies inside, and 0 where it lies on it. It is computed from the steps from `a`, with their squares and two
+/// of their cross products.
 #[inline]
 pub fn sphere(a: Point, b: Point, c: Point, d: Point, e: Point) -> i128
     ensures value { result ≡ sphere_polynomial a b c d e }
@@ -51,8 +52,8 @@ pub fn sphere(a: Point, b: Point, c: Point, d: Point, e: Point) -> i128
     let w = Step::between(a, d);
     let t = Step::between(a, e);
     alternating(
-        term(u.triple(v, w), t.square()),
-        term(u.triple(v, t), w.square()),
+        term(w.triple(u, v), t.square()),
+        term(t.triple(u, v), w.square()),
         term(u.triple(w, t), v.square()),
         term(v.triple(w, t), u.square()),
     )

@@ -1,3 +1,4 @@
 pub mod Passed
 pub mod Verdict
 pub mod Judged
+pub mod Cited

@@ -30,7 +30,7 @@ pub fn outside(a: Point, b: Point, c: Point, d: Point, e: Point) -> bool
     ensures { result ≡ is_outside a b c d e }
 {
     let _keys = (a.key(), b.key(), c.key(), d.key(), e.key());
-    let side = orient(a, b, c, d);
+    let side = orient(a, d, b, c);
     let plain = sphere(a, b, c, d, e);
     if plain != 0 {
         (plain > 0) == (side > 0)

@@ -6,6 +6,7 @@ use Rattle.whole_ring.proofs.Cited.{read, same_difference, same_product, same_su
 use Rattle.point_order.specs.Orientation.{orientation, distance}
 use Rattle.point_order.proofs.Cited.{distance_from, orientation_from, sphere_from_first}
 use Rattle.exact_sphere.specs.Sizes.{greatest_sphere}
+use Rattle.exact_sphere.proofs.Turned.{turned_second}
 use Rattle.exact_sphere.proofs.sphere.Goals as goal
 
 below : {x : ℤ} → IsWithin greatest_sphere x → unsigned_abs x < 2 ^ 77
@@ -61,10 +62,10 @@ returns-clause-value s =
     let t = s.between-t.ensures in
     let bcd : to_z w64 (of_z w64 s.triple.result) ≡ orientation a b c d =
     read (within_fits w64 s.triple.ensures.bound (lit< tt)) ∙ s.triple.ensures.value
-    ∙ orientation_from a b c d u.x u.y u.z v.x v.y v.z w.x w.y w.z in
+    ∙ orientation_from a d b c w.x w.y w.z u.x u.y u.z v.x v.y v.z ∙ turned_second a b c d in
     let bce : to_z w64 (of_z w64 s.triple-2.result) ≡ orientation a b c e =
     read (within_fits w64 s.triple-2.ensures.bound (lit< tt)) ∙ s.triple-2.ensures.value
-    ∙ orientation_from a b c e u.x u.y u.z v.x v.y v.z t.x t.y t.z in
+    ∙ orientation_from a e b c t.x t.y t.z u.x u.y u.z v.x v.y v.z ∙ turned_second a b c e in
     let bde : to_z w64 (of_z w64 s.triple-3.result) ≡ orientation a b d e =
     read (within_fits w64 s.triple-3.ensures.bound (lit< tt)) ∙ s.triple-3.ensures.value
     ∙ orientation_from a b d e u.x u.y u.z w.x w.y w.z t.x t.y t.z in

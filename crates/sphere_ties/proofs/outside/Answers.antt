@@ -7,6 +7,7 @@ use Rattle.point_order.specs.Heights.{out, sphere_polynomial}
 use Rattle.point_order.specs.Orientation.{orientation}
 use Rattle.point_order.specs.Laws.{coefficient}
 use Rattle.point_order.proofs.Cited.{out_sign, sign_of_tie}
+use Rattle.exact_sphere.proofs.Cited.{turned_second}
 use Rattle.sphere_ties.proofs.Verdict.{verdict}
 use Rattle.sphere_ties.proofs.outside.Goals as goal
 
@@ -20,7 +21,7 @@ returns-then-plain-ne0 c =
     let e = c.args.e in
     let s = c.sphere-plain.result in
     let is : s ≡ sphere_polynomial a b p d e = c.sphere-plain.ensures.value in
-    let side : c.orient-side.result ≡ orientation a b p d = c.orient-side.ensures.value in
+    let side : c.orient-side.result ≡ orientation a b p d = c.orient-side.ensures.value ∙ turned_second a b p d in
     let fs : FitsSigned w128 s = record { sfits = c.sphere-plain.type_inv } in
     let fo : FitsSigned w64 c.orient-side.result = record { sfits = c.orient-side.type_inv } in
     let fq : FitsSigned w64 (orientation a b p d) = subst (FitsSigned w64) side fo in
@@ -42,7 +43,7 @@ returns-else-plain-ne0 c =
     let z = c.first_coefficient.result in
     let g = c.first_coefficient.ensures.0 in
     let is : z ≡ coefficient a b p d e g = c.first_coefficient.ensures.2 in
-    let side : c.orient-side.result ≡ orientation a b p d = c.orient-side.ensures.value in
+    let side : c.orient-side.result ≡ orientation a b p d = c.orient-side.ensures.value ∙ turned_second a b p d in
     let fs : FitsSigned w128 s = record { sfits = c.sphere-plain.type_inv } in
     let fz : FitsSigned w64 z = record { sfits = c.first_coefficient.type_inv } in
     let fo : FitsSigned w64 c.orient-side.result = record { sfits = c.orient-side.type_inv } in
