@@ -4,6 +4,7 @@ pub use Rattle.text_sheets.proofs.Places.{below_end, own_item, past_end}
 pub use Rattle.text_sheets.proofs.Sheets.{
   IsOfItems,
   PutsBut,
+  block_put,
   closed,
   closed_cause,
   closed_front,
@@ -14,4 +15,4 @@ pub use Rattle.text_sheets.proofs.Sheets.{
   starts,
   then,
 }
-pub use Rattle.text_sheets.proofs.Slots.{held_ends, held_goes_on, held_starts}
+pub use Rattle.text_sheets.proofs.Slots.{held_ends, held_goes_on, held_lines, held_starts}

@@ -2,4 +2,5 @@ pub mod Places
 pub mod Flowing
 pub mod Sheets
 pub mod Slots
+pub mod Ranges
 pub mod Cited

@@ -185,6 +185,23 @@ module _ {O : Type 0} {h : O → Option (List ℕ)} {f : O → ℕ} where
     puts = then p.puts q;
   }
 
+  -- a text more
+  pub goes_on_by : {s t u : Sheet O} {whole rest : List ℕ} (text more : List ℕ) → text ++ more ≡ rest →
+      PutsBut h f s t rest whole → Puts h f t u text → PutsBut h f s u more whole
+  goes_on_by text more e p q = record {
+    done = p.done ++ text;
+    parts = append_assoc p.done text more ∙ ap (λ (v : List ℕ). p.done ++ v) e ∙ p.parts;
+    puts = then p.puts q;
+  }
+
+  -- the first line of a block and then its lines were put
+  pub block_put : {s t u : Sheet O} (title : List ℕ) (lines : List (List ℕ)) (text : List ℕ) (n : ℕ) →
+      n ≡ length lines → text ≡ concat lines → Puts h f s t (title ++ codes " " ++ decimal n ++ codes "\n") →
+      Puts h f t u text → Puts h f s u (block title lines)
+  block_put {s} {t} {u} title lines text n e k p q =
+      then (subst (λ (m : ℕ). Puts h f s t (title ++ codes " " ++ decimal m ++ codes "\n")) e p)
+      (subst (λ (v : List ℕ). Puts h f t u v) k q)
+
   -- ---- a sheet that is closed
 
   -- before, what waits is written

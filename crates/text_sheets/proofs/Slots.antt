@@ -1,5 +1,5 @@
 -- Lines of what slots hold, slot by slot.
-use Rattle.std.proofs.Common.{◌≡◌, ◌∙◌, refl, sym, ℕ, ◌+◌, ◌<◌, ◌≤◌, List, ◌++◌, length, get_or, drop}
+use Rattle.std.proofs.Common.{◌≡◌, ◌∙◌, refl, sym, ℕ, ◌+◌, ◌<◌, ◌≤◌, List, [], ◌∷◌, ◌++◌, ap, length, get_or, drop}
 use Rattle.std.specs.Prelude.{Option, None, Some, map, codes, decimal}
 use Rattle.std.specs.List.{concat}
 use Rattle.std.proofs.lemmas.List.{length-map}
@@ -17,6 +17,13 @@ held_text line slots = concat (map line (held slots))
 held_items : {X : Type 0} (line : X → List ℕ) → IsOfItems (held_text line) (held_line line)
 held_items line None slots = refl
 held_items line (Some x) slots = refl
+
+-- so the lines of slots, some of them empty, are those of what they hold
+pub held_lines : {X : Type 0} (line : X → List ℕ) (slots : List (Option X)) →
+    concat (map (held_line line) slots) ≡ held_text line slots
+held_lines line [] = refl
+held_lines line (None ∷ slots) = held_lines line slots
+held_lines line (Some x ∷ slots) = ap (λ (v : List ℕ). line x ++ v) (held_lines line slots)
 
 module _ {O : Type 0} {h : O → Option (List ℕ)} {f : O → ℕ} where
   -- the first line of their block was put

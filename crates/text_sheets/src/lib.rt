@@ -17,9 +17,11 @@ pub mod indices;
 pub mod lines;
 mod page;
 pub mod sheet;
+pub mod ways;
 pub mod whole;
 
 pub use indices::{Indices, put_full_line, put_hull_line, put_indices};
 pub use lines::{put_four, put_number, put_number_and, put_three, put_title};
 pub use sheet::Sheet;
+pub use ways::{Lines, put_beside, put_in_turn};
 pub use whole::WholeText;
