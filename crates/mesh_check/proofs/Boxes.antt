@@ -26,7 +26,16 @@ use Rattle.point_order.specs.Coordinates.{x_of, y_of, z_of}
 use Rattle.point_order.specs.Laws.{AreFiveKeys}
 use Rattle.point_order.specs.Spheres.{is_outside}
 use Rattle.point_order.proofs.Cited.{out_sign, sphere_from_first}
-use Rattle.mesh_check.specs.Boxes.{centre_x, centre_y, centre_z, past, squared, FarIsOutside, IsGap, FarBoxIsOutside}
+use Rattle.mesh_check.specs.Boxes.{
+  FarBoxIsOutside,
+  FarIsOutside,
+  IsGap,
+  cell_centre_x,
+  cell_centre_y,
+  cell_centre_z,
+  past,
+  squared,
+}
 
 -- ---- the square completed
 
@@ -60,7 +69,7 @@ centre_w f = square_w (v 0) ⊗ f (v 1).x (v 1).y (v 1).z (v 2).x (v 2).y (v 2).
 -- the in-sphere polynomial by the step to the centre
 by_centre : (a b c d e : ℕ) → sphere_polynomial a b c d e ≡ orientation a b c d *ℤ
     (x_from a e *ℤ x_from a e +ℤ y_from a e *ℤ y_from a e +ℤ z_from a e *ℤ z_from a e) -ℤ
-    (centre_x a b c d *ℤ x_from a e +ℤ centre_y a b c d *ℤ y_from a e +ℤ centre_z a b c d *ℤ z_from a e)
+    (cell_centre_x a b c d *ℤ x_from a e +ℤ cell_centre_y a b c d *ℤ y_from a e +ℤ cell_centre_z a b c d *ℤ z_from a e)
 unfolding orientation distance square_of_step normal_x normal_y normal_z triple minor
 by_centre a b c d e =
     sphere_from_first a b c d e
@@ -164,17 +173,18 @@ pub far_is_outside : FarIsOutside
 far_is_outside a b c d e x y z k hx hy hz l =
     by_signs a b c d e k
     (product_high (orientation a b c d) (sphere_polynomial a b c d e)
-    (squared (centre_x a b c d) +ℤ squared (centre_y a b c d) +ℤ squared (centre_z a b c d))
-    (squared (past (orientation a b c d) (x_from a e) (centre_x a b c d)) +ℤ squared
-    (past (orientation a b c d) (y_from a e) (centre_y a b c d)) +ℤ squared
-    (past (orientation a b c d) (z_from a e) (centre_z a b c d)))
+    (squared (cell_centre_x a b c d) +ℤ squared (cell_centre_y a b c d) +ℤ squared (cell_centre_z a b c d))
+    (squared (past (orientation a b c d) (x_from a e) (cell_centre_x a b c d)) +ℤ squared
+    (past (orientation a b c d) (y_from a e) (cell_centre_y a b c d)) +ℤ squared
+    (past (orientation a b c d) (z_from a e) (cell_centre_z a b c d)))
     (ap (λ s. pos 4 *ℤ (orientation a b c d *ℤ s)) (by_centre a b c d e)
-    ∙ completed (orientation a b c d) (centre_x a b c d) (centre_y a b c d) (centre_z a b c d) (x_from a e) (y_from a e)
+    ∙ completed (orientation a b c d) (cell_centre_x a b c d) (cell_centre_y a b c d) (cell_centre_z a b c d)
+    (x_from a e) (y_from a e)
     (z_from a e))
-    (sums x y z (squared (past (orientation a b c d) (x_from a e) (centre_x a b c d)))
-    (squared (past (orientation a b c d) (y_from a e) (centre_y a b c d)))
-    (squared (past (orientation a b c d) (z_from a e) (centre_z a b c d)))
-    (squared (centre_x a b c d) +ℤ squared (centre_y a b c d) +ℤ squared (centre_z a b c d)) hx hy hz l))
+    (sums x y z (squared (past (orientation a b c d) (x_from a e) (cell_centre_x a b c d)))
+    (squared (past (orientation a b c d) (y_from a e) (cell_centre_y a b c d)))
+    (squared (past (orientation a b c d) (z_from a e) (cell_centre_z a b c d)))
+    (squared (cell_centre_x a b c d) +ℤ squared (cell_centre_y a b c d) +ℤ squared (cell_centre_z a b c d)) hx hy hz l))
 
 -- ---- boxes
 
@@ -229,10 +239,10 @@ pub far_box_is_outside : FarBoxIsOutside
 unfolding x_from y_from z_from
 far_box_is_outside a b c d low high e x y z k o i gx gy gz l =
     far_is_outside a b c d e x y z k
-    (gap_below (orientation a b c d) (x_from a low) (x_from a high) (x_from a e) (centre_x a b c d) x o
+    (gap_below (orientation a b c d) (x_from a low) (x_from a high) (x_from a e) (cell_centre_x a b c d) x o
     (step_below (x_of low) (x_of e) (x_of a) i.x_low) (step_below (x_of e) (x_of high) (x_of a) i.x_high) gx)
-    (gap_below (orientation a b c d) (y_from a low) (y_from a high) (y_from a e) (centre_y a b c d) y o
+    (gap_below (orientation a b c d) (y_from a low) (y_from a high) (y_from a e) (cell_centre_y a b c d) y o
     (step_below (y_of low) (y_of e) (y_of a) i.y_low) (step_below (y_of e) (y_of high) (y_of a) i.y_high) gy)
-    (gap_below (orientation a b c d) (z_from a low) (z_from a high) (z_from a e) (centre_z a b c d) z o
+    (gap_below (orientation a b c d) (z_from a low) (z_from a high) (z_from a e) (cell_centre_z a b c d) z o
     (step_below (z_of low) (z_of e) (z_of a) i.z_low) (step_below (z_of e) (z_of high) (z_of a) i.z_high) gz)
     l

@@ -10,19 +10,19 @@ use Rattle.point_order.specs.Sets.{IsIn}
 use Rattle.mesh_check.specs.declared.flaw.Flaw.{Flaw}
 use Rattle.mesh_check.specs.declared.flaw.Flaw.TheVariants.{Empty, FlatCell, Sides, Inside, OpenFacet}
 use Rattle.mesh_check.specs.Flaws.{
-  is_flat_cell,
-  are_apart,
-  is_inside,
   IsFlaw,
-  or_else,
-  sides_with,
+  are_apart,
+  first_flaw,
+  first_flaw_of,
+  flaw_of,
+  inside_of,
+  inside_with,
+  is_flat_cell,
+  is_inside,
   opposite,
   sides_from,
   sides_of,
-  inside_with,
-  inside_of,
-  flaw_of,
-  first_flaw,
+  sides_with,
 }
 
 -- ---- searches
@@ -67,7 +67,7 @@ find_same p q (y ∷ s) f = rw (f y (inl refl), find_same p q s (λ x m. f x (in
 
 -- of one of two, what holds of both holds
 either_of : (P : Flaw → Type 0) (o r : Option Flaw) (flaw : Flaw) → (o ≡ Some flaw → P flaw) →
-    (r ≡ Some flaw → P flaw) → or_else o r ≡ Some flaw → P flaw
+    (r ≡ Some flaw → P flaw) → first_flaw_of o r ≡ Some flaw → P flaw
 either_of P None r flaw f g e = g e
 either_of P (Some x) r flaw f g e = f e
 
@@ -115,7 +115,8 @@ cell_true : (s : List ℕ) (l : List Cell) (c : Cell) (flaw : Flaw) → IsIn c l
 cell_true s l c flaw m e = go (is_flat_cell c) refl e
   where
     -- by the first test
-    go : (b : Bool) → is_flat_cell c ≡ b → (if b then Some (FlatCell c) else or_else (sides_of s c) (inside_of s c)) ≡
+    go : (b : Bool) → is_flat_cell c ≡ b → (if b then Some (FlatCell c) else first_flaw_of (sides_of s c)
+        (inside_of s c)) ≡
         Some flaw → IsFlaw s l flaw
     go true t h = subst (λ v. IsFlaw s l v) (some_same (FlatCell c) flaw h) (m, t)
     go false t h = either_of (λ v. IsFlaw s l v) (sides_of s c) (inside_of s c) flaw (sides_true s l c flaw m)
@@ -133,7 +134,7 @@ first_true s l (c ∷ k) flaw f e =
 -- ---- no flaw
 
 -- neither of two
-none_of : (o r : Option Flaw) → or_else o r ≡ None → (o ≡ None) × (r ≡ None)
+none_of : (o r : Option Flaw) → first_flaw_of o r ≡ None → (o ≡ None) × (r ≡ None)
 none_of None r e = (refl, e)
 none_of (Some x) r e = absurd (none-some x (sym e))
 
@@ -195,7 +196,8 @@ sound s c e = go (is_flat_cell c) refl e
     apart (Open t) h e f me mf = apart_none s t h e f me mf
 
     -- by the first test
-    go : (b : Bool) → is_flat_cell c ≡ b → (if b then Some (FlatCell c) else or_else (sides_of s c) (inside_of s c)) ≡
+    go : (b : Bool) → is_flat_cell c ≡ b → (if b then Some (FlatCell c) else first_flaw_of (sides_of s c)
+        (inside_of s c)) ≡
         None → IsSound s c
     go true t h = absurd (none-some (FlatCell c) (sym h))
     go false t h = let r = none_of (sides_of s c) (inside_of s c) h in
@@ -237,7 +239,7 @@ of_cell : (s : List ℕ) (c : Cell) (flaw : Flaw) → flaw_of s c ≡ Some flaw 
 of_cell s c flaw e = go (is_flat_cell c) e
   where
     -- by the first test
-    go : (b : Bool) → (if b then Some (FlatCell c) else or_else (sides_of s c) (inside_of s c)) ≡ Some flaw →
+    go : (b : Bool) → (if b then Some (FlatCell c) else first_flaw_of (sides_of s c) (inside_of s c)) ≡ Some flaw →
         IsOfCell flaw
     go true h = subst IsOfCell (some_same (FlatCell c) flaw h) tt
     go false h = either_of IsOfCell (sides_of s c) (inside_of s c) flaw (sides_of_cell s c flaw)

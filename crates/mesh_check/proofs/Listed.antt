@@ -23,7 +23,7 @@ use Rattle.std.specs.Cmp.Lexicographic.{slice_cmp}
 use Rattle.std.specs.Ordering.{nat_cmp}
 use Rattle.std.specs.declared.cmp.Ordering.TheVariants.{Less}
 use Rattle.std.proofs.Common.{ap, arith, inl, inr, subst, ◌∙◌}
-use Rattle.list_laws.proofs.Cited.{from_append, mapped_from, sorted_append, sorted_map, within_list}
+use Rattle.list_laws.proofs.Cited.{from_append, mapped_from, rises, sorted_append, sorted_map, within_list}
 use Rattle.point_order.specs.declared.cell.Cell.{Cell}
 use Rattle.point_order.specs.declared.cell.Cell.TheVariants.{Full, Open}
 use Rattle.point_order.specs.CellOrder.{cell_cmp}
@@ -100,3 +100,11 @@ next_below l i x y all one h a b less k d low = elim (le_or (k + 1) i low) [
       | inl k ↦ inl (omega (arith, k))
       | inr e ↦ inr (ap suc e)
     ]
+
+-- and where one is not, the list does not ascend
+pub falls_there : (l : List ℕ) (i x y : ℕ) → 1 ≤ i → i < length l → x ≡ slice_index_or l (i - 1) x
+    → y ≡ slice_index_or l i y → y ≤ x → ¬ (IsAscending l)
+falls_there l i x y one h a b less up =
+    let rise : slice_index_or l (i - 1) x < slice_index_or l i x = rises l (i - 1) i x up (omega arith) h in
+    let second : slice_index_or l i x ≡ y = within_list l i y x h b in
+    absurd (omega (arith, rise, a, second, less))

@@ -22,7 +22,7 @@ use Rattle.std.proofs.Common.{arith, ap, sym, ◌∙◌}
 use Rattle.point_order.specs.declared.cell.Cell.{Cell}
 use Rattle.point_order.specs.declared.cell.Cell.TheVariants.{Full, Open}
 use Rattle.mesh_check.specs.declared.flaw.Flaw.{Flaw}
-use Rattle.mesh_check.specs.Flaws.{flaw_of, first_flaw, listed, or_else}
+use Rattle.mesh_check.specs.Flaws.{first_flaw, first_flaw_of, flaw_of, listed}
 
 -- what is left of a list begins with its next element
 front : {X : Type 0} (l : List X) (i : ℕ) (x : X) → i < length l → x ≡ slice_index_or l i x →
@@ -46,12 +46,12 @@ own (y ∷ l) (suc i) x d h e = own l i x d (omega (arith, h)) e
 pub with_flaw : (s : List ℕ) (l : List Cell) (c : Cell) (flaw : Flaw) → flaw_of s c ≡ Some flaw →
     first_flaw s (c ∷ l) ≡ Some flaw
 unfolding first_flaw
-with_flaw s l c flaw e = ap (λ o. or_else o (first_flaw s l)) e
+with_flaw s l c flaw e = ap (λ o. first_flaw_of o (first_flaw s l)) e
 
 -- and one without
 pub without_flaw : (s : List ℕ) (l : List Cell) (c : Cell) → flaw_of s c ≡ None → first_flaw s (c ∷ l) ≡ first_flaw s l
 unfolding first_flaw
-without_flaw s l c e = ap (λ o. or_else o (first_flaw s l)) e
+without_flaw s l c e = ap (λ o. first_flaw_of o (first_flaw s l)) e
 
 -- the triples that are left
 pub triples_front : (s : List ℕ) (hull : List (List ℕ)) (i : ℕ) (t : List ℕ) → i < length hull →

@@ -208,7 +208,8 @@ seen_turned s a b c r = record {
 pub open_is_sound : (s : List ℕ) (a b c : ℕ) → is_open s (a ∷ b ∷ c ∷ []) ≡ true → IsSound s (Open (a ∷ b ∷ c ∷ []))
 open_is_sound s a b c t =
     let seen = elim (one_true (is_open_from s a b c) (is_open_from s a c b)
-    (second_true (not (is_collinear a b c)) (is_open_from s a b c || is_open_from s a c b) t)) as (λ _. IsSeen s a b c) [
+    (second_true (not (is_collinear a b c)) (is_open_from s a b c || is_open_from s a c b) t))
+    as (λ _. IsSeen s a b c) [
       | inl u ↦ tests_from_open s a b c u
       | inr u ↦ seen_turned s a b c (tests_from_open s a c b u)
     ] in

@@ -53,18 +53,18 @@ use Rattle.mesh_check.specs.declared.flaw.Flaw.TheVariants.{Empty, FlatCell, Sid
 use Rattle.mesh_check.specs.declared.flaw.Verdict.{Verdict}
 use Rattle.mesh_check.specs.declared.flaw.Verdict.TheVariants.{Good, Bad}
 use Rattle.mesh_check.specs.Flaws.{
-  is_flat_cell,
-  are_apart,
-  is_inside,
-  IsFacet,
-  IsInTwo,
-  first_flaw,
-  IsFlaw,
-  IsVerdict,
   AreCells,
+  IsFacet,
+  IsFlaw,
+  IsInTwo,
+  IsVerdict,
+  are_apart,
+  first_flaw,
+  is_flat_cell,
+  is_inside,
   listed,
 }
-use Rattle.mesh_check.specs.Laws.{AreOfComplex, AreSound, IsComplex, GoodIsComplex, FlawIsTrue, FlawShows}
+use Rattle.mesh_check.specs.Laws.{AreInComplex, AreSound, FlawIsTrue, FlawShows, GoodIsComplex, IsComplex}
 use Rattle.mesh_check.proofs.Flaws.{IsSound, first_of_cell, first_true, none_flawed, sound}
 use Rattle.mesh_check.proofs.Triples.{open_is_sound, sound_is_open}
 use Rattle.mesh_check.proofs.Turned.{flat_front, flat_second, flat_third}
@@ -291,7 +291,7 @@ module _ (s : List ℕ) (l : List Cell) (g : AreCells s l) (none : first_flaw s 
 
 -- marked cells of the complex have no flaw
 pub known_sound : (s : List ℕ) (kind : List ℕ → Cell) (l : List (List ℕ)) (marks : List Bool) → IsAscending s →
-    AreKeys s → AreOfComplex s kind l marks → AreSound s kind l marks
+    AreKeys s → AreInComplex s kind l marks → AreSound s kind l marks
 known_sound s kind l marks a k of i e =
     none_flawed s (complex s) (none_first s a k (of i e).0) (kind (slice_index_or l i [])) (of i e).1
 

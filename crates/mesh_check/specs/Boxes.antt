@@ -7,14 +7,17 @@ use Rattle.point_order.specs.Orientation.{orientation, distance, normal_x, norma
 use Rattle.point_order.specs.Spheres.{is_outside}
 
 -- the step from a to the centre of the sphere through the four, times twice their orientation
-abbrev pub centre_x : ℕ → ℕ → ℕ → ℕ → ℤ
-centre_x a b c d = distance a b *ℤ normal_x a c d +ℤ distance a c *ℤ normal_x a d b +ℤ distance a d *ℤ normal_x a b c
+abbrev pub cell_centre_x : ℕ → ℕ → ℕ → ℕ → ℤ
+cell_centre_x a b c d = distance a b *ℤ normal_x a c d +ℤ distance a c *ℤ normal_x a d b +ℤ distance a d *ℤ normal_x a b
+    c
 
-abbrev pub centre_y : ℕ → ℕ → ℕ → ℕ → ℤ
-centre_y a b c d = distance a b *ℤ normal_y a c d +ℤ distance a c *ℤ normal_y a d b +ℤ distance a d *ℤ normal_y a b c
+abbrev pub cell_centre_y : ℕ → ℕ → ℕ → ℕ → ℤ
+cell_centre_y a b c d = distance a b *ℤ normal_y a c d +ℤ distance a c *ℤ normal_y a d b +ℤ distance a d *ℤ normal_y a b
+    c
 
-abbrev pub centre_z : ℕ → ℕ → ℕ → ℕ → ℤ
-centre_z a b c d = distance a b *ℤ normal_z a c d +ℤ distance a c *ℤ normal_z a d b +ℤ distance a d *ℤ normal_z a b c
+abbrev pub cell_centre_z : ℕ → ℕ → ℕ → ℕ → ℤ
+cell_centre_z a b c d = distance a b *ℤ normal_z a c d +ℤ distance a c *ℤ normal_z a d b +ℤ distance a d *ℤ normal_z a b
+    c
 
 -- how far a step of a coordinate from a leads past the centre
 abbrev pub past : ℤ → ℤ → ℤ → ℤ
@@ -29,10 +32,10 @@ squared x = x *ℤ x
 abbrev pub FarIsOutside : Type 0
 FarIsOutside =
     (a b c d e : ℕ) (x y z : ℤ) → AreFiveKeys a b c d e →
-    squared x ≤ℤ squared (past (orientation a b c d) (x_from a e) (centre_x a b c d)) →
-    squared y ≤ℤ squared (past (orientation a b c d) (y_from a e) (centre_y a b c d)) →
-    squared z ≤ℤ squared (past (orientation a b c d) (z_from a e) (centre_z a b c d)) →
-    (squared (centre_x a b c d) +ℤ squared (centre_y a b c d) +ℤ squared (centre_z a b c d))
+    squared x ≤ℤ squared (past (orientation a b c d) (x_from a e) (cell_centre_x a b c d)) →
+    squared y ≤ℤ squared (past (orientation a b c d) (y_from a e) (cell_centre_y a b c d)) →
+    squared z ≤ℤ squared (past (orientation a b c d) (z_from a e) (cell_centre_z a b c d)) →
+    (squared (cell_centre_x a b c d) +ℤ squared (cell_centre_y a b c d) +ℤ squared (cell_centre_z a b c d))
     <ℤ (squared x +ℤ squared y +ℤ squared z) →
     is_outside a b c d e ≡ true
 
@@ -57,9 +60,9 @@ pub record IsInBox (low high e : ℕ) : Type 0 where
 abbrev pub FarBoxIsOutside : Type 0
 FarBoxIsOutside =
     (a b c d low high e : ℕ) (x y z : ℤ) → AreFiveKeys a b c d e → pos 0 <ℤ orientation a b c d → IsInBox low high e →
-    IsGap (orientation a b c d) (x_from a low) (x_from a high) (centre_x a b c d) x →
-    IsGap (orientation a b c d) (y_from a low) (y_from a high) (centre_y a b c d) y →
-    IsGap (orientation a b c d) (z_from a low) (z_from a high) (centre_z a b c d) z →
-    (squared (centre_x a b c d) +ℤ squared (centre_y a b c d) +ℤ squared (centre_z a b c d))
+    IsGap (orientation a b c d) (x_from a low) (x_from a high) (cell_centre_x a b c d) x →
+    IsGap (orientation a b c d) (y_from a low) (y_from a high) (cell_centre_y a b c d) y →
+    IsGap (orientation a b c d) (z_from a low) (z_from a high) (cell_centre_z a b c d) z →
+    (squared (cell_centre_x a b c d) +ℤ squared (cell_centre_y a b c d) +ℤ squared (cell_centre_z a b c d))
     <ℤ (squared x +ℤ squared y +ℤ squared z) →
     is_outside a b c d e ≡ true

@@ -1,6 +1,24 @@
 -- What is wrong with lists that are to be the complex of a set of points, and which flaw is the first.
 -- The two lists are one list of cells: the Full cells, and the triples as Open cells.
-use Rattle.std.specs.Prelude.{◌≡◌, ℕ, Bool, true, false, not, ◌||◌, List, [], ◌∷◌, ◌⊎◌, Option, None, Some, if◌then◌else◌, map, ◌++◌}
+use Rattle.std.specs.Prelude.{
+  ◌≡◌,
+  ℕ,
+  Bool,
+  true,
+  false,
+  not,
+  ◌||◌,
+  List,
+  [],
+  ◌∷◌,
+  ◌⊎◌,
+  Option,
+  None,
+  Some,
+  if◌then◌else◌,
+  map,
+  ◌++◌,
+}
 use Rattle.std.specs.List.{find, list_any}
 use Rattle.std.specs.List.Sorted.{IsStrictlySortedBy}
 use Rattle.std.specs.declared.cmp.Ordering.{Ordering}
@@ -87,9 +105,9 @@ IsFlaw s l (OpenFacet f) = IsFacet l f × ¬ (IsInTwo l f)
 -- ---- the first of them
 
 -- the first flaw, if there is one, else the second
-abbrev pub or_else : Option Flaw → Option Flaw → Option Flaw
-or_else None r = r
-or_else (Some flaw) r = Some flaw
+abbrev pub first_flaw_of : Option Flaw → Option Flaw → Option Flaw
+first_flaw_of None r = r
+first_flaw_of (Some flaw) r = Some flaw
 
 -- points on opposite sides of a triple, e being found, with the least that lies opposite e
 abbrev pub sides_with : List ℕ → Cell → Option ℕ → Option ℕ → Option Flaw
@@ -118,12 +136,12 @@ inside_of s c = inside_with c (find (is_inside s c) s)
 
 -- the first flaw of a cell
 abbrev pub flaw_of : List ℕ → Cell → Option Flaw
-flaw_of s c = if is_flat_cell c then Some (FlatCell c) else or_else (sides_of s c) (inside_of s c)
+flaw_of s c = if is_flat_cell c then Some (FlatCell c) else first_flaw_of (sides_of s c) (inside_of s c)
 
 -- the first flaw of the cells, in their order
 unfoldable pub first_flaw : List ℕ → List Cell → Option Flaw
 first_flaw s [] = None
-first_flaw s (c ∷ l) = or_else (flaw_of s c) (first_flaw s l)
+first_flaw s (c ∷ l) = first_flaw_of (flaw_of s c) (first_flaw s l)
 
 -- the least facet that is not one of exactly two cells
 pub record IsLeastOpen (l : List Cell) (f : Facet) : Type 0 where

@@ -17,16 +17,16 @@ abbrev pub IsComplex : List ℕ → List Cell → Type 0
 IsComplex s l = (is_solid s ≡ true) × (l ≡ complex s)
 
 -- the marked cells of a list are of the complex of s, which is solid where there is one
-abbrev pub AreOfComplex : List ℕ → (List ℕ → Cell) → List (List ℕ) → List Bool → Type 0
-AreOfComplex s kind l marks =
+abbrev pub AreInComplex : List ℕ → (List ℕ → Cell) → List (List ℕ) → List Bool → Type 0
+AreInComplex s kind l marks =
     (i : ℕ) → slice_index_or marks i false ≡ true →
     (is_solid s ≡ true) × IsIn (kind (slice_index_or l i [])) (complex s)
 
 -- the lists are the complex, or their marked cells are of it
-abbrev pub IsBeside : List ℕ → List (List ℕ) → List (List ℕ) → Compared → Type 0
-IsBeside s cells hull Same = IsComplex s (listed cells hull)
-IsBeside s cells hull (Other known) =
-    AreOfComplex s Full cells known.cells.items × AreOfComplex s Open hull known.hull.items
+abbrev pub StandsBeside : List ℕ → List (List ℕ) → List (List ℕ) → Compared → Type 0
+StandsBeside s cells hull Same = IsComplex s (listed cells hull)
+StandsBeside s cells hull (Other known) =
+    AreInComplex s Full cells known.cells.items × AreInComplex s Open hull known.hull.items
 
 -- no marked cell of a list has a flaw
 abbrev pub AreSound : List ℕ → (List ℕ → Cell) → List (List ℕ) → List Bool → Type 0

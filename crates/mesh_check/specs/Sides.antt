@@ -1,5 +1,22 @@
 -- The facets of cells, each with its cell, in order, part by part.
-use Rattle.std.specs.Prelude.{◌≡◌, ℕ, Bool, true, false, not, ◌&&◌, nat_lt, List, [], ◌∷◌, Option, None, Some, ◌↔◌, if◌then◌else◌}
+use Rattle.std.specs.Prelude.{
+  ◌≡◌,
+  ℕ,
+  Bool,
+  true,
+  false,
+  not,
+  ◌&&◌,
+  nat_lt,
+  List,
+  [],
+  ◌∷◌,
+  Option,
+  None,
+  Some,
+  ◌↔◌,
+  if◌then◌else◌,
+}
 use Rattle.std.specs.Ordering.{ordering_then}
 use Rattle.std.specs.declared.cmp.Ordering.{Ordering}
 use Rattle.std.specs.declared.cmp.Ordering.TheVariants.{Less}
@@ -13,7 +30,7 @@ use Rattle.std.specs.List.{flat_map}
 use Rattle.mesh_check.specs.declared.gaps.Part.{Part}
 use Rattle.mesh_check.specs.declared.gaps.Part.TheVariants.{Between, From, Pairs}
 use Rattle.mesh_check.specs.declared.gaps.Side.{Side}
-use Rattle.mesh_check.specs.Flaws.{facet_cmp, IsFacet, IsInTwo, IsLeastOpen}
+use Rattle.mesh_check.specs.Flaws.{IsFacet, IsInTwo, IsLeastOpen, facet_cmp}
 
 -- by their facets, and those of one facet by their cells
 abbrev pub side_cmp : Side → Side → Ordering

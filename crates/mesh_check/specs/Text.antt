@@ -11,16 +11,16 @@ use Rattle.mesh_check.specs.declared.flaw.Verdict.TheVariants.{Good, Bad}
 use Rattle.mesh_check.specs.Flaws.{IsVerdict}
 
 -- points of an ascending list as indices, each with a space before it
-abbrev pub places : List ℕ → List ℕ → List ℕ
-places s points = concat (map (λ p. codes " " ++ decimal (index_of s p)) points)
+abbrev pub places_text : List ℕ → List ℕ → List ℕ
+places_text s points = concat (map (λ p. codes " " ++ decimal (index_of s p)) points)
 
 -- a flaw, and the points that it names
 abbrev pub flaw_words : List ℕ → Flaw → List ℕ
 flaw_words s Empty = codes "bad empty"
-flaw_words s (FlatCell c) = codes "bad flat" ++ places s (points_of c)
-flaw_words s (Sides t e f) = codes "bad sides" ++ places s t ++ places s (e ∷ f ∷ [])
-flaw_words s (Inside c p) = codes "bad inside" ++ places s (points_of c) ++ places s (p ∷ [])
-flaw_words s (OpenFacet f) = codes "bad facet" ++ places s (points_on f)
+flaw_words s (FlatCell c) = codes "bad flat" ++ places_text s (points_of c)
+flaw_words s (Sides t e f) = codes "bad sides" ++ places_text s t ++ places_text s (e ∷ f ∷ [])
+flaw_words s (Inside c p) = codes "bad inside" ++ places_text s (points_of c) ++ places_text s (p ∷ [])
+flaw_words s (OpenFacet f) = codes "bad facet" ++ places_text s (points_on f)
 
 abbrev pub verdict_words : List ℕ → Verdict → List ℕ
 verdict_words s Good = codes "good"

@@ -1,12 +1,12 @@
 //! Lists beside the complex that is made of the points.
 
-ghost use Rattle.std.specs.Prelude.{◌≡◌, IfOk, false, true, slice_index_or};
+ghost use Rattle.std.specs.Prelude.{◌≡◌, ◌↔◌, IfOk, IsTrue, MatchOption, false, true, slice_index_or};
 ghost use Rattle.std.specs.List.Sorted.{IsStrictlySortedBy};
 ghost use Rattle.point_order.specs.CellOrder.{cell_cmp};
 ghost use Rattle.point_order.specs.Sets.{IsAscending};
 ghost use Rattle.point_order.specs.Solid.{is_solid as is_solid_of};
 ghost use Rattle.mesh_check.specs.Flaws.{listed};
-ghost use Rattle.mesh_check.specs.Laws.{IsBeside};
+ghost use Rattle.mesh_check.specs.Laws.{StandsBeside};
 
 use cell_lists::QuadList;
 use cloud_cells::{Compared, Known, Made};
@@ -23,7 +23,7 @@ fn is_solid(points: &[Point]) -> bool
 
 // Whether points ascend.
 fn is_ascending(points: &[Point]) -> bool
-    ensures { result ≡ true → IsAscending points.now }
+    ensures { IsTrue result ↔ IsAscending points.now }
 {
     for place in 1..points.len() {
         if points[place].key() <= points[place - 1].key() {
@@ -34,11 +34,14 @@ fn is_ascending(points: &[Point]) -> bool
 }
 
 /// The complex of points, where they ascend and four of them are independent: what `tell` can be given, made before the
-/// lists are there.
+/// lists are there. There is none exactly where they do not ascend or are not solid.
 ///
 /// # Errors
 /// Want of memory.
-pub fn made_of(alloc: Global, points: &[Point]) -> Result<Option<Made>, AllocError> {
+pub fn made_of(alloc: Global, points: &[Point]) -> Result<Option<Made>, AllocError>
+    ensures { IfOk result (λ made. MatchOption made (¬ (IsAscending points.now × (is_solid_of points.now ≡ true)))
+        (λ m. m ≡ points.now)) }
+{
     if is_ascending(points) && is_solid(points) {
         return Ok(Some(Made::of_points(alloc, points)?));
     }
@@ -57,7 +60,7 @@ pub(crate) fn beside_complex(
 ) -> Result<Compared, AllocError>
     requires points { IsAscending points.now }
     requires order { IsStrictlySortedBy cell_cmp (listed cells.now hull.now) }
-    ensures { IfOk result (IsBeside points.now cells.now hull.now) }
+    ensures { IfOk result (StandsBeside points.now cells.now hull.now) }
 {
     if let Some(made) = made {
         if made.is_of(points) {

@@ -8,7 +8,7 @@ ghost use Rattle.mesh_check.specs.Text.{
   IsTold,
   flaw_words,
   is_good as is_good_of,
-  places,
+  places_text,
   verdict_text as verdict_text_of,
   verdict_words,
 };
@@ -24,7 +24,7 @@ use text_sheets::Indices;
 
 // Appends points as indices, each with a space before it.
 fn put_places(text: &mut Vec<u8>, indices: &Indices, points: &[Point]) -> Result<(), AllocError>
-    ensures { OnOk result (text.new.items ≡ text.old.items ++ places indices.now points.now) }
+    ensures { OnOk result (text.new.items ≡ text.old.items ++ places_text indices.now points.now) }
 {
     for point in points {
         let mut buffer = Buffer::new();

@@ -5,7 +5,7 @@ use Rattle.mesh_check.specs.declared.flaw.Flaw.TheVariants.{Empty, OpenFacet}
 use Rattle.point_order.specs.declared.cell.Cell.TheVariants.{Full, Open}
 use Rattle.cloud_cells.specs.declared.known.Compared.{Compared}
 use Rattle.mesh_check.specs.Flaws.{listed}
-use Rattle.mesh_check.specs.Laws.{IsBeside}
+use Rattle.mesh_check.specs.Laws.{StandsBeside}
 use Rattle.mesh_check.specs.Sides.{OpenIs}
 use Rattle.mesh_check.proofs.Verdicts.{bad_says, by_cell, good_is_complex, known_sound}
 use Rattle.mesh_check.proofs.judging.check_beside.Goals as goal
@@ -16,7 +16,7 @@ returns-then-are_empty-clause-bad c flaw e = bad_says c.args.points.now (listed 
 
 pub returns-in-Same-clause-good : goal.returns-in-Same-clause-good
 returns-in-Same-clause-good c e =
-    subst (λ (r : Compared). IsBeside c.args.points.now c.args.cells.now c.args.hull.now r) c.in-Same.is
+    subst (λ (r : Compared). StandsBeside c.args.points.now c.args.cells.now c.args.hull.now r) c.in-Same.is
     c.in_ok-beside_complex.ensures
 
 pub returns-in-Same-clause-verdict : goal.returns-in-Same-clause-verdict
@@ -27,7 +27,7 @@ returns-in-Same-clause-verdict c =
 
 pub first_flaw-requires : goal.first_flaw-requires
 first_flaw-requires c =
-    let of = subst (λ (r : Compared). IsBeside c.args.points.now c.args.cells.now c.args.hull.now r) c.in-Other.is
+    let of = subst (λ (r : Compared). StandsBeside c.args.points.now c.args.cells.now c.args.hull.now r) c.in-Other.is
     c.in_ok-beside_complex.ensures in
     record {
       cells = known_sound c.args.points.now Full c.args.cells.now _ c.requires.points c.requires.keys of.0;
