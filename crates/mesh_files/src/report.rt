@@ -21,15 +21,15 @@ ghost use Rattle.mesh_files.specs.Text.{
   report_text,
 };
 
+use crate::rows::{Beside, InTurn, RowLines, Rows, Way};
 use crate::shapes::put_shapes;
 use alpha_complex::Shape;
 use byte_ends::{Failed, Sink};
 use edit_history::Reply;
 use point_order::{Cell, Point};
 use std::alloc::{AllocError, Global};
-use text_sheets::{
-    Indices, Sheet, WholeText, put_full_line, put_hull_line, put_number_and, put_three, put_title,
-};
+use std::thread::Threads;
+use text_sheets::{Indices, Sheet, WholeText, put_hull_line, put_number_and, put_three, put_title};
 
 /// What a report tells.
 ///
@@ -124,17 +124,14 @@ pub(crate) fn hull_count(cells: &[Cell]) -> usize
 }
 
 // Puts the block of the Full cells.
-fn put_cells<O: Sink>(sheet: &mut Sheet<O>, indices: &Indices, cells: &[Cell])
+fn put_cells<W: Way, O: Sink>(way: &W, sheet: &mut Sheet<O>, indices: &Indices, cells: &[Cell])
+    requires { W.is_open way.now }
     ensures { Puts O.holds O.faults sheet.old sheet.new
         (block (codes "cells") (map (indices_line indices.now) (full_corners cells.now))) }
 {
     put_title(sheet, b"cells", full_count(cells));
-    for cell in cells {
-        match *cell {
-            Cell::Full(quad) => put_full_line(sheet, indices, quad),
-            Cell::Open(_) => {}
-        }
-    }
+    let rows = Rows::Cells(cells);
+    way.put_rows(sheet, &RowLines { indices, rows });
 }
 
 // Puts the block of the Open cells.
@@ -180,27 +177,29 @@ fn put_order<O: Sink>(sheet: &mut Sheet<O>, order: &Option<Vec<u32>>)
 }
 
 // Puts what the report tells of the mesh: its replies, points, cells and hull.
-fn put_mesh<O: Sink>(sheet: &mut Sheet<O>, report: &Report)
-    requires { IsAscending report.now.points.items }
+fn put_mesh<W: Way, O: Sink>(way: &W, sheet: &mut Sheet<O>, report: &Report)
+    requires open { W.is_open way.now }
+    requires points { IsAscending report.now.points.items }
     ensures { Puts O.holds O.faults sheet.old sheet.new (mesh_blocks (parts_of report.now)) }
 {
     let points: &[Point] = &report.points;
     let indices = Indices::new(points);
     put_replies(sheet, &report.replies);
     put_points(sheet, points);
-    put_cells(sheet, &indices, report.cells);
+    put_cells(way, sheet, &indices, report.cells);
     put_hull(sheet, &indices, report.cells);
 }
 
 // Puts the text of the report.
-fn put_all<O: Sink>(sheet: &mut Sheet<O>, report: &Report)
+fn put_all<W: Way, O: Sink>(way: &W, sheet: &mut Sheet<O>, report: &Report)
+    requires open { W.is_open way.now }
     requires points { IsAscending report.now.points.items }
     requires shapes { AreCounted (shapes_seen report.now.shapes.items) }
     ensures { Puts O.holds O.faults sheet.old sheet.new (report_text (parts_of report.now)) }
 {
     sheet.put(b"mesh3-out 1\n");
-    put_mesh(sheet, report);
-    put_shapes(sheet, &report.shapes);
+    put_mesh(way, sheet, report);
+    put_shapes(way, sheet, &report.shapes);
     put_order(sheet, &report.order);
     sheet.put(b"end\n");
 }
@@ -222,7 +221,33 @@ pub fn put_report<O: Sink>(out: &mut O, report: &Report) -> Result<(), Failed>
     ensures done { (Rose (O.faults out.old) (O.faults out.new) → ⊥) → IsOk result }
 {
     let mut sheet = Sheet::new(out);
-    put_all(&mut sheet, report);
+    put_all(&InTurn, &mut sheet, report);
+    sheet.close()
+}
+
+/// Writes what `put_report` writes. The lines of the cells of the mesh and of the edges, triangles and cells of shapes
+/// are made by as many threads as there are processors, a few megabytes before they are written; where memory for them
+/// is refused, they are made one after another.
+///
+/// # Errors
+///
+/// `Failed` where the sink failed. Then it has taken a front of the text.
+pub fn put_report_by_threads<R: Threads + Sync, O: Sink>(
+    rt: &R,
+    alloc: Global,
+    out: &mut O,
+    report: &Report,
+) -> Result<(), Failed>
+    requires points { IsAscending report.now.points.items }
+    requires shapes { AreCounted (shapes_seen report.now.shapes.items) }
+    ensures whole { OnOk result (Appends (O.holds out.old) (O.holds out.new) (report_text (parts_of report.now))) }
+    ensures front { AppendsFront (O.holds out.old) (O.holds out.new) (report_text (parts_of report.now)) }
+    ensures cause { HasCause (O.faults out.old) (O.faults out.new) result }
+    ensures done { (Rose (O.faults out.old) (O.faults out.new) → ⊥) → IsOk result }
+{
+    let way = Beside { rt, alloc };
+    let mut sheet = Sheet::new(out);
+    put_all(&way, &mut sheet, report);
     sheet.close()
 }
 

@@ -37,32 +37,11 @@ ghost use Rattle.mesh_files.specs.Text.{
   shape_blocks,
 };
 
-use alpha_complex::{Kind, Shape};
+use crate::rows::{InTurn, RowLines, Rows, Way, put_face};
+use alpha_complex::Shape;
 use byte_ends::{Failed, Sink};
-use point_order::Point;
 use std::alloc::{AllocError, Global};
-use text_sheets::{
-    Indices, Sheet, WholeText, put_full_line, put_indices, put_number_and, put_title,
-};
-
-fn word_of(kind: Kind) -> &'static str
-    ensures { result.now ≡ kind_word kind }
-{
-    match kind {
-        Kind::Singular => "singular",
-        Kind::Regular => "regular",
-        Kind::Interior => "interior",
-    }
-}
-
-// Puts the line of a face.
-fn put_face<O: Sink>(sheet: &mut Sheet<O>, indices: &Indices, corners: &[Point], kind: Kind)
-    ensures { Puts O.holds O.faults sheet.old sheet.new (face_line indices.now corners.now kind) }
-{
-    put_indices(sheet, indices, corners);
-    sheet.put(word_of(kind).as_bytes());
-    sheet.put(b"\n");
-}
+use text_sheets::{Indices, Sheet, WholeText, put_number_and, put_title};
 
 // Puts the block of the points, which count themselves.
 fn put_points<O: Sink>(sheet: &mut Sheet<O>, indices: &Indices, shape: &Shape)
@@ -77,105 +56,72 @@ fn put_points<O: Sink>(sheet: &mut Sheet<O>, indices: &Indices, shape: &Shape)
     }
 }
 
-// Puts the line of the pair of an index, where it is admitted.
-fn put_pair<O: Sink>(sheet: &mut Sheet<O>, indices: &Indices, shape: &Shape, index: usize)
-    requires { index < length shape.now.pairs }
-    ensures { Puts O.holds O.faults sheet.old sheet.new
-        (held_line (λ f. face_line indices.now f.0 f.1) (slice_index_or shape.now.pairs index None)) }
-{
-    match shape.pair(index) {
-        Some((pair, kind)) => put_face(sheet, indices, pair.points(), kind),
-        None => {}
-    }
-}
-
 // Puts the block of the edges.
-fn put_pairs<O: Sink>(sheet: &mut Sheet<O>, indices: &Indices, shape: &Shape)
+fn put_pairs<W: Way, O: Sink>(way: &W, sheet: &mut Sheet<O>, indices: &Indices, shape: &Shape)
+    requires { W.is_open way.now }
     ensures { Puts O.holds O.faults sheet.old sheet.new
         (block (codes "edges") (map (λ f. face_line indices.now f.0 f.1) (held shape.now.pairs))) }
 {
     put_title(sheet, b"edges", shape.pair_count());
-    for index in 0..shape.pair_slots() {
-        put_pair(sheet, indices, shape, index);
-    }
-}
-
-// Puts the line of the triple of an index, where it is admitted.
-fn put_triple<O: Sink>(sheet: &mut Sheet<O>, indices: &Indices, shape: &Shape, index: usize)
-    requires { index < length shape.now.triples }
-    ensures { Puts O.holds O.faults sheet.old sheet.new (held_line (λ f. face_line indices.now f.0 f.1)
-        (slice_index_or shape.now.triples index None)) }
-{
-    match shape.triple(index) {
-        Some((triple, kind)) => put_face(sheet, indices, triple.points(), kind),
-        None => {}
-    }
+    let rows = Rows::Edges(shape);
+    way.put_rows(sheet, &RowLines { indices, rows });
 }
 
 // Puts the block of the triangles.
-fn put_triples<O: Sink>(sheet: &mut Sheet<O>, indices: &Indices, shape: &Shape)
+fn put_triples<W: Way, O: Sink>(way: &W, sheet: &mut Sheet<O>, indices: &Indices, shape: &Shape)
+    requires { W.is_open way.now }
     ensures { Puts O.holds O.faults sheet.old sheet.new (block (codes "triangles")
         (map (λ f. face_line indices.now f.0 f.1) (held shape.now.triples))) }
 {
     put_title(sheet, b"triangles", shape.triple_count());
-    for index in 0..shape.triple_slots() {
-        put_triple(sheet, indices, shape, index);
-    }
-}
-
-// Puts the line of the cell of an index, where it is admitted.
-fn put_cell<O: Sink>(sheet: &mut Sheet<O>, indices: &Indices, shape: &Shape, index: usize)
-    requires { index < length shape.now.cells }
-    ensures { Puts O.holds O.faults sheet.old sheet.new
-        (held_line (indices_line indices.now) (slice_index_or shape.now.cells index None)) }
-{
-    match shape.cell(index) {
-        Some(quad) => put_full_line(sheet, indices, quad),
-        None => {}
-    }
+    let rows = Rows::Triangles(shape);
+    way.put_rows(sheet, &RowLines { indices, rows });
 }
 
 // Puts the block of the cells.
-fn put_cells<O: Sink>(sheet: &mut Sheet<O>, indices: &Indices, shape: &Shape)
+fn put_cells<W: Way, O: Sink>(way: &W, sheet: &mut Sheet<O>, indices: &Indices, shape: &Shape)
+    requires { W.is_open way.now }
     ensures { Puts O.holds O.faults sheet.old sheet.new
         (block (codes "cells") (map (indices_line indices.now) (held shape.now.cells))) }
 {
     put_title(sheet, b"cells", shape.cell_count());
-    for index in 0..shape.cell_slots() {
-        put_cell(sheet, indices, shape, index);
-    }
+    let rows = Rows::Quads(shape);
+    way.put_rows(sheet, &RowLines { indices, rows });
 }
 
 // Puts the faces of a shape, kind by kind.
-fn put_faces<O: Sink>(sheet: &mut Sheet<O>, shape: &Shape)
-    requires { IsAscending (counted (shape_seen shape.now)) }
+fn put_faces<W: Way, O: Sink>(way: &W, sheet: &mut Sheet<O>, shape: &Shape)
+    requires open { W.is_open way.now }
+    requires points { IsAscending (counted (shape_seen shape.now)) }
     ensures { Puts O.holds O.faults sheet.old sheet.new
         (face_blocks (counted (shape_seen shape.now)) (shape_seen shape.now)) }
 {
     let indices = Indices::new(shape.points());
     put_points(sheet, &indices, shape);
-    put_pairs(sheet, &indices, shape);
-    put_triples(sheet, &indices, shape);
-    put_cells(sheet, &indices, shape);
+    put_pairs(way, sheet, &indices, shape);
+    put_triples(way, sheet, &indices, shape);
+    put_cells(way, sheet, &indices, shape);
 }
 
 // Puts the block of a radius.
-fn put_shape<O: Sink>(sheet: &mut Sheet<O>, radius: u64, shape: &Shape)
-    requires { IsAscending (counted (shape_seen shape.now)) }
+fn put_shape<W: Way, O: Sink>(way: &W, sheet: &mut Sheet<O>, radius: u64, shape: &Shape)
+    requires open { W.is_open way.now }
+    requires points { IsAscending (counted (shape_seen shape.now)) }
     ensures { Puts O.holds O.faults sheet.old sheet.new (shape_text_of radius (shape_seen shape.now)) }
 {
     sheet.put(b"shape ");
     put_number_and(sheet, radius, b"\n");
-    put_faces(sheet, shape);
+    put_faces(way, sheet, shape);
 }
 
 // Puts one block for each radius.
-pub fn put_shapes<O: Sink>(sheet: &mut Sheet<O>, shapes: &[(u64, Shape)])
-    requires { AreCounted (shapes_seen shapes.now) }
+pub(crate) fn put_shapes<W: Way, O: Sink>(way: &W, sheet: &mut Sheet<O>, shapes: &[(u64, Shape)])
+    requires open { W.is_open way.now }
+    requires counted { AreCounted (shapes_seen shapes.now) }
     ensures { Puts O.holds O.faults sheet.old sheet.new (shape_blocks (shapes_seen shapes.now)) }
 {
     for (radius, shape) in shapes {
-        put_shape(sheet, *radius, shape);
+        put_shape(way, sheet, *radius, shape);
     }
 }
 
@@ -185,7 +131,7 @@ fn put_block<O: Sink>(out: &mut O, radius: u64, shape: &Shape) -> Result<(), Fai
     ensures { OnOk result (Appends (O.holds out.old) (O.holds out.new) (shape_text_of radius (shape_seen shape.now))) }
 {
     let mut sheet = Sheet::new(out);
-    put_shape(&mut sheet, radius, shape);
+    put_shape(&InTurn, &mut sheet, radius, shape);
     sheet.close()
 }
 

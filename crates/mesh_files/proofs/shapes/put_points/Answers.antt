@@ -1,9 +1,8 @@
-use Rattle.std.proofs.Common.{◌≡◌, ◌∙◌, sym, ap, subst, List, [], ◌∷◌, ℕ, refl, length}
+use Rattle.std.proofs.Common.{◌≡◌, ◌∙◌, sym, ap, List, [], ◌∷◌, ℕ, refl, length}
 use Rattle.std.specs.Prelude.{map, codes}
 use Rattle.std.specs.List.{concat}
 use Rattle.std.proofs.lemmas.List.{length-map}
 use Rattle.alpha_complex.specs.declared.shape.Kind.{Kind}
-use Rattle.point_order.specs.Sets.{IsAscending}
 use Rattle.mesh_files.specs.Text.{face_line, points_in}
 use Rattle.text_sheets.proofs.Cited.{ends, goes_on, starts}
 use Rattle.text_sheets.proofs.Cited.{below_end, past_end}

@@ -3,7 +3,7 @@ use Rattle.std.proofs.Common.{[], ◌∷◌, drop}
 use Rattle.std.specs.Prelude.{map, codes}
 use Rattle.std.specs.List.{concat}
 use Rattle.text_sheets.specs.Lines.{block}
-use Rattle.mesh_files.specs.Text.{face_line, points_in}
+use Rattle.mesh_files.specs.Text.{face_line}
 use Rattle.text_sheets.proofs.Cited.{PutsBut}
 use Rattle.mesh_files.proofs.shapes.put_points.Given as goal
 

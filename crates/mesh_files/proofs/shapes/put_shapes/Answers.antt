@@ -7,10 +7,10 @@ use Rattle.mesh_files.specs.Text.{shape_text, shape_blocks}
 use Rattle.text_sheets.proofs.Cited.{ends, goes_on, leaves_all}
 use Rattle.mesh_files.proofs.shapes.put_shapes.Goals as goal
 
-pub put_shape-requires : goal.put_shape-requires
-put_shape-requires g c =
+pub put_shape-requires-clause-points : goal.put_shape-requires-clause-points
+put_shape-requires-clause-points g c =
     let seen : ℕ × ShapeSlots → ℕ × ShapeParts = λ s. (s.0, shape_seen s.1) in
-    c.requires.ascending (seen c.loop-radius-item.result)
+    c.requires.counted.ascending (seen c.loop-radius-item.result)
     (mapped_at seen c.args.shapes.now c.loop-radius.radius-index c.loop-radius-item.result c.loop-radius-test.true
     c.loop-radius-item.is)
 

@@ -1,28 +1,17 @@
-use Rattle.std.proofs.Common.{List, ℕ}
-use Rattle.std.specs.Prelude.{codes}
+use Rattle.std.proofs.Common.{List, ℕ, ◌∙◌, sym}
+use Rattle.std.specs.Prelude.{map, codes}
+use Rattle.std.specs.List.{concat}
+use Rattle.std.proofs.lemmas.List.{length-map}
 use Rattle.alpha_complex.specs.declared.shape.Kind.{Kind}
-use Rattle.mesh_files.specs.Text.{face_line, points_in}
-use Rattle.text_sheets.proofs.Cited.{below_end}
-use Rattle.text_sheets.proofs.Cited.{held_ends, held_goes_on, held_starts}
+use Rattle.mesh_files.specs.Text.{face_line}
+use Rattle.text_sheets.specs.Lines.{held, held_line}
+use Rattle.text_sheets.proofs.Cited.{block_put, held_lines}
 use Rattle.mesh_files.proofs.shapes.put_triples.Goals as goal
-
-pub loop-index-init : goal.loop-index-init
-loop-index-init g c =
-    let line = (λ (f : List ℕ × Kind). face_line c.args.indices.now f.0 f.1) in
-    held_starts (codes "triangles") line c.args.shape.now.triples c.triple_count.result c.triple_count.ensures
-    c.put_title.ensures
-
-pub put_triple-requires : goal.put_triple-requires
-put_triple-requires g c = below_end _ _ _ c.loop-index-test.true c.triple_slots-index-end.ensures
-
-pub loop-index-preserved : goal.loop-index-preserved
-loop-index-preserved g c =
-    let line = (λ (f : List ℕ × Kind). face_line c.args.indices.now f.0 f.1) in
-    held_goes_on line c.args.shape.now.triples c.loop-index.index _ c.loop-index-test.true
-    c.triple_slots-index-end.ensures c.loop-index.invariant c.put_triple.ensures
 
 pub returns : goal.returns
 returns g c =
     let line = (λ (f : List ℕ × Kind). face_line c.args.indices.now f.0 f.1) in
-    held_ends line c.args.shape.now.triples c.loop-index.index _ c.loop-index-test.false
-    c.triple_slots-index-end.ensures c.loop-index.invariant
+    let slots = c.args.shape.now.triples in
+    block_put (codes "triangles") (map line (held slots)) (concat (map (held_line line) slots)) c.triple_count.result
+    (c.triple_count.ensures ∙ sym (length-map (held slots) line)) (held_lines line slots) c.put_title.ensures
+    c.put_rows.ensures

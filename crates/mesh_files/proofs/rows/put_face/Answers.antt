@@ -1,6 +1,6 @@
 use Rattle.std.proofs.Common.{◌∙◌}
 use Rattle.text_sheets.proofs.Cited.{then}
-use Rattle.mesh_files.proofs.shapes.put_face.Goals as goal
+use Rattle.mesh_files.proofs.rows.put_face.Goals as goal
 
 pub returns : goal.returns
 returns g c =
