@@ -30,10 +30,10 @@ use Rattle.std.proofs.Common.{
   take,
   append-nil,
 }
-use Rattle.std.specs.Prelude.{not, ◌&&◌, ◌||◌}
+use Rattle.std.specs.Prelude.{map, not, ◌&&◌, ◌||◌}
 use Rattle.std.specs.List.{AllZip, filter, flat_map, list_all, list_any}
 use Rattle.std.proofs.lemmas.Bool.Decides.{nat_tests}
-use Rattle.std.proofs.lemmas.List.{drop_all, drop_more, take_all}
+use Rattle.std.proofs.lemmas.List.{drop_all, drop_more, ext_get_or, get_or-map, length-map, take_all}
 use Rattle.std.proofs.lemmas.List.Elements.{filter-append}
 use Rattle.std.proofs.lemmas.List.Folds.{list_all-append}
 use Rattle.std.proofs.Math.Bool.{and-true, and_assoc, or-false, or_assoc}
@@ -201,6 +201,18 @@ pub zip_written : {X Y : Type 0} (R : X → Y → Type 0) (d : X) (e : Y) (xs : 
 zip_written {X} {Y} R d e xs n slice before ys v k m a f =
     subst (AllZip R xs) (sym (written_back n before ys (sym (ap length v) ∙ k) (a ∙ k)))
     (zip_places R d e xs ys (a ∙ k ∙ m) (λ i l. f i (subst (λ j. i < j) (sym (k ∙ m)) l)))
+
+-- where what is written to each place is what a function gives of that of a list, the function's values stand in it
+pub written_is_map : {X Y : Type 0} (f : X → Y) (d : X) (e : Y) (xs : List X) (n : ℕ) (slice before ys : List Y)
+    → slice ≡ before → length slice ≡ n → n ≡ length xs → length ys ≡ length slice
+    → ((i : ℕ) → i < length slice → get_or ys i e ≡ f (get_or xs i d)) →
+    take n (ys ++ drop (length ys) before) ≡ map f xs
+written_is_map {X} {Y} f d e xs n slice before ys v k m a h =
+    let count : length ys ≡ length xs = a ∙ k ∙ m in
+    written_back n before ys (sym (ap length v) ∙ k) (a ∙ k)
+    ∙ ext_get_or e ys (map f xs) (count ∙ sym (length-map xs f)) (λ i l.
+    h i (subst (λ (j : ℕ). i < j) a l)
+    ∙ sym (get_or-map f xs i d e (subst (λ (j : ℕ). i < j) count l)))
 
 -- ---- Gabriel faces, point by point
 

@@ -106,3 +106,7 @@ abbrev pub AreAlphasOfFaces : Part → FaceLists → List FaceAlphas → Type 0
 AreAlphasOfFaces Points faces alphas = AreAlphas is_admitted_point faces.points alphas
 AreAlphasOfFaces Pairs faces alphas = AreAlphas (is_admitted_pair faces.triples) faces.pairs alphas
 AreAlphasOfFaces Triples faces alphas = AreAlphas is_admitted_triple faces.triples alphas
+
+-- the numbers of a place
+abbrev pub numbers_at : List FaceAlphas → ℕ → FaceAlphas
+numbers_at alphas i = slice_index_or alphas i (record { admitted = 0; regular = 0; interior = 0 })

@@ -1,14 +1,17 @@
 //! The least alphas of faces.
 
-ghost use Rattle.std.specs.Prelude.{◌≡◌, ◌<◌, ◌^◌, ℕ, List, nat_le, IfOk};
+ghost use Rattle.std.specs.Prelude.{◌≡◌, ◌<◌, ◌^◌, ℕ, List, map, nat_le, IfOk};
 ghost use Rattle.alpha_complex.specs.Condition.{AreFacesOf};
 ghost use Rattle.alpha_complex.specs.Leasts.{AreKnown, kind_at, kind_where};
 ghost use Rattle.alpha_complex.specs.Shapes.{shape_of, shape_seen};
 
-use crate::kinds::{kinds_of_admitted, kinds_of_all, marks};
+use crate::kinds::{
+    admitted_by_threads, all_by_threads, kinds_of_admitted, kinds_of_all, marks, marks_by_threads,
+};
 use crate::shape::{Kind, Shape};
 use face_list::Faces;
 use std::alloc::{AllocError, Global};
+use std::thread::Threads;
 
 /// The least alphas at which a face is admitted, and some and all of the cells that contain it are. A number of 2^34
 /// or more is no alpha.
@@ -90,12 +93,71 @@ impl<'a, 'b> Alphas<'a, 'b> {
         ensures cells { IfOk result (λ shape. (s : List ℕ) → AreFacesOf s self.now.faces.now →
             (shape_seen shape).cells ≡ (shape_of s alpha).cells) }
     {
-        Ok(Shape {
+        let points = kinds_of_all(alloc, &self.points, alpha)?;
+        let pairs = kinds_of_admitted(alloc, &self.pairs, alpha)?;
+        let triples = kinds_of_admitted(alloc, &self.triples, alpha)?;
+        let cells = marks(alloc, &self.cells, alpha)?;
+        Ok(self.with_kinds(alpha, points, pairs, triples, cells))
+    }
+
+    /// What `shape` gives, made by several threads, as many as there are processors.
+    ///
+    /// # Errors
+    /// Want of memory.
+    pub fn shape_by_threads<R: Threads + Sync>(
+        &self,
+        rt: &R,
+        alloc: Global,
+        alpha: u64,
+    ) -> Result<Shape<'a, 'b>, AllocError>
+        requires known { AreKnown self.now }
+        requires alpha { alpha < 2 ^ 34 }
+        ensures points { IfOk result (λ shape. (s : List ℕ) → AreFacesOf s self.now.faces.now →
+            (shape_seen shape).points ≡ (shape_of s alpha).points) }
+        ensures pairs { IfOk result (λ shape. (s : List ℕ) → AreFacesOf s self.now.faces.now →
+            (shape_seen shape).pairs ≡ (shape_of s alpha).pairs) }
+        ensures triples { IfOk result (λ shape. (s : List ℕ) → AreFacesOf s self.now.faces.now →
+            (shape_seen shape).triples ≡ (shape_of s alpha).triples) }
+        ensures cells { IfOk result (λ shape. (s : List ℕ) → AreFacesOf s self.now.faces.now →
+            (shape_seen shape).cells ≡ (shape_of s alpha).cells) }
+    {
+        let points = all_by_threads(rt, alloc, &self.points, alpha)?;
+        let pairs = admitted_by_threads(rt, alloc, &self.pairs, alpha)?;
+        let triples = admitted_by_threads(rt, alloc, &self.triples, alpha)?;
+        let cells = marks_by_threads(rt, alloc, &self.cells, alpha)?;
+        Ok(self.with_kinds(alpha, points, pairs, triples, cells))
+    }
+
+    // The alpha complex for one alpha, of which these are the kinds.
+    fn with_kinds(
+        &self,
+        alpha: u64,
+        points: Vec<Kind>,
+        pairs: Vec<Option<Kind>>,
+        triples: Vec<Option<Kind>>,
+        cells: Vec<bool>,
+    ) -> Shape<'a, 'b>
+        requires known { AreKnown self.now }
+        requires alpha { alpha < 2 ^ 34 }
+        requires points { points.items ≡ map (λ a. kind_at a alpha) self.now.points.items }
+        requires pairs { pairs.items ≡ map (λ a. kind_where a alpha) self.now.pairs.items }
+        requires triples { triples.items ≡ map (λ a. kind_where a alpha) self.now.triples.items }
+        requires cells { cells.items ≡ map (λ n. nat_le n alpha) self.now.cells.items }
+        ensures points { (s : List ℕ) → AreFacesOf s self.now.faces.now →
+            (shape_seen result).points ≡ (shape_of s alpha).points }
+        ensures pairs { (s : List ℕ) → AreFacesOf s self.now.faces.now →
+            (shape_seen result).pairs ≡ (shape_of s alpha).pairs }
+        ensures triples { (s : List ℕ) → AreFacesOf s self.now.faces.now →
+            (shape_seen result).triples ≡ (shape_of s alpha).triples }
+        ensures cells { (s : List ℕ) → AreFacesOf s self.now.faces.now →
+            (shape_seen result).cells ≡ (shape_of s alpha).cells }
+    {
+        Shape {
             faces: self.faces,
-            points: kinds_of_all(alloc, &self.points, alpha)?,
-            pairs: kinds_of_admitted(alloc, &self.pairs, alpha)?,
-            triples: kinds_of_admitted(alloc, &self.triples, alpha)?,
-            cells: marks(alloc, &self.cells, alpha)?,
-        })
+            points,
+            pairs,
+            triples,
+            cells,
+        }
     }
 }

@@ -10,7 +10,7 @@ use Rattle.alpha_complex.specs.Leasts.{AreAlphas, AreAlphasOf, IsLeastOf, is_adm
 use Rattle.alpha_complex.specs.Slots.{held, slots_of, cell_slots_of}
 use Rattle.alpha_complex.proofs.KindSteps.{admitted_told, all_told, cells_told}
 use Rattle.alpha_complex.proofs.Shaped.{pair_kinds_are, points_are, triple_kinds_are, cells_are}
-use Rattle.alpha_complex.proofs.numbers.Alphas.shape.Goals as goal
+use Rattle.alpha_complex.proofs.numbers.Alphas.with_kinds.Goals as goal
 
 -- as many kinds as faces
 kind_count : {X : Type 0} (admits : ℕ → X × List Cell → Bool) (faces : List (X × List Cell)) (alphas : List FaceAlphas)
@@ -25,16 +25,12 @@ invariant_of-result c =
     let alpha = c.args.alpha in
     record {
       points = kind_count is_admitted_point known.faces.now.points known.points.items (λ a. kind_at a alpha) _
-          c.requires.known.points (c.in_ok-kinds_of_all.ensures
-          ∙ ap (λ (v : List FaceAlphas). map (λ a. kind_at a alpha) v) c.deref.ensures.value);
+          c.requires.known.points c.requires.points;
       pairs = kind_count (is_admitted_pair known.faces.now.triples) known.faces.now.pairs known.pairs.items
-          (λ a. kind_where a alpha) _ c.requires.known.pairs (c.in_ok-kinds_of_admitted.ensures
-          ∙ ap (λ (v : List FaceAlphas). map (λ a. kind_where a alpha) v) c.deref-2.ensures.value);
+          (λ a. kind_where a alpha) _ c.requires.known.pairs c.requires.pairs;
       triples = kind_count is_admitted_triple known.faces.now.triples known.triples.items (λ a. kind_where a alpha) _
-          c.requires.known.triples (c.in_ok-kinds_of_admitted-2.ensures
-          ∙ ap (λ (v : List FaceAlphas). map (λ a. kind_where a alpha) v) c.deref-3.ensures.value);
-      cells = ap length (c.in_ok-marks.ensures
-          ∙ ap (λ (v : List ℕ). map (λ n. nat_le n alpha) v) c.deref-4.ensures.value)
+          c.requires.known.triples c.requires.triples;
+      cells = ap length c.requires.cells
           ∙ length-map known.cells.items (λ n. nat_le n alpha)
           ∙ sym (length_zip (λ x n. IsLeastOf (λ a. is_small_cell a x) n) known.faces.now.cells known.cells.items
           c.requires.known.cells);
@@ -44,8 +40,7 @@ pub returns-clause-points : goal.returns-clause-points
 returns-clause-points c s h =
     let known = c.args.self.now in
     let alpha = c.args.alpha in
-    let kinds = c.in_ok-kinds_of_all.ensures ∙ ap (λ (v : List FaceAlphas). map (λ a. kind_at a alpha) v)
-    c.deref.ensures.value in
+    let kinds = c.requires.points in
     ap (λ (v : List Kind). zip (map (λ f. f.0) known.faces.now.points) v) kinds
     ∙ all_told is_admitted_point alpha known.faces.now.points known.points.items c.requires.alpha
     c.requires.known.points
@@ -55,8 +50,7 @@ pub returns-clause-pairs : goal.returns-clause-pairs
 returns-clause-pairs c s h =
     let known = c.args.self.now in
     let alpha = c.args.alpha in
-    let kinds = c.in_ok-kinds_of_admitted.ensures
-    ∙ ap (λ (v : List FaceAlphas). map (λ a. kind_where a alpha) v) c.deref-2.ensures.value in
+    let kinds = c.requires.pairs in
     ap (λ (v : List (Option Kind)). held (slots_of (map (λ f. f.0) known.faces.now.pairs) v)) kinds
     ∙ admitted_told (is_admitted_pair known.faces.now.triples) alpha known.faces.now.pairs known.pairs.items
     c.requires.alpha c.requires.known.pairs
@@ -66,8 +60,7 @@ pub returns-clause-triples : goal.returns-clause-triples
 returns-clause-triples c s h =
     let known = c.args.self.now in
     let alpha = c.args.alpha in
-    let kinds = c.in_ok-kinds_of_admitted-2.ensures
-    ∙ ap (λ (v : List FaceAlphas). map (λ a. kind_where a alpha) v) c.deref-3.ensures.value in
+    let kinds = c.requires.triples in
     ap (λ (v : List (Option Kind)). held (slots_of (map (λ f. f.0) known.faces.now.triples) v)) kinds
     ∙ admitted_told is_admitted_triple alpha known.faces.now.triples known.triples.items c.requires.alpha
     c.requires.known.triples
@@ -77,7 +70,7 @@ pub returns-clause-cells : goal.returns-clause-cells
 returns-clause-cells c s h =
     let known = c.args.self.now in
     let alpha = c.args.alpha in
-    let marks = c.in_ok-marks.ensures ∙ ap (λ (v : List ℕ). map (λ n. nat_le n alpha) v) c.deref-4.ensures.value in
+    let marks = c.requires.cells in
     ap (λ (v : List Bool). held (cell_slots_of known.faces.now.cells v)) marks
     ∙ cells_told alpha known.faces.now.cells known.cells.items c.requires.alpha c.requires.known.cells
     ∙ cells_are s known.faces.now alpha h
