@@ -167,13 +167,8 @@ pub record GoesOn (hold : InHand) (old now : Digging) : Type 0 where
   pub held : AreHeld hold (take now.explored now.found)
 
 -- when it begins
-pub goes_on_first : (hold : InHand) (d : Digging) → AreHeld hold d.found → GoesOn hold d d
-goes_on_first hold d held = record {
-  point = refl;
-  digs = λ h st k. k;
-  held =
-      λ c m p i. held c (in_take d.explored d.found c m) p i;
-}
+pub goes_on_first : (hold : InHand) (d : Digging) → AreHeld hold (take d.explored d.found) → GoesOn hold d d
+goes_on_first hold d held = record { point = refl; digs = λ h st k. k; held = held }
 
 module _ (hold : InHand) (old d : Digging) (cell : Cell) (ps : List ℕ) (g : GoesOn hold old d)
     (less : d.explored < length d.found) (at : cell ≡ slice_index_or d.found d.explored cell) (e : ps ≡ points_of cell)
@@ -198,12 +193,13 @@ module _ (hold : InHand) (old d : Digging) (cell : Cell) (ps : List ℕ) (g : Go
   }
 
 -- a bucket that is missing for a found cell is needed
-pub cell_needed : (hold : InHand) (s : List ℕ) (d : Digging) (found : List Cell) (b : ℕ) → found ≡ d.found →
-    IsDigIn s d → IsCellMissing hold found b → IsNeeded hold s d.point b
-cell_needed hold s d found b e k m = record {
+pub cell_needed : (hold : InHand) (s : List ℕ) (d : Digging) (found : List Cell) (b : ℕ) →
+    ((q : Cell) → IsIn q found → IsIn q d.found) → IsDigIn s d → IsCellMissing hold found b →
+    IsNeeded hold s d.point b
+cell_needed hold s d found b inside k m = record {
   absent = m.missing.absent;
   cell = m.cell;
-  goes = k.crossed.goes m.cell (subst (λ (l : List Cell). IsIn m.cell l) e m.among);
+  goes = k.crossed.goes m.cell (inside m.cell m.among);
   point = m.missing.point;
   has = m.missing.among;
   number = m.missing.number;

@@ -1,5 +1,5 @@
 -- Two changes of cells, one after the other.
-use Rattle.std.specs.Prelude.{◌≡◌, ◌⊎◌, List, []}
+use Rattle.std.specs.Prelude.{◌≡◌, List, []}
 use Rattle.std.proofs.Common.{inl, inr, refl, subst, sym}
 use Rattle.point_order.specs.declared.cell.Cell.{Cell}
 use Rattle.point_order.specs.Sets.{IsIn}

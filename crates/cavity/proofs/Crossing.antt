@@ -12,7 +12,6 @@ use Rattle.hole_laws.specs.Edits.{IsSolidSet, GoesFrom, StaysFrom, IsRimOf}
 use Rattle.cell_store.specs.Others.{IsOtherOf}
 use Rattle.cavity.specs.Digs.{AreCrossed}
 use Rattle.cavity.specs.Exploring.{IsAt, AreUncrossed}
-use Rattle.cavity.specs.Tables.{AreBehind}
 use Rattle.cell_conflict.proofs.Cited.{one_of_two}
 
 module _ (s : List ℕ) (p : ℕ) (i : IsSolidSet s) (crossed : List Facet) (cell other : Cell) (f : Facet)
@@ -112,30 +111,3 @@ module _ (s : List ℕ) (p : ℕ) (i : IsSolidSet s) (crossed : List Facet) (cel
     found_once = t.so_far.found_once;
     rim_once = distinct_push rim f t.so_far.rim_once (λ l. u f (inl refl) (rim_here k) ((t.so_far.rim_is f).0 l).0);
   }
-
-  -- a cell that was not found, behind a facet of the rim, stays
-  pub behind_rim : ¬ (IsIn other found) → (g : Facet) → IsIn g rim → IsIn g (facets_of other) → StaysFrom s p other
-  behind_rim n g j k =
-      let r = (t.so_far.rim_is g).0 j in
-      let e = r.1 in
-      elim (one_of_two s i.set g e.gone e.kept other e.goes.before e.of_gone e.stays.before e.of_kept
-      (λ q. e.goes.after (subst (λ (c : Cell). IsIn c (complex (with_point p s))) q e.stays.after)) o.listed k) [
-        | inl d ↦ absurd (n (t.so_far.behind g other r.0 (subst (λ (c : Cell). GoesFrom s p c) d e.goes) k))
-        | inr d ↦ subst (λ (c : Cell). StaysFrom s p c) d e.stays
-      ]
-
--- cells behind the rim are so where the rim is longer
-pub behind_more : (stays : List Cell) (rim : List Facet) (f : Facet) → AreBehind stays rim →
-    AreBehind stays (rim ++ f ∷ [])
-behind_more stays rim f b q m = let r = b q m in (r.0, in_left r.0 rim (f ∷ []) r.1, r.2)
-
--- and with one more that is
-pub behind_kept : (stays : List Cell) (rim : List Facet) (c : Cell) (f : Facet) → AreBehind stays rim →
-    IsIn f (facets_of c) → AreBehind (stays ++ c ∷ []) (rim ++ f ∷ [])
-behind_kept stays rim c f b k q m = elim (from_append q stays (c ∷ []) m) [
-  | inl j ↦ behind_more stays rim f b q j
-  | inr j ↦ elim j [
-    | inl e ↦ (f, in_right f rim (f ∷ []) (inl refl), subst (λ (x : Cell). IsIn f (facets_of x)) e k)
-    | inr none ↦ absurd none
-  ]
-]

@@ -1,4 +1,4 @@
--- The table of the cells that were judged: marks that are put into it, and cells that are looked for.
+-- The table of the cells that go: marks that are put into it, and cells that are looked for.
 use Rattle.std.specs.Prelude.{
   ◌≡◌,
   ◌≢◌,
@@ -41,9 +41,7 @@ use Rattle.point_order.specs.declared.cell.Cell.{Cell}
 use Rattle.point_order.specs.Sets.{IsIn}
 use Rattle.cavity.specs.declared.cell_table.Mark.{Mark}
 use Rattle.cavity.specs.declared.cell_table.Mark.TheVariants.{Free, Gone}
-use Rattle.cavity.specs.declared.cell_table.Seen.{Seen}
-use Rattle.cavity.specs.declared.cell_table.Seen.TheVariants.{New, Goes, Stays}
-use Rattle.cavity.specs.Tables.{IsReached, IsFreeFrom, KeepsReached, IsMarked, Knows, Known, cell_home}
+use Rattle.cavity.specs.Tables.{IsReached, IsFreeFrom, KeepsReached, IsMarked, cell_home}
 
 -- ---- places of lists
 
@@ -158,21 +156,10 @@ home_within home mask n h l = omega arith
 pub has_room : (n room : ℕ) → n + 1 ≤ room → room ≤ n → ⊥
 has_room n room h l = absurd (omega arith)
 
--- the cells that are known to go, and those that are known to stay
-abbrev pub known : List Cell → List Cell → Known
-known goes stays = record { goes = goes; stays = stays }
-
 -- a cell more goes
-pub goes_pushed : (now : Known) (goes stays room pushed : List Cell) (c : Cell) → known goes stays ≡ now → room ≡ goes →
-    pushed ≡ room ++ c ∷ [] → known pushed stays ≡ known (now.goes ++ c ∷ []) now.stays
-goes_pushed now goes stays room pushed c e r p =
-    ap (λ l. known l stays) (p ∙ ap (λ l. l ++ c ∷ []) r) ∙ ap (λ (k : Known). known (k.goes ++ c ∷ []) k.stays) e
-
--- or a cell more stays
-pub stays_pushed : (now : Known) (goes stays room pushed : List Cell) (c : Cell) → known goes stays ≡ now →
-    room ≡ stays → pushed ≡ room ++ c ∷ [] → known goes pushed ≡ known now.goes (now.stays ++ c ∷ [])
-stays_pushed now goes stays room pushed c e r p =
-    ap (λ l. known goes l) (p ∙ ap (λ l. l ++ c ∷ []) r) ∙ ap (λ (k : Known). known k.goes (k.stays ++ c ∷ [])) e
+pub goes_pushed : (now goes room pushed : List Cell) (c : Cell) → goes ≡ now → room ≡ goes → pushed ≡ room ++ c ∷ [] →
+    pushed ≡ now ++ c ∷ []
+goes_pushed now goes room pushed c e r p = p ∙ ap (λ l. l ++ c ∷ []) (r ∙ e)
 
 -- ---- tables
 
@@ -252,9 +239,6 @@ passed_more marks home goes q n passed here k a b = elim (cases_eq k n) [
   | inr e ↦ passed k a (omega (arith, b, e))
 ]
 
--- what is known at the end
-pub knows_end : (goes stays : List Cell) (q : Cell) (known : Seen) → known ≢ Goes → (known ≡ Stays → IsIn q stays) →
-    ¬ (IsIn q goes) → Knows goes stays q known
-knows_end goes stays q New n k m = m
-knows_end goes stays q Goes n k m = absurd (n refl)
-knows_end goes stays q Stays n k m = (m, k refl)
+-- where the cell is none of those that go, no test says that it is
+pub no_test : (q : Cell) (goes : List Cell) → ¬ (IsIn q goes) → IsTrue false ↔ IsIn q goes
+no_test q goes n = (λ t. (let d : false ≡ true = t in (cc)), λ m. absurd (n m))

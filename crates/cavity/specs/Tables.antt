@@ -1,4 +1,4 @@
--- The table by which a cell that was judged is found again.
+-- The table by which a cell that goes is found again.
 use Rattle.std.specs.Prelude.{
   ◌≡◌,
   ◌≢◌,
@@ -25,13 +25,6 @@ use Rattle.point_order.specs.Facets.{facets_of, points_of}
 use Rattle.point_order.specs.Sets.{IsIn}
 use Rattle.cavity.specs.declared.cell_table.Mark.{Mark}
 use Rattle.cavity.specs.declared.cell_table.Mark.TheVariants.{Free, Gone}
-use Rattle.cavity.specs.declared.cell_table.Seen.{Seen}
-use Rattle.cavity.specs.declared.cell_table.Seen.TheVariants.{New, Goes, Stays}
-
--- What a dig knows: the cells that go, and cells of which it was kept that they stay.
-pub record Known : Type 0 where
-  pub goes : List Cell
-  pub stays : List Cell
 
 -- an odd number whose product with another depends in its upper bits on all bits of that
 abbrev pub factor : ℕ
@@ -50,9 +43,13 @@ mixed_all number (p ∷ ps) = mixed_all (mixed_with number p) ps
 unfoldable pub cell_number : Cell → ℕ
 cell_number q = mixed_all 0 (points_of q) / 2 ^ 32
 
--- the place from which on a cell is looked for
+-- the place from which on a cell with a number is looked for
+abbrev pub home_under : ℕ → ℕ → ℕ
+home_under mask number = bit_and number mask
+
+-- that of a cell
 abbrev pub cell_home : ℕ → Cell → ℕ
-cell_home mask q = bit_and (cell_number q) mask
+cell_home mask q = home_under mask (cell_number q)
 
 -- the mark stands in the table at a place from which back to the home none is free
 pub record IsReached (marks : List Mark) (home : ℕ) (mark : Mark) : Type 0 where
@@ -77,19 +74,9 @@ pub record IsMarked (mask : ℕ) (marks : List Mark) (goes : List Cell) : Type 0
   pub homes : mask < length marks
   pub reached : (i : ℕ) (q : Cell) → slice_get goes i ≡ Some q → IsReached marks (cell_home mask q) (Gone i)
 
--- what is known of a cell: it is none of those that go, one of them, or one of those that stay alone
-abbrev pub Knows : List Cell → List Cell → Cell → Seen → Type 0
-Knows goes stays q New = ¬ (IsIn q goes)
-Knows goes stays q Goes = IsIn q goes
-Knows goes stays q Stays = (¬ (IsIn q goes)) × IsIn q stays
-
 -- another cell that goes than this one is on the facet
 pub record IsBeside (goes : List Cell) (cell : Cell) (facet : Facet) : Type 0 where
   pub other : Cell
   pub found : IsIn other goes
   pub has : IsIn facet (facets_of other)
   pub differs : ¬ (other ≡ cell)
-
--- each of the cells that stay lies behind a facet of the rim
-abbrev pub AreBehind : List Cell → List Facet → Type 0
-AreBehind stays rim = (q : Cell) → IsIn q stays → (f : Facet) × IsIn f rim × IsIn f (facets_of q)

@@ -1,17 +1,17 @@
-//! The table by which a cell that was judged is found again: open addressing, place by place from a cell's home on.
+//! The table by which a cell that goes is found again: open addressing, place by place from a cell's home on.
 
 ghost use Rattle.std.specs.Prelude.{◌≡◌, ◌≢◌, ◌<◌, ◌≤◌, ◌^◌, ◌↔◌, ℕ, length, slice_get, IfOk, OnOk, IsTrue};
 ghost use Rattle.point_order.specs.Facets.{points_of};
+ghost use Rattle.point_order.specs.Sets.{IsIn};
 ghost use Rattle.cavity.specs.Tables.{
   mixed_with,
   mixed_all,
   cell_number,
-  cell_home,
+  home_under,
   IsReached,
   KeepsReached,
   IsFreeFrom,
   IsMarked,
-  Knows,
 };
 
 use cell_store::Spot;
@@ -21,24 +21,11 @@ use std::alloc::{AllocError, Global};
 // An odd number whose product with another depends in its upper bits on all bits of that.
 const FACTOR: u64 = 0x9E37_79B9_7F4A_7C15;
 
-// What stands at a place of the table: nothing, or the place of a cell in the
-// list of those that go, or of those that stay.
+// What stands at a place of the table: nothing, or the place of a cell in the list of those that go.
 #[derive(Clone, Copy)]
 pub(crate) enum Mark {
     Free,
     Gone(usize),
-    Kept(usize),
-}
-
-// What is known of a cell.
-#[derive(Clone, Copy)]
-pub(crate) enum Seen {
-    // It was not judged, or the answer was not kept.
-    New,
-    // It goes.
-    Goes,
-    // It stays.
-    Stays,
 }
 
 // The number with one point more.
@@ -67,18 +54,18 @@ fn mixed_points(cell: &Cell) -> u64
 
 // A number for the cell that depends on all of its points.
 #[tactic(auto, unfolding(crate::specs::Tables::cell_number))]
-fn number_of(cell: &Cell) -> usize
+pub(crate) fn number_of(cell: &Cell) -> usize
     ensures { result ≡ cell_number cell.now }
 {
     (mixed_points(cell) >> 32) as usize
 }
 
-// The place from which on a cell is looked for.
-pub(crate) fn home_of(cell: &Cell, mask: usize) -> usize
-    ensures home { result ≡ cell_home mask cell.now }
+// The place from which on a cell with this number is looked for.
+pub(crate) fn home_of(number: usize, mask: usize) -> usize
+    ensures home { result ≡ home_under mask number }
     ensures below { result ≤ mask }
 {
-    number_of(cell) & mask
+    number & mask
 }
 
 // Whether the cell stands at that place of a list.
@@ -91,29 +78,23 @@ fn is_at(cells: &[Spot], i: usize, cell: &Cell) -> bool
     }
 }
 
-// What is known of the cell, whose home it is. Each place of it in the list of
-// those that go is to be reached from there.
-pub(crate) fn look(marks: &[Mark], home: usize, goes: &[Spot], stays: &[Spot], cell: &Cell) -> Seen
+// Whether the cell, whose home it is, is one of those that go. Each place of it in their list is to be reached from
+// there.
+pub(crate) fn is_marked(marks: &[Mark], home: usize, goes: &[Spot], cell: &Cell) -> bool
     requires { (i : ℕ) → slice_get goes.now i ≡ Some cell.now → IsReached marks.now home (Mark.Gone i) }
-    ensures { Knows goes.now stays.now cell.now result }
+    ensures { IsTrue result ↔ IsIn cell.now goes.now }
 {
-    let mut seen = Seen::New;
     for at in home..marks.len() {
         match marks[at] {
-            Mark::Free => return seen,
+            Mark::Free => return false,
             Mark::Gone(i) => {
                 if is_at(goes, i, cell) {
-                    return Seen::Goes;
-                }
-            }
-            Mark::Kept(i) => {
-                if is_at(stays, i, cell) {
-                    seen = Seen::Stays;
+                    return true;
                 }
             }
         }
     }
-    seen
+    false
 }
 
 // The first free place from there on, or the end.
@@ -147,22 +128,15 @@ pub(crate) fn put(marks: &mut Vec<Mark>, home: usize, mark: Mark) -> Result<(), 
 }
 
 // The table of these cells, with one home more than the mask says.
-pub(crate) fn table_of(
-    alloc: Global,
-    mask: usize,
-    goes: &[Spot],
-    stays: &[Spot],
-) -> Result<Vec<Mark>, AllocError>
+pub(crate) fn table_of(alloc: Global, mask: usize, goes: &[Spot]) -> Result<Vec<Mark>, AllocError>
     requires { mask < 2 ^ 63 }
     ensures { IfOk result (λ marks. IsMarked mask marks.items goes.now) }
 {
     let mut marks = Vec::new(alloc);
     marks.resize(mask + 1, Mark::Free)?;
     for (i, cell) in goes.iter().enumerate() {
-        put(&mut marks, home_of(cell.cell(), mask), Mark::Gone(i))?;
-    }
-    for (i, cell) in stays.iter().enumerate() {
-        put(&mut marks, home_of(cell.cell(), mask), Mark::Kept(i))?;
+        let home = home_of(number_of(cell.cell()), mask);
+        put(&mut marks, home, Mark::Gone(i))?;
     }
     Ok(marks)
 }

@@ -1,6 +1,6 @@
 //! Digs.
 
-ghost use Rattle.std.specs.Prelude.{◌≡◌, ℕ, [], ◌∷◌, IfOk, OnOk, List, length};
+ghost use Rattle.std.specs.Prelude.{◌≡◌, ℕ, [], ◌∷◌, IfOk, OnOk, List, length, take};
 ghost use Rattle.cell_store.specs.Shares.{Shows};
 ghost use Rattle.cell_store.specs.Meshes.{AllInHand};
 ghost use Rattle.cavity.specs.Digs.{CanDig, IsDigIn};
@@ -37,13 +37,10 @@ impl Debug for Dig {
 
 impl Model for Dig {
     ghost use Rattle.cavity.specs.Digs.{Digging};
-    ghost use Rattle.cavity.specs.Tables.{AreBehind};
 
     ghost Value = { Digging };
 
-    ghost view = { λ d. record { point = d.point; found = d.judged.goes; explored = d.explored; rim = d.rim.items } };
-
-    ghost invariant = { λ d. AreBehind d.judged.stays d.rim.items };
+    ghost view = { λ d. record { point = d.point; found = d.judged; explored = d.explored; rim = d.rim.items } };
 }
 
 /// What a turn of a dig comes to.
@@ -89,7 +86,7 @@ impl Dig {
         ensures below { IfOk result (λ turn. AsksBelow (length hold.now.places) turn) }
         ensures all { IfOk result (λ turn. AllInHand hold.now → turn ≡ DigTurn.Done) }
     {
-        if let Some(b) = hold.missing_bucket_of_spots(self.judged.goes()) {
+        if let Some(b) = hold.missing_bucket_of_spots(self.explored()) {
             return Ok(DigTurn::Need(b));
         }
         while let Some(cell) = self.judged.get(hold, self.explored) {
@@ -108,6 +105,18 @@ impl Dig {
             self.explored += 1;
         }
         Ok(DigTurn::Done)
+    }
+
+    // The cells that were explored.
+    fn explored(&self) -> &[Spot]
+        ensures { result.now ≡ take self.now.explored self.now.found }
+    {
+        let found = self.judged.goes();
+        if self.explored < found.len() {
+            &found[..self.explored]
+        } else {
+            found
+        }
     }
 
     // The point of the dig.

@@ -7,59 +7,50 @@ ghost use Rattle.point_order.specs.declared.cell.Cell.{Cell};
 ghost use Rattle.cell_store.specs.Shares.{Shows, NoneInHand, points_on};
 ghost use Rattle.cell_store.specs.Missing.{ArePointsHeld};
 ghost use Rattle.cavity.specs.Exploring.{ShowsAt, ShowsNewAt, Crosses, Explores};
-ghost use Rattle.cavity.specs.Tables.{AreBehind};
 
-use crate::cell_table::Seen;
+use crate::cell_table::number_of;
 use crate::judged::Judged;
 use cell_conflict::is_spot_in_conflict;
 use cell_store::{Hold, Spot};
 use point_order::{Facet, Point};
 use std::alloc::{AllocError, Global};
 
-// Crosses a facet of a found cell, which has this number. The cell behind it goes, and is found, or it stays, and the
-// facet is one of the rim. A cell that was judged is not judged again, and that beside which this one was found is not
+// Crosses a facet of a found cell, which has this place. The cell behind it goes, and is found, or it stays, and the
+// facet is one of the rim. A cell that was found is not judged again, and that beside which this one was found is not
 // looked for.
 fn cross(
     alloc: Global,
     point: Point,
     hold: &Hold,
-    number: usize,
+    place: usize,
     cell: &Spot,
     facet: &Facet,
     judged: &mut Judged,
     rim: &mut Vec<Facet>,
 ) -> Result<(), AllocError>
-    requires shown { ShowsAt hold.now point cell.now judged.old.goes rim.old.items }
+    requires shown { ShowsAt hold.now point cell.now judged.old rim.old.items }
     requires facet { IsIn facet.now (facets_of cell.now) }
     requires held { ¬ (NoneInHand hold.now (points_on facet.now)) }
-    requires behind { AreBehind judged.old.stays rim.old.items }
-    ensures behind { AreBehind judged.new.stays rim.new.items }
-    ensures more { OnOk result ((more : List Cell) × (judged.new.goes ≡ judged.old.goes ++ more)) }
+    ensures more { OnOk result ((more : List Cell) × (judged.new ≡ judged.old ++ more)) }
     ensures crossed { OnOk result ((s : List ℕ) → Shows hold.now s →
-        Crosses s point cell.now facet.now judged.old.goes rim.old.items judged.new.goes rim.new.items) }
+        Crosses s point cell.now facet.now judged.old rim.old.items judged.new rim.new.items) }
 {
-    if judged.is_back(number, cell.cell(), facet) {
+    if judged.is_back(place, cell.cell(), facet) {
         return Ok(());
     }
     let other = hold.spot_across(cell, facet);
-    match judged.seen(other.cell()) {
-        Seen::Goes => Ok(()),
-        Seen::Stays => {
-            rim.push(*facet)?;
-            Ok(())
-        }
-        Seen::New => {
-            if is_spot_in_conflict(hold, &other, point) {
-                judged.load_around(hold, &other);
-                judged.push_gone(alloc, other)?;
-                judged.note_beside(number);
-            } else {
-                rim.push(*facet)?;
-                judged.keep(alloc, other)?;
-            }
-            Ok(())
-        }
+    let number = number_of(other.cell());
+    if judged.has(number, other.cell()) {
+        return Ok(());
     }
+    if is_spot_in_conflict(hold, &other, point) {
+        judged.load_around(hold, &other);
+        judged.push(alloc, number, other)?;
+        judged.note_beside(place);
+    } else {
+        rim.push(*facet)?;
+    }
+    Ok(())
 }
 
 // Crosses the four facets of a found cell, the buckets of whose points are all in hand.
@@ -67,22 +58,20 @@ pub(crate) fn explore(
     alloc: Global,
     point: Point,
     hold: &Hold,
-    number: usize,
+    place: usize,
     cell: &Spot,
     judged: &mut Judged,
     rim: &mut Vec<Facet>,
 ) -> Result<(), AllocError>
-    requires shown { ShowsNewAt hold.now point cell.now judged.old.goes rim.old.items }
+    requires shown { ShowsNewAt hold.now point cell.now judged.old rim.old.items }
     requires held { ArePointsHeld hold.now (points_of cell.now) }
-    requires behind { AreBehind judged.old.stays rim.old.items }
-    ensures behind { AreBehind judged.new.stays rim.new.items }
-    ensures more { OnOk result ((more : List Cell) × (judged.new.goes ≡ judged.old.goes ++ more)) }
+    ensures more { OnOk result ((more : List Cell) × (judged.new ≡ judged.old ++ more)) }
     ensures explored { OnOk result ((s : List ℕ) → Shows hold.now s →
-        Explores s point cell.now judged.old.goes rim.old.items judged.new.goes rim.new.items) }
+        Explores s point cell.now judged.old rim.old.items judged.new rim.new.items) }
 {
     let facets = cell.cell().facets();
     for facet in &facets {
-        cross(alloc, point, hold, number, cell, facet, judged, rim)?;
+        cross(alloc, point, hold, place, cell, facet, judged, rim)?;
     }
     Ok(())
 }

@@ -1,28 +1,26 @@
-//! The cells that a dig judged.
+//! The cells that a dig found.
 
-ghost use Rattle.std.specs.Prelude.{◌≡◌, ◌<◌, ◌^◌, [], ◌∷◌, ◌++◌, length, IfOk, OnOk, OnErr, IsTrue, MatchOption};
+ghost use Rattle.std.specs.Prelude.{◌≡◌, ◌<◌, ◌^◌, ◌↔◌, [], ◌∷◌, ◌++◌, length, IfOk, OnOk, OnErr, IsTrue, MatchOption};
+ghost use Rattle.point_order.specs.Sets.{IsIn};
 ghost use Rattle.cavity.specs.Lists.{IsPast, IsAtPlace};
-ghost use Rattle.cavity.specs.Tables.{IsBeside, Knows};
+ghost use Rattle.cavity.specs.Tables.{IsBeside, cell_number};
 
-use crate::cell_table::{Mark, Seen, home_of, look, put, table_of};
+use crate::cell_table::{Mark, home_of, is_marked, put, table_of};
 use cell_store::{Hold, Spot, is_on};
 use point_order::{Cell, Facet};
 use std::alloc::{AllocError, Global};
 use std::marker::Model;
 
-// As many cells as a new point mostly takes away at the most, and as many as mostly
-// lie around: room for them is made at once.
+// As many cells as a new point mostly takes away at the most: room for them is made at once.
 const USUAL: usize = 48;
 
-// One less than the homes of the table at first: enough for these.
-const MASK: usize = 127;
+// One less than the homes of the table at first.
+const MASK: usize = 63;
 
-// The cells that go, in the order in which they were found, and those of which it was kept that they stay. A table
-// leads from a cell to its place in these lists.
+// The cells that go, in the order in which they were found. A table leads from a cell to its place in their list.
 #[derive(Drop)]
 pub(crate) struct Judged {
     goes: Vec<Spot>,
-    stays: Vec<Spot>,
     marks: Vec<Mark>,
     mask: usize,
     // Beside which of those that go each was found, none for the first.
@@ -32,11 +30,13 @@ pub(crate) struct Judged {
 }
 
 impl Model for Judged {
-    ghost use Rattle.cavity.specs.Tables.{Known, IsMarked};
+    ghost use Rattle.std.specs.Prelude.{List};
+    ghost use Rattle.point_order.specs.declared.cell.Cell.{Cell};
+    ghost use Rattle.cavity.specs.Tables.{IsMarked};
 
-    ghost Value = { Known };
+    ghost Value = { List Cell };
 
-    ghost view = { λ j. record { goes = j.goes.items; stays = j.stays.items } };
+    ghost view = { λ j. j.goes.items };
 
     ghost invariant = { λ j. IsMarked j.mask j.marks.items j.goes.items };
 }
@@ -55,15 +55,13 @@ fn at_hand(hold: &Hold, spot: &Spot, number: usize) -> Spot
 impl Judged {
     // One cell that goes.
     pub(crate) fn new(alloc: Global, cell: Spot) -> Result<Judged, AllocError>
-        ensures { IfOk result (λ judged. judged ≡ record { goes = cell ∷ []; stays = [] }) }
+        ensures { IfOk result (λ judged. judged ≡ cell ∷ []) }
     {
         let mut goes = Vec::with_capacity(alloc, USUAL)?;
         goes.push(cell)?;
-        let stays = Vec::with_capacity(alloc, USUAL)?;
-        let marks = table_of(alloc, MASK, &goes, &stays)?;
+        let marks = table_of(alloc, MASK, &goes)?;
         Ok(Judged {
             goes,
-            stays,
             marks,
             mask: MASK,
             beside: Vec::with_capacity(alloc, USUAL)?,
@@ -71,12 +69,13 @@ impl Judged {
         })
     }
 
-    // What is known of the cell.
-    pub(crate) fn seen(&self, cell: &Cell) -> Seen
-        ensures { Knows self.now.goes self.now.stays cell.now result }
+    // Whether the cell, which has this number, goes.
+    pub(crate) fn has(&self, number: usize, cell: &Cell) -> bool
+        requires { number ≡ cell_number cell.now }
+        ensures { IsTrue result ↔ IsIn cell.now self.now }
     {
-        let home = home_of(cell, self.mask);
-        look(&self.marks, home, &self.goes, &self.stays, cell)
+        let home = home_of(number, self.mask);
+        is_marked(&self.marks, home, &self.goes, cell)
     }
 
     // Doubles the table where half of its homes may be taken.
@@ -84,39 +83,30 @@ impl Judged {
         ensures { self.new ≡ self.old }
     {
         let homes = self.mask + 1;
-        if self.goes.len() + self.stays.len() >= homes / 2 {
+        if self.goes.len() >= homes / 2 {
             let mask = self.mask + homes;
-            self.marks = table_of(alloc, mask, &self.goes, &self.stays)?;
+            self.marks = table_of(alloc, mask, &self.goes)?;
             self.mask = mask;
         }
         Ok(())
     }
 
-    // Puts a cell that goes at the end of those.
-    pub(crate) fn push_gone(&mut self, alloc: Global, cell: Spot) -> Result<(), AllocError>
-        ensures pushed { OnOk result (self.new ≡ record self.old { goes = self.old.goes ++ cell ∷ [] }) }
+    // Puts a cell that goes, which has this number, at the end of those.
+    pub(crate) fn push(
+        &mut self,
+        alloc: Global,
+        number: usize,
+        cell: Spot,
+    ) -> Result<(), AllocError>
+        requires { number ≡ cell_number cell }
+        ensures pushed { OnOk result (self.new ≡ self.old ++ cell ∷ []) }
         ensures refused { OnErr result (self.new ≡ self.old) }
     {
         self.make_room(alloc)?;
         self.goes.reserve(1)?;
-        let home = home_of(cell.cell(), self.mask);
+        let home = home_of(number, self.mask);
         put(&mut self.marks, home, Mark::Gone(self.goes.len()))?;
         match self.goes.push(cell) {
-            Ok(()) => Ok(()),
-            Err(_) => unreachable!(),
-        }
-    }
-
-    // Keeps that a cell stays.
-    pub(crate) fn keep(&mut self, alloc: Global, cell: Spot) -> Result<(), AllocError>
-        ensures kept { OnOk result (self.new ≡ record self.old { stays = self.old.stays ++ cell ∷ [] }) }
-        ensures refused { OnErr result (self.new ≡ self.old) }
-    {
-        self.make_room(alloc)?;
-        self.stays.reserve(1)?;
-        let home = home_of(cell.cell(), self.mask);
-        put(&mut self.marks, home, Mark::Kept(self.stays.len()))?;
-        match self.stays.push(cell) {
             Ok(()) => Ok(()),
             Err(_) => unreachable!(),
         }
@@ -138,7 +128,7 @@ impl Judged {
 
     // Whether the cell with the number was found beside one that is on the facet.
     pub(crate) fn is_back(&self, number: usize, cell: &Cell, facet: &Facet) -> bool
-        ensures { IsTrue result → IsBeside self.now.goes cell.now facet.now }
+        ensures { IsTrue result → IsBeside self.now cell.now facet.now }
     {
         match self.beside.get(number.wrapping_sub(1)) {
             Some(before) => self.is_beside(*before, cell, facet),
@@ -148,7 +138,7 @@ impl Judged {
 
     // Whether another cell than this one has the number and is on the facet.
     fn is_beside(&self, number: usize, cell: &Cell, facet: &Facet) -> bool
-        ensures { IsTrue result → IsBeside self.now.goes cell.now facet.now }
+        ensures { IsTrue result → IsBeside self.now cell.now facet.now }
     {
         match self.goes.get(number) {
             Some(other) => is_on(other.cell(), facet) && !other.cell().is_same(cell),
@@ -158,8 +148,8 @@ impl Judged {
 
     // The cell at a place of those that go, if there is one.
     pub(crate) fn get(&self, hold: &Hold, i: usize) -> Option<Spot>
-        ensures cell { MatchOption result (IsPast self.now.goes i) (λ cell. IsAtPlace self.now.goes i cell) }
-        ensures small { length self.now.goes < 2 ^ 63 }
+        ensures cell { MatchOption result (IsPast self.now i) (λ cell. IsAtPlace self.now i cell) }
+        ensures small { length self.now < 2 ^ 63 }
     {
         match self.goes.get(i) {
             Some(spot) => Some(at_hand(hold, spot, i)),
@@ -169,7 +159,7 @@ impl Judged {
 
     // The cells that go.
     pub(crate) fn goes(&self) -> &[Spot]
-        ensures { result.now ≡ self.now.goes }
+        ensures { result.now ≡ self.now }
     {
         &self.goes
     }

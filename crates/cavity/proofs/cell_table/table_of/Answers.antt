@@ -1,7 +1,7 @@
 use Rattle.std.proofs.Common.{ap, subst, ◌∙◌, arith}
-use Rattle.cavity.specs.Tables.{IsReached, cell_home}
+use Rattle.cavity.specs.Tables.{IsReached, cell_number, home_under}
 use Rattle.cavity.specs.declared.cell_table.Mark.TheVariants.{Gone}
-use Rattle.cavity.proofs.Tables.{marked_all, marked_next, marked_none, marked_still}
+use Rattle.cavity.proofs.Tables.{marked_all, marked_next, marked_none}
 use Rattle.cavity.proofs.cell_table.table_of.Goals as goal
 
 pub loop-i-init : goal.loop-i-init
@@ -13,16 +13,8 @@ loop-i-preserved c =
     c.loop-i-test.true c.index-goes-i.is
     c.loop-i.invariant c.put.ensures.kept c.put.ensures.longer
     (subst (λ home. IsReached c.put.new.marks.items home (Gone c.loop-i.i))
-    (c.home_of.ensures.home ∙ ap (cell_home c.args.mask) c.cell.ensures) c.in_ok-put.ensures.reached)
-
-pub loop-i-2-init : goal.loop-i-2-init
-loop-i-2-init c = marked_all c.args.mask c.loop-i.marks.items c.args.goes.now c.loop-i.i c.loop-i-test.false
-    c.loop-i.invariant
-
-pub loop-i-2-preserved : goal.loop-i-2-preserved
-loop-i-2-preserved c =
-    marked_still c.args.mask c.loop-i-2.marks.items c.put-in-loop-i-2.new.marks.items c.args.goes.now
-    c.loop-i-2.invariant c.put-in-loop-i-2.ensures.kept c.put-in-loop-i-2.ensures.longer
+    (c.home_of-home.ensures.home ∙ ap (home_under c.args.mask) (c.number_of.ensures ∙ ap cell_number c.cell.ensures)) c.in_ok-put.ensures.reached)
 
 pub returns : goal.returns
-returns c = c.loop-i-2.invariant
+returns c = marked_all c.args.mask c.loop-i.marks.items c.args.goes.now c.loop-i.i c.loop-i-test.false
+    c.loop-i.invariant

@@ -4,6 +4,3 @@ use Rattle.cavity.proofs.cell_table.table_of.Given as goal
 
 abbrev pub invariant-loop-i : goal.invariant-loop-i
 invariant-loop-i l = IsMarked l.mask l.marks.items (take l.i l.goes)
-
-abbrev pub invariant-loop-i-2 : goal.invariant-loop-i-2
-invariant-loop-i-2 l = IsMarked l.mask l.marks.items l.goes

@@ -1,4 +1,4 @@
-use Rattle.std.proofs.Common.{◌≡◌, ◌∙◌, ap, sym, refl}
+use Rattle.std.proofs.Common.{◌∙◌, ap, refl}
 use Rattle.list_laws.proofs.Cited.{gather_none, gather_push, gather_skip, gathers, not_both}
 use Rattle.cavity.specs.Both.{IsOtherThan}
 use Rattle.cavity.proofs.compose.add_but.Goals as goal

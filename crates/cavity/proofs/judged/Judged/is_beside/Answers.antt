@@ -1,4 +1,4 @@
-use Rattle.std.proofs.Common.{◌≡◌, ◌∙◌, ap, Bool, true, false, not, subst, List}
+use Rattle.std.proofs.Common.{◌≡◌, ◌∙◌, Bool, true, false, not, subst, List}
 use Rattle.list_laws.proofs.Cited.{at_place}
 use Rattle.point_order.specs.declared.cell.Cell.{Cell}
 use Rattle.point_order.specs.Facets.{facets_of}
@@ -15,7 +15,7 @@ returns-then-is_on c t =
     let other = c.in-Some.other.now in
     record {
       other = other;
-      found = subst (λ (l : List Cell). IsIn other l) (c.deref.ensures.value ∙ ap (λ j. j.goes) c.self.view_is)
+      found = subst (λ (l : List Cell). IsIn other l) (c.deref.ensures.value ∙ c.self.view_is)
           (at_place c.deref.result.now c.args.number other other c.in-Some.ensures.lookup.3.0
           c.in-Some.ensures.lookup.1);
       has = subst (λ (q : Cell). IsIn c.args.facet.now (facets_of q)) c.cell.ensures

@@ -1,10 +1,10 @@
 use Rattle.std.proofs.Common.{sym, ◌∙◌, ap, ◌≡◌, subst, length, ℕ, List}
 use Rattle.point_order.specs.declared.cell.Cell.{Cell}
 use Rattle.cavity.specs.declared.cell_table.Mark.TheVariants.{Gone}
-use Rattle.cavity.specs.Tables.{IsMarked, IsReached, cell_home}
-use Rattle.cavity.proofs.Tables.{goes_pushed, has_room, home_within, known, marked_more, marked_still}
+use Rattle.cavity.specs.Tables.{IsMarked, IsReached, cell_home, home_under}
+use Rattle.cavity.proofs.Tables.{goes_pushed, has_room, home_within, marked_more, marked_still}
 use Rattle.list_laws.proofs.Cited.{on_err}
-use Rattle.cavity.proofs.judged.Judged.push_gone.Goals as goal
+use Rattle.cavity.proofs.judged.Judged.push.Goals as goal
 
 pub put-requires-clause-home : goal.put-requires-clause-home
 put-requires-clause-home c = home_within c.home_of-home.result c.self.inside.mask (length c.self.inside.marks.items)
@@ -26,8 +26,7 @@ invariant_of-self-in_err-put c =
 
 pub returns-in_err-put-clause-refused : goal.returns-in_err-put-clause-refused
 returns-in_err-put-clause-refused c =
-    on_err c.from_residual-in_err-put.result (ap (λ l. known l c.self.inside.stays.items) c.reserve.ensures.items
-    ∙ c.self.view_is ∙ c.make_room.ensures)
+    on_err c.from_residual-in_err-put.result (c.reserve.ensures.items ∙ c.self.view_is ∙ c.make_room.ensures)
 
 pub invariant_of-self-2 : goal.invariant_of-self-2
 invariant_of-self-2 c =
@@ -38,12 +37,11 @@ invariant_of-self-2 c =
     c.self.invariant c.put.ensures.kept c.put.ensures.longer
     (subst (λ (i : ℕ). IsReached c.put.new.marks.items (cell_home c.self.inside.mask c.args.cell) (Gone i)) n
     (subst (λ (h : ℕ). IsReached c.put.new.marks.items h (Gone c.len.result))
-    (c.home_of-home.ensures.home ∙ ap (cell_home c.self.inside.mask) c.cell.ensures) c.in_ok-put.ensures.reached)))
+    (c.home_of-home.ensures.home ∙ ap (home_under c.self.inside.mask) c.requires) c.in_ok-put.ensures.reached)))
 
 pub returns-clause-pushed : goal.returns-clause-pushed
 returns-clause-pushed c =
-    goes_pushed c.args.self.now c.self.inside.goes.items c.self.inside.stays.items c.reserve.new.self.items
-    c.push.new.self.items c.args.cell
+    goes_pushed c.args.self.now c.self.inside.goes.items c.reserve.new.self.items c.push.new.self.items c.args.cell
     (c.self.view_is ∙ c.make_room.ensures) c.reserve.ensures.items c.in-Ok.ensures.items
 
 pub unreachable-requires : goal.unreachable-requires
