@@ -21,7 +21,7 @@ use Rattle.point_order.specs.Orientation.{
 }
 use Rattle.vertex_removal.specs.Balls.{IsBallOf, last_of}
 use Rattle.vertex_removal.specs.declared.ball.Ball.{Ball}
-use Rattle.point_order.proofs.Cited.{sphere_from_first, swap_last, swap_middle}
+use Rattle.point_order.proofs.Cited.{sphere_from_first}
 
 -- the determinant of two rows, written
 abbrev minor_w : ℕ → ℕ → ℕ → ℕ → Expr
@@ -87,10 +87,6 @@ by_sign s o r n f h =
     positive : (s o r : ℤ) → pos 0 <ℤ s → pos 0 <ℤ o → pos 0 <ℤ r →
         lt_z (pos 0) s ≡ ((lt_z (pos 0) o && lt_z (pos 0) r) || (lt_z o (pos 0) && lt_z r (pos 0)))
     positive s o r p f m = grind (arith, ints)
-
--- the last point of an orientation may come second
-pub turned_second : (a b c p : ℕ) → orientation a p b c ≡ orientation a b c p
-turned_second a b c p = omega (arith, ints, swap_middle a b p c, swap_last a b c p)
 
 -- a sphere whose last point is another than the next
 pub ball_apart : (a b c : ℕ) (best : Option Ball) (e : ℕ) → IfSome best (IsBallOf a b c) →

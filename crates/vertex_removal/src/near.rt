@@ -1,15 +1,15 @@
 //! What is near a point that is taken: the cells at it and around it, and their points.
 
 ghost use Rattle.std.specs.Prelude.{◌≡◌, ◌<◌, ◌↔◌, ◌⊎◌, false, ℕ, List, IfOk, OnOk, IsSome, IsTrue, MatchOption};
-ghost use Rattle.std.specs.List.{filter, flat_map};
+ghost use Rattle.std.specs.List.{flat_map};
 ghost use Rattle.list_laws.specs.Lists.{AreDistinct};
 ghost use Rattle.point_order.specs.CellOrder.{AreSameCells};
 ghost use Rattle.point_order.specs.Complex.{complex};
 ghost use Rattle.point_order.specs.Facets.{facets_of, points_of};
-ghost use Rattle.point_order.specs.Sets.{IsIn, IsAscending, is_among, without_point, AreSamePoints};
+ghost use Rattle.point_order.specs.Sets.{IsIn, without_point, AreSamePoints};
 ghost use Rattle.point_order.specs.Solid.{is_solid as is_solid_of};
 ghost use Rattle.hole_laws.specs.Edits.{IsLinkSet};
-ghost use Rattle.cell_store.specs.Buckets.{bucket_at, cells_in};
+ghost use Rattle.cell_store.specs.Buckets.{bucket_at};
 ghost use Rattle.cell_store.specs.Grids.{bucket_of};
 ghost use Rattle.cell_store.specs.Shares.{Shows, ShowsWith};
 ghost use Rattle.cell_store.specs.Missing.{ArePointsHeld};
@@ -36,7 +36,7 @@ fn do_differ(cells: &[Cell]) -> bool
 }
 
 // The cells, each once, in any order. Mostly they are so.
-fn cells_once(cells: Vec<Cell>) -> Vec<Cell>
+pub(crate) fn cells_once(cells: Vec<Cell>) -> Vec<Cell>
     ensures once { AreDistinct result.items }
     ensures cells { AreSameCells cells.items result.items }
 {
@@ -47,17 +47,16 @@ fn cells_once(cells: Vec<Cell>) -> Vec<Cell>
     }
 }
 
-// The cells at a point whose bucket is in hand, each once.
+// The cells at a point whose bucket is in hand, in any order.
 pub(crate) fn star_of(alloc: Global, hold: &Hold, v: Point) -> Result<Vec<Cell>, AllocError>
     requires { IsSome (bucket_at hold.now.places (bucket_of hold.now.grid v)) }
-    ensures star { IfOk result (λ star. (s : List ℕ) → Shows hold.now s → IsStar s v star.items) }
-    ensures once { IfOk result (λ star. AreDistinct star.items) }
+    ensures { IfOk result (λ star. (s : List ℕ) → Shows hold.now s → IsStar s v star.items) }
 {
     let mut star = Vec::with_capacity(alloc, USUAL)?;
     for cell in hold.cells_around(v) {
         star.push(*cell)?;
     }
-    Ok(cells_once(star))
+    Ok(star)
 }
 
 // The points of all these cells.

@@ -9,7 +9,7 @@ ghost use Rattle.vertex_removal.specs.Near.{AreTaken};
 ghost use Rattle.vertex_removal.specs.Turns.{ShowsWithPoint, RefillGives, AsksBelow, AsksNothing};
 ghost use Rattle.vertex_removal.specs.Wraps.{IsHole};
 
-use crate::near::{near_set, star_of};
+use crate::near::{cells_once, near_set, star_of};
 use crate::wrap::cells_wrapped;
 use cavity::Fresh;
 use cell_store::Hold;
@@ -91,10 +91,11 @@ impl Refill {
         ensures all { IfOk result (λ turn. AllInHand hold.now → AsksNothing turn) }
     {
         let v = self.point;
-        let gone = star_of(alloc, hold, v)?;
-        if let Some(b) = hold.missing_bucket(&gone) {
+        let star = star_of(alloc, hold, v)?;
+        if let Some(b) = hold.missing_bucket(&star) {
             return Ok(RefillTurn::Need(b));
         }
+        let gone = cells_once(star);
         match near_set(alloc, hold, v, &gone)? {
             Some(near) => {
                 let fresh = cells_coming(alloc, &near, v, &gone)?;

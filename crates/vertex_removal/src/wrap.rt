@@ -164,12 +164,12 @@ fn are_of_one(one: &Side, other: &Side) -> bool
     }
 }
 
-// The place of the other side of the facet, if there is one.
+// The place of the other side of the facet, if there is one: mostly it is one of the last.
 fn place_of(sides: &[Side], side: &Side) -> Option<usize>
     ensures { IfSome result (λ i. IsPlaceOf sides.now side.now.facet i) }
 {
-    for (i, other) in sides.iter().enumerate() {
-        if are_of_one(other, side) {
+    for i in (0..sides.len()).rev() {
+        if are_of_one(&sides[i], side) {
             return Some(i);
         }
     }

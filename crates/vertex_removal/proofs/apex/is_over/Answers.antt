@@ -1,5 +1,5 @@
 use Rattle.std.proofs.Common.{rules, ◌∙◌}
-use Rattle.vertex_removal.proofs.Balls.{turned_second}
+use Rattle.sphere_ties.proofs.Cited.{turned_second}
 use Rattle.vertex_removal.proofs.apex.is_over.Goals as goal
 
 pub returns : goal.returns
