@@ -8,7 +8,7 @@ abbrev pub known_at : List ℕ → ℕ → ℕ
 known_at points i = slice_index_or points i 0
 
 -- the point has the number
-pub record IsNumber (points : List ℕ) (i p : ℕ) : Type 0 where
+pub record HasNumber (points : List ℕ) (i p : ℕ) : Type 0 where
   pub within : i < length points
   pub is : known_at points i ≡ p
 

@@ -1,7 +1,7 @@
 //! Points by their numbers, and cells by those of their points.
 
 ghost use Rattle.std.specs.Prelude.{◌≡◌, ◌∷◌, [], ◌<◌, true, IfOk};
-ghost use Rattle.cell_lists.specs.Rows.{AreMore, IsNumber, IsRow, corners_of};
+ghost use Rattle.cell_lists.specs.Rows.{AreMore, HasNumber, IsRow, corners_of};
 
 use point_order::{Cell, Point, Quad};
 use std::alloc::AllocError;
@@ -46,7 +46,7 @@ pub(crate) struct Row {
 
 // Whether the point has the number.
 fn is_number(points: &[Point], p: Point, number: u32) -> bool
-    ensures { result ≡ true → IsNumber points.now number p }
+    ensures { result ≡ true → HasNumber points.now number p }
 {
     let place = number as usize;
     place < points.len() && points[place] == p
@@ -55,7 +55,7 @@ fn is_number(points: &[Point], p: Point, number: u32) -> bool
 // Puts a point behind the others, and answers its number.
 fn add(points: &mut Vec<Point>, p: Point) -> Result<u32, AllocError>
     ensures more { AreMore points.old.items points.new.items }
-    ensures number { IfOk result (λ i. IsNumber points.new.items i p) }
+    ensures number { IfOk result (λ i. HasNumber points.new.items i p) }
 {
     let Ok(number) = u32::try_from(points.len()) else {
         return Err(AllocError);
@@ -67,7 +67,7 @@ fn add(points: &mut Vec<Point>, p: Point) -> Result<u32, AllocError>
 // The number of a point, which is likely to be this one. Where it is not, the point is put behind the others.
 fn number_in(points: &mut Vec<Point>, p: Point, likely: u64) -> Result<u32, AllocError>
     ensures more { AreMore points.old.items points.new.items }
-    ensures number { IfOk result (λ i. IsNumber points.new.items i p) }
+    ensures number { IfOk result (λ i. HasNumber points.new.items i p) }
 {
     let number = u32::try_from(likely).unwrap_or(u32::MAX);
     if is_number(points, p, number) {

@@ -9,6 +9,7 @@ ghost use Rattle.std.specs.Prelude.{
   [],
   MatchOption,
   OnOk,
+  OnErr,
   IfOk,
   List,
   ℕ,
@@ -105,7 +106,8 @@ impl QuadList {
     /// # Errors
     /// Want of memory, also for more than 2^32 points. The cells are then as before.
     pub fn push(&mut self, quad: Quad, places: Places) -> Result<(), AllocError>
-        ensures { OnOk result (self.new ≡ self.old ++ quad ∷ []) }
+        ensures pushed { OnOk result (self.new ≡ self.old ++ quad ∷ []) }
+        ensures refused { OnErr result (self.new ≡ self.old) }
     {
         let row = row_in(&mut self.points, quad, places)?;
         self.rows.push(row)?;
