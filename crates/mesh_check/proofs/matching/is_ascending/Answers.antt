@@ -16,8 +16,7 @@ returns-then-key c =
     let x = c.index-points-place-in-loop-place.result in
     let y = c.index-points-place.result in
     let high : y ≤ x = (let h = c.if-key.true in let m = c.key-in-loop-place.ensures.value in
-    let n = c.key.ensures.value in omega (arith, h, m, n)) in
-    (
+    let n = c.key.ensures.value in omega (arith, h, m, n)) in (
       λ e. absurd (cc),
       λ a. absurd (falls_there c.args.points.now c.loop-place.place x y c.loop-place.auto.place c.loop-place-test.true
           c.index-points-place-in-loop-place.is c.index-points-place.is high a),
