@@ -1,5 +1,6 @@
 pub mod CellLaws
 pub mod GridLaws
+pub mod HomeLaws
 pub mod Least
 pub mod KeyLaws
 pub mod Placing

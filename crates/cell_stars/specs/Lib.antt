@@ -1,5 +1,6 @@
 pub mod Grids
 pub mod Swaps
+pub mod Homes
 pub mod Places
 pub mod Stars
 pub mod Plans

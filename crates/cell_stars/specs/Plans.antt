@@ -22,6 +22,7 @@ use Rattle.point_order.specs.Facets.{points_of}
 use Rattle.point_order.specs.Sets.{IsIn, IsAscending}
 use Rattle.cell_stars.specs.Places.{Placed, AreStars, IsMoved, IsStarred, at, cells_of, lies_in, touches_in, swapped_at}
 use Rattle.cell_stars.specs.Swaps.{Differ}
+use Rattle.cell_stars.specs.Homes.{AreHomes}
 
 -- A plan: the places and the stars in longer lists, where there are too few; for each place that changes what stands
 -- there after, for each star that changes the star after it; the keys where they change.
@@ -71,15 +72,20 @@ pub record AreVertices (gone fresh : List Cell) (vertices : List ℕ) : Type 0 w
   pub each : (p : ℕ) → IsIn p vertices → (c : Cell) × (IsIn c gone ⊎ IsIn c fresh) × IsIn p (points_of c)
   pub all : (p : ℕ) (c : Cell) → IsIn c gone ⊎ IsIn c fresh → IsIn p (points_of c) → IsIn p vertices
 
--- What is found once for an exchange: its vertices, and whether it is known that no fresh cell is listed twice.
+-- What is found once for an exchange: its vertices, whether it is known that no fresh cell is listed twice, and the
+-- buckets of the vertices of each cell in a grid.
 pub record Once : Type 0 where
   pub vertices : List ℕ
   pub single : Bool
+  pub gone : ℕ × List (List ℕ)
+  pub fresh : ℕ × List (List ℕ)
 
 -- it is of these cells
 pub record IsOnceFor (gone fresh : List Cell) (m : Once) : Type 0 where
   pub vertices : AreVertices gone fresh m.vertices
   pub single : m.single ≡ true → Differ fresh
+  pub gone_homes : AreHomes m.gone gone
+  pub fresh_homes : AreHomes m.fresh fresh
 
 -- ---- what the planner finds
 

@@ -4,8 +4,8 @@
 ghost use Rattle.std.specs.Prelude.{◌≡◌, IfSome, Some};
 ghost use Rattle.cell_stars.specs.Places.{at};
 
+use crate::joined::{Joined, Side};
 use crate::links::{Links, NONE};
-use crate::matched::{Joined, Side};
 use crate::slots::{Slot, stands_at};
 use point_order::Cell;
 use std::alloc::{AllocError, Global};
@@ -73,7 +73,10 @@ impl Guesses {
 
     /// The next cell was looked for: where it stands, if it was found. What stands around it is loaded.
     pub(crate) fn add(&mut self, slots: &[Slot], place: Option<u32>) -> Result<(), AllocError> {
-        let place = place.unwrap_or(NONE);
+        let Some(place) = place else {
+            self.places.push(NONE)?;
+            return Ok(());
+        };
         let links = links_at(slots, place);
         self.loaded = self.loaded.wrapping_add(loaded_around(slots, links));
         self.places.push(place)?;

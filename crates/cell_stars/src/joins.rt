@@ -3,8 +3,8 @@
 ghost use Rattle.std.specs.Prelude.{◌≡◌, OnOk};
 
 use crate::guesses::links_at;
+use crate::joined::{Beside, Joined};
 use crate::links::{Links, NONE};
-use crate::matched::{Beside, Joined};
 use crate::moves::Moves;
 use crate::slots::Slot;
 use point_order::Cell;

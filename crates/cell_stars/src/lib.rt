@@ -6,7 +6,7 @@
 //! ```
 //! let grid = Grid::new(4)?;
 //! let mut cells = Cells::new(alloc).placed(grid, grid.bucket_of(a));
-//! let matched = Matched::of(alloc, &[], &[cell])?;
+//! let matched = Matched::of(alloc, grid, &[], &[cell])?;
 //! let plan = cells.plan(alloc, &[], &[cell], &matched, false)?;  // all memory is taken here
 //! cells.carry_out(plan);                        // the cell is there, if it has a point in the bucket
 //! for cell in cells.cells_at(a) {               // ascending; `cells_around` gives them at once, in any order
@@ -22,6 +22,8 @@ mod cells;
 mod doors;
 mod grid;
 mod guesses;
+mod homes;
+mod joined;
 mod joins;
 mod keys;
 mod links;

@@ -8,13 +8,14 @@ ghost use Rattle.point_order.specs.Sets.{IsIn, IsAscending, is_among};
 ghost use Rattle.cell_stars.specs.Places.{at, lies_in, touches_in};
 ghost use Rattle.cell_stars.specs.Plans.{AreFor, IsOnceFor};
 ghost use Rattle.cell_stars.specs.Swaps.{Differ};
+ghost use Rattle.cell_stars.specs.Homes.{AreHomes, AreHomesAt};
 ghost use Rattle.cell_stars.specs.Moves.{IsStarFor, AreFreed, AreComing, AreNew, IsClear, Stays};
 
 use crate::cells::Cells;
 use crate::guesses::Guesses;
-use crate::matched::{Joined, Matched};
+use crate::matched::Matched;
 use crate::numbers::has_number;
-use crate::order::{cells_once, has_vertex, numbers_in_order, touches};
+use crate::order::{cells_once, has_vertex, numbers_in_order};
 use crate::slots::{Slot, cell_at, place_among};
 use crate::vacant::places_for;
 use point_order::{Cell, Point};
@@ -90,16 +91,6 @@ impl Cells {
         }
     }
 
-    // Whether a finite vertex of the cell lies in the bucket.
-    pub(crate) fn is_touched_by(&self, cell: &Cell) -> bool
-        ensures { result ≡ touches_in self.now.place cell.now }
-    {
-        match self.place() {
-            Some((grid, number)) => touches(grid, number, cell),
-            None => false,
-        }
-    }
-
     // The shortest star of a vertex of the cell, or the first that is short.
     fn shortest_star(&self, cell: &Cell) -> Option<&[u32]>
         ensures { MatchOption result ((p : ℕ) → IsIn p (points_of cell.now) → lies_in self.now.place p ≡ true →
@@ -129,25 +120,25 @@ impl Cells {
         }
     }
 
-    // The place of the cell, if it stands at one.
-    fn place_of_cell(&self, cell: &Cell) -> Option<u32>
+    // The place of the gone cell with the number, if it stands at one: it is likely to stand across a facet of one that
+    // was found before.
+    fn place_by(
+        &self,
+        cell: &Cell,
+        number: usize,
+        matched: &Matched,
+        guesses: &Guesses,
+    ) -> Option<u32>
+        requires { AreHomesAt matched.now.gone.0 matched.now.gone.1 number cell.now }
         ensures { MatchOption result ((i : ℕ) → at self.now.slots i ≡ Some cell.now →
             touches_in self.now.place cell.now ≡ true → ⊥) (λ i. at self.now.slots i ≡ Some cell.now) }
     {
-        if !self.is_touched_by(cell) {
+        if !self.is_touched_by(&matched.gone, number, cell) {
             return None;
         }
-        self.place_in_star(cell)
-    }
-
-    // The same, where it is likely to stand across a facet of one that was found before.
-    fn place_by(&self, cell: &Cell, joined: &Joined, guesses: &Guesses) -> Option<u32>
-        ensures { MatchOption result ((i : ℕ) → at self.now.slots i ≡ Some cell.now →
-            touches_in self.now.place cell.now ≡ true → ⊥) (λ i. at self.now.slots i ≡ Some cell.now) }
-    {
-        match guesses.guess(&self.slots, joined, cell) {
+        match guesses.guess(&self.slots, &matched.joined, cell) {
             Some(place) => Some(place),
-            None => self.place_of_cell(cell),
+            None => self.place_in_star(cell),
         }
     }
 
@@ -156,16 +147,17 @@ impl Cells {
         &self,
         alloc: Global,
         gone: &[Cell],
-        joined: &Joined,
+        matched: &Matched,
         guesses: &mut Guesses,
     ) -> Result<Vec<u32>, AllocError>
+        requires { AreHomes matched.now.gone gone.now }
         ensures order { IfOk result (λ freed. IsAscending freed.items) }
         ensures freed { IfOk result (λ freed. AreFreed self.now gone.now freed.items) }
     {
         let _ = &self.slots;
         let mut freed = Vec::with_capacity(alloc, gone.len())?;
-        for c in gone {
-            let place = self.place_by(c, joined, guesses);
+        for (number, c) in gone.iter().enumerate() {
+            let place = self.place_by(c, number, matched, guesses);
             guesses.add(&self.slots, place)?;
             if let Some(i) = place {
                 freed.push(i)?;
@@ -279,16 +271,18 @@ impl Cells {
         }
     }
 
-    // Whether the cell touches the bucket and does not stay there.
+    // Whether the cell, of which it is known whether it touches the bucket, does so and does not stay there.
     fn comes(
         &self,
         cell: &Cell,
+        touches: bool,
         freed: &[u32],
         p: &Option<Point>,
         clear: &mut Vec<Point>,
         found: bool,
     ) -> Result<bool, AllocError>
         requires order { IsAscending freed.now }
+        requires touches { touches ≡ touches_in self.now.place cell.now }
         requires found { found ≡ true → touches_in self.now.place cell.now ≡ true → (i : ℕ) →
             at self.now.slots i ≡ Some cell.now → ⊥ }
         requires clear { IfSome p.now (λ p. (q : ℕ) → IsIn q clear.old.items → IsClear self.now p q) }
@@ -297,7 +291,7 @@ impl Cells {
             × ((i : ℕ) → at self.now.slots i ≡ Some cell.now → IsIn i freed.now)) (touches_in self.now.place cell.now
             ≡ true → Stays self.now freed.now cell.now)) }
     {
-        if !self.is_touched_by(cell) {
+        if !touches {
             return Ok(false);
         }
         if found {
@@ -313,11 +307,12 @@ impl Cells {
         alloc: Global,
         fresh: &[Cell],
         freed: &[u32],
-        single: bool,
+        matched: &Matched,
         found: bool,
     ) -> Result<Vec<Cell>, AllocError>
         requires order { IsAscending freed.now }
-        requires single { single ≡ true → Differ fresh.now }
+        requires single { matched.now.single ≡ true → Differ fresh.now }
+        requires homes { AreHomes matched.now.fresh fresh.now }
         requires found { found ≡ true → AreNew self.now fresh.now }
         ensures once { IfOk result (λ coming. Differ coming.items) }
         ensures coming { IfOk result (λ coming. AreComing self.now freed.now fresh.now coming.items) }
@@ -325,13 +320,14 @@ impl Cells {
         let p = if found { None } else { self.new_vertex(fresh) };
         let mut clear = self.clear_point(alloc, &p)?;
         let mut coming = Vec::with_capacity(alloc, fresh.len().min(HERE))?;
-        for c in fresh {
-            let comes = self.comes(c, freed, &p, &mut clear, found)?;
+        for (number, c) in fresh.iter().enumerate() {
+            let touches = self.is_touched_by(&matched.fresh, number, c);
+            let comes = self.comes(c, touches, freed, &p, &mut clear, found)?;
             if comes {
                 coming.push(*c)?;
             }
         }
-        if single {
+        if matched.is_single() {
             return Ok(coming);
         }
         Ok(cells_once(coming))
@@ -352,8 +348,8 @@ impl Cells {
         ensures made { IfOk result (λ moves. AreFor gone.now fresh.now moves.freed.items moves.placed.items self.now) }
     {
         let mut guesses = Guesses::new(alloc, gone.len())?;
-        let freed = self.freed_by(alloc, gone, &matched.joined, &mut guesses)?;
-        let coming = self.coming_by(alloc, fresh, &freed, matched.is_single(), found)?;
+        let freed = self.freed_by(alloc, gone, matched, &mut guesses)?;
+        let coming = self.coming_by(alloc, fresh, &freed, matched, found)?;
         let places = places_for(
             alloc,
             &self.slots,

@@ -12,8 +12,9 @@ ghost use Rattle.cell_stars.specs.Moves.{AreKeysAfter, AreTouched, HasSameCells,
 
 use crate::around::{Around, copied_stars};
 use crate::cells::Cells;
+use crate::joined::Joined;
 use crate::joins::{Joint, join};
-use crate::matched::{Joined, Matched};
+use crate::matched::Matched;
 use crate::moves::Moves;
 use crate::plan::{PlacesPlan, Plan, StarsPlan};
 use crate::slots::{Slot, copied_slots};

@@ -165,7 +165,7 @@ fn plans_for(
     requires found { found ≡ true → AreFound gone.now fresh.now places.now }
     ensures { IfOk result (λ plans. IsReady false grid gone.now fresh.now places.now plans.items) }
 {
-    let matched = Matched::of(alloc, gone, fresh)?;
+    let matched = Matched::of(alloc, grid, gone, fresh)?;
     let numbers = numbers_at(alloc, grid, matched.vertices())?;
     let mut plans = Vec::with_capacity(alloc, numbers.len())?;
     for b in &numbers {

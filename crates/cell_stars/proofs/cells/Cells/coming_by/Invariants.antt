@@ -4,10 +4,10 @@ use Rattle.cell_stars.specs.Moves.{IsClear}
 use Rattle.cell_stars.proofs.MoveLaws.{ComingSoFar, SingleSoFar}
 use Rattle.cell_stars.proofs.cells.Cells.coming_by.Given as goal
 
-abbrev pub invariant-loop-c : goal.invariant-loop-c
-invariant-loop-c l =
+abbrev pub invariant-loop-number : goal.invariant-loop-number
+invariant-loop-number l =
     record {
-      coming : ComingSoFar l.self l.freed l.fresh l.c-index l.coming.items;
+      coming : ComingSoFar l.self l.freed l.fresh l.number l.coming.items;
       clear : IfSome l.p (λ p. (q : ℕ) → IsIn q l.clear.items → IsClear l.self p q);
-      single : l.single ≡ true → SingleSoFar l.fresh l.c-index l.coming.items;
+      single : l.matched.single ≡ true → SingleSoFar l.fresh l.number l.coming.items;
     }
