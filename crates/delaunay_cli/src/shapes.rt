@@ -2,7 +2,7 @@
 
 ghost use Rattle.std.specs.Prelude.{◌≡◌, ◌≤◌, true, map, IfOk, IfErr, OnOk};
 ghost use Rattle.std.specs.Io.KnownBytes.{Appends};
-ghost use Rattle.byte_ends.specs.Ends.{Rose};
+ghost use Rattle.byte_ends.specs.Ends.{AppendsFront, HasCause, Rose};
 ghost use Rattle.point_order.specs.Complex.{complex};
 ghost use Rattle.point_order.specs.Sets.{IsAscending};
 ghost use Rattle.point_order.specs.Solid.{is_solid};
@@ -23,7 +23,7 @@ use alpha_complex::{Shape, alphas};
 use byte_ends::{Failed, Sink};
 use edit_files::Version;
 use face_list::{Faces, faces};
-use mesh_files::{Report, put_report, summary_text};
+use mesh_files::{Report, put_report, put_report_by_threads, summary_text};
 use point_order::{Cell, Point};
 use std::alloc::{AllocError, Global};
 use std::thread::Threads;
@@ -67,7 +67,8 @@ fn shapes_of_faces<'a, 'b, R: Threads + Sync>(
     let known = alphas(rt, alloc, faces)?;
     let mut shapes = Vec::new(alloc);
     for radius in radii {
-        shapes.push((*radius, known.shape(alloc, version.alpha(*radius))?))?;
+        let shape = known.shape_by_threads(rt, alloc, version.alpha(*radius))?;
+        shapes.push((*radius, shape))?;
     }
     Ok(shapes)
 }
@@ -92,8 +93,33 @@ fn shapes<'a, 'b, R: Threads + Sync>(
     }
 }
 
+// Writes a report. The lines of one that has shapes are made by threads, as its shapes are.
+fn write_report<R: Threads + Sync, O: Sink>(
+    rt: &R,
+    alloc: Global,
+    report: &Report,
+    out: &mut O,
+) -> Result<(), Failed>
+    requires points { IsAscending report.now.points.items }
+    requires shapes { AreCounted (shapes_seen report.now.shapes.items) }
+    ensures whole { OnOk result (Appends (O.holds out.old) (O.holds out.new) (report_text (parts_of report.now))) }
+    ensures front { AppendsFront (O.holds out.old) (O.holds out.new) (report_text (parts_of report.now)) }
+    ensures cause { HasCause (O.faults out.old) (O.faults out.new) result }
+{
+    if report.shapes.is_empty() {
+        put_report(out, report)
+    } else {
+        put_report_by_threads(rt, alloc, out, report)
+    }
+}
+
 // Puts a report, and says of a fault that the output failed.
-fn put_whole<O: Sink>(report: &Report, out: &mut O) -> Result<(), Stop>
+fn put_whole<R: Threads + Sync, O: Sink>(
+    rt: &R,
+    alloc: Global,
+    report: &Report,
+    out: &mut O,
+) -> Result<(), Stop>
     requires points { IsAscending report.now.points.items }
     requires shapes { AreCounted (shapes_seen report.now.shapes.items) }
     ensures whole { OnOk result (Appends (O.holds out.old) (O.holds out.new) (report_text (parts_of report.now))) }
@@ -102,7 +128,7 @@ fn put_whole<O: Sink>(report: &Report, out: &mut O) -> Result<(), Stop>
         (report_text (parts_of report.now))) }
     ensures later { O.faults out.old ≤ O.faults out.new }
 {
-    match put_report(out, report) {
+    match write_report(rt, alloc, report, out) {
         Ok(()) => Ok(()),
         Err(Failed) => Err(Stop::WriteFault),
     }
@@ -122,7 +148,13 @@ fn put_summary<O: Sink>(alloc: Global, report: &Report, out: &mut O) -> Result<(
 }
 
 // Puts a report in a form.
-fn put<O: Sink>(alloc: Global, form: Form, report: &Report, out: &mut O) -> Result<(), Stop>
+fn put<R: Threads + Sync, O: Sink>(
+    rt: &R,
+    alloc: Global,
+    form: Form,
+    report: &Report,
+    out: &mut O,
+) -> Result<(), Stop>
     requires points { IsAscending report.now.points.items }
     requires shapes { AreCounted (shapes_seen report.now.shapes.items) }
     ensures whole { OnOk result (Appends (O.holds out.old) (O.holds out.new)
@@ -133,7 +165,7 @@ fn put<O: Sink>(alloc: Global, form: Form, report: &Report, out: &mut O) -> Resu
     ensures later { O.faults out.old ≤ O.faults out.new }
 {
     match form {
-        Form::Whole => put_whole(report, out),
+        Form::Whole => put_whole(rt, alloc, report, out),
         Form::Summary => put_summary(alloc, report, out),
     }
 }
@@ -175,5 +207,5 @@ pub fn put_parts<R: Threads + Sync, O: Sink>(
         shapes,
         order,
     };
-    put(alloc, form, &report, out)
+    put(rt, alloc, form, &report, out)
 }
