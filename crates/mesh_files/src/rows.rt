@@ -59,6 +59,7 @@ pub(crate) struct Beside<'a, R> {
     pub alloc: Global,
 }
 
+// The word of a kind.
 fn word_of(kind: Kind) -> &'static str
     ensures { result.now ≡ kind_word kind }
 {

@@ -166,7 +166,7 @@ pub fn put_in_turn<L: Lines, O: Sink>(sheet: &mut Sheet<O>, lines: &L)
     put_range(sheet, lines, 0, lines.count());
 }
 
-/// Puts all lines. Some are made side by side, by as many threads as there are processors, and put in their order, and
+/// Puts all lines. Some are made, side by side by as many threads as there are processors, and put in their order, and
 /// then the next ones. Where memory for them is refused, they are put one after another.
 pub fn put_beside<R: Threads + Sync, L: Lines + Sync, O: Sink>(
     rt: &R,
@@ -180,9 +180,5 @@ pub fn put_beside<R: Threads + Sync, L: Lines + Sync, O: Sink>(
         Ok(count) => count.get(),
         Err(_) => 1,
     };
-    if threads < 2 {
-        put_in_turn(sheet, lines);
-        return;
-    }
     put_in_rounds(rt, alloc, sheet, lines, threads);
 }
