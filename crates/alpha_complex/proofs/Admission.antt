@@ -348,7 +348,8 @@ admitted_triple_is s alpha p l i = same_test (is_admitted_triple alpha (p, cells
     there t = elim (one_true (list_any (is_small_cell alpha) (cells_with p (complex s)))
         (is_small_by alpha (p, cells_with p (complex s))) t) [
           | inl e ↦ around_admits s alpha p l.ascending e
-          | inr e ↦ triple_admits s alpha p p (record { listed = i; small = sym (l.small 3 p i) ∙ e }) (contains_itself p)
+          | inr e ↦ triple_admits s alpha p p (record { listed = i; small = sym (l.small 3 p i) ∙ e })
+              (contains_itself p)
         ]
 
     -- it is small itself

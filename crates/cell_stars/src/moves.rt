@@ -1,6 +1,20 @@
 //! What goes and comes in an exchange, by places.
 
-ghost use Rattle.std.specs.Prelude.{◌≡◌, ◌⊎◌, ◌<◌, ℕ, true, None, Some, IfOk, IfSome, OnOk, MatchOption, MatchBool, IsTrue};
+ghost use Rattle.std.specs.Prelude.{
+  ◌≡◌,
+  ◌⊎◌,
+  ◌<◌,
+  ℕ,
+  true,
+  None,
+  Some,
+  IfOk,
+  IfSome,
+  OnOk,
+  MatchOption,
+  MatchBool,
+  IsTrue,
+};
 ghost use Rattle.std.specs.List.{zip};
 ghost use Rattle.point_order.specs.declared.cell.Cell.{Cell};
 ghost use Rattle.point_order.specs.Facets.{points_of};

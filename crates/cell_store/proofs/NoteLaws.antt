@@ -403,7 +403,8 @@ pub all_ready : (t : Bool) (g : ℕ) (gone fresh : List Cell) (old new : List (O
     AllRoomier old new → IsReady t g gone fresh old plans → IsReady t g gone fresh new plans
 all_ready t g gone fresh old new plans r q = record {
   each = λ l i. kept_roomier (λ c. IsExchange t gone fresh c.cells l.plan) (layout_at old l.number)
-      (layout_at new l.number) (λ c d m k. subst (λ y. IsExchange t gone fresh y l.plan) (sym m.cells) k) (r.each l.number)
+      (layout_at new l.number) (λ c d m k. subst (λ y. IsExchange t gone fresh y l.plan) (sym m.cells) k)
+      (r.each l.number)
       (q.each l i);
   apart = q.apart;
   others = q.others;

@@ -1,5 +1,35 @@
 -- What buckets get of a history at once.
-use Rattle.std.specs.Prelude.{◌≡◌, ℕ, zero, suc, ◌+◌, ◌*◌, ◌<◌, ◌≤◌, ◌==◌, ◌||◌, Bool, true, false, List, [], ◌∷◌, ◌++◌, ◌⊎◌, Option, None, Some, IsSome, length, map, replicate, slice_get, slice_index_or, slice_set, if◌then◌else◌}
+use Rattle.std.specs.Prelude.{
+  ◌≡◌,
+  ℕ,
+  zero,
+  suc,
+  ◌+◌,
+  ◌*◌,
+  ◌<◌,
+  ◌≤◌,
+  ◌==◌,
+  ◌||◌,
+  Bool,
+  true,
+  false,
+  List,
+  [],
+  ◌∷◌,
+  ◌++◌,
+  ◌⊎◌,
+  Option,
+  None,
+  Some,
+  IsSome,
+  length,
+  map,
+  replicate,
+  slice_get,
+  slice_index_or,
+  slice_set,
+  if◌then◌else◌,
+}
 use Rattle.std.specs.List.{filter, list_any}
 use Rattle.std.specs.List.Sorted.{IsStrictlySortedBy}
 use Rattle.std.proofs.Common.{Vec, Global, refl, sym, ◌∙◌, ap, subst, inl, inr, arith, take}
@@ -7,7 +37,17 @@ use Rattle.std.proofs.lemmas.List.{get_or-set_same, get_or-set_other, length-app
 use Rattle.std.proofs.lemmas.List.Elements.{filter-append}
 use Rattle.std.proofs.lemmas.List.Folds.{list_any_more}
 use Rattle.std.proofs.lemmas.List.Kept.{IsStrictlySortedBy-filter}
-use Rattle.list_laws.proofs.Cited.{len_set, map_set, filtered_ascending, filtered_from, in_pushed, is_there, same_from, same_true, take_next}
+use Rattle.list_laws.proofs.Cited.{
+  len_set,
+  map_set,
+  filtered_ascending,
+  filtered_from,
+  in_pushed,
+  is_there,
+  same_from,
+  same_true,
+  take_next,
+}
 use Rattle.point_order.specs.declared.cell.Cell.{Cell}
 use Rattle.point_order.specs.CellOrder.{cell_cmp}
 use Rattle.point_order.specs.Complex.{complex}

@@ -1,6 +1,19 @@
 //! The search for the first cell of a walk.
 
-ghost use Rattle.std.specs.Prelude.{◌≡◌, ◌↔◌, ◌⊎◌, List, [], None, Some, IsTrue, IsSome, IfSome, MatchBool, MatchOption};
+ghost use Rattle.std.specs.Prelude.{
+  ◌≡◌,
+  ◌↔◌,
+  ◌⊎◌,
+  List,
+  [],
+  None,
+  Some,
+  IsTrue,
+  IsSome,
+  IfSome,
+  MatchBool,
+  MatchOption,
+};
 ghost use Rattle.std.specs.declared.cmp.Ordering.TheVariants.{Less};
 ghost use Rattle.point_order.specs.CellOrder.{cell_cmp};
 ghost use Rattle.point_order.specs.Sets.{IsIn};

@@ -181,7 +181,12 @@ item_from {K} parts n k m (c ∷ cells) i = elim
           let r = mapped_from (λ (p : K). (p, n)) (k, m) (parts c) j in
           let a : r.0 ≡ k = ap (λ (v : K × ℕ). v.0) r.2 in
           let b : n ≡ m = ap (λ (v : K × ℕ). v.1) r.2 in
-          record { place = 0; inside = omega arith; is = omega (arith, b); holds = subst (λ v. IsIn v (parts c)) a r.1 })
+          record {
+            place = 0;
+            inside = omega arith;
+            is = omega (arith, b);
+            holds = subst (λ v. IsIn v (parts c)) a r.1;
+          })
       | inr j ↦ further (λ c. IsIn k (parts c)) n m c cells (item_from parts (suc n) k m cells j)
     ]
 

@@ -1,5 +1,24 @@
 -- The sphere of a triple and a point above it: the in-sphere polynomial by minors of the steps to the three.
-use Rattle.std.specs.Prelude.{◌≡◌, ◌≢◌, ℕ, suc, ℤ, pos, ◌<ℤ◌, ◌+ℤ◌, ◌-ℤ◌, ◌*ℤ◌, ◌&&◌, ◌||◌, [], ◌∷◌, Option, None, Some, IfSome}
+use Rattle.std.specs.Prelude.{
+  ◌≡◌,
+  ◌≢◌,
+  ℕ,
+  suc,
+  ℤ,
+  pos,
+  ◌<ℤ◌,
+  ◌+ℤ◌,
+  ◌-ℤ◌,
+  ◌*ℤ◌,
+  ◌&&◌,
+  ◌||◌,
+  [],
+  ◌∷◌,
+  Option,
+  None,
+  Some,
+  IfSome,
+}
 use Rattle.std.specs.Int.Signed.{lt_z}
 use Rattle.std.proofs.Common.{arith, ◌∙◌}
 use Rattle.std.proofs.lemmas.Int.{ints}
@@ -61,7 +80,8 @@ pub by_kept : (a b c d e : ℕ) → sphere_polynomial a b c d e ≡ orientation 
     *ℤ z_from a e
 unfolding orientation normal_x normal_y normal_z
 by_kept a b c d e =
-    sphere_from_first a b c d e ∙ by_minors (x_from a b) (y_from a b) (z_from a b) (x_from a c) (y_from a c) (z_from a c)
+    sphere_from_first a b c d e ∙ by_minors (x_from a b) (y_from a b) (z_from a b) (x_from a c) (y_from a c)
+    (z_from a c)
     (x_from a d) (y_from a d) (z_from a d) (x_from a e) (y_from a e) (z_from a e) (distance a d) (distance a c)
     (distance a b) (distance a e)
 

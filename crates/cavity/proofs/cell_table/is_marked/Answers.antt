@@ -7,7 +7,8 @@ use Rattle.cavity.proofs.cell_table.is_marked.Goals as goal
 
 pub returns-in-Free : goal.returns-in-Free
 returns-in-Free c =
-    no_test c.args.cell.now c.args.goes.now (none_goes c.args.marks.now c.args.home c.args.goes.now c.args.cell.now c.loop-at.at c.loop-at.invariant
+    no_test c.args.cell.now c.args.goes.now
+    (none_goes c.args.marks.now c.args.home c.args.goes.now c.args.cell.now c.loop-at.at c.loop-at.invariant
     c.loop-at.auto.at c.in-Free.is c.requires)
 
 pub returns-then-is_at : goal.returns-then-is_at
@@ -27,5 +28,6 @@ loop-at-preserved c =
 
 pub returns : goal.returns
 returns c =
-    no_test c.args.cell.now c.args.goes.now (none_goes c.args.marks.now c.args.home c.args.goes.now c.args.cell.now c.loop-at.at c.loop-at.invariant
+    no_test c.args.cell.now c.args.goes.now
+    (none_goes c.args.marks.now c.args.home c.args.goes.now c.args.cell.now c.loop-at.at c.loop-at.invariant
     c.loop-at.auto.at (get_or_past c.args.marks.now c.loop-at.at Free c.loop-at-test.false) c.requires)

@@ -15,7 +15,8 @@ returns-in_ok-push-clause-order g c =
       | then-count-eq0-via-then-count-eq0 w ↦ absurd
           (none_in l x (let a = w.if-count-eq0.true in omega (arith, a, c.len-count.ensures, c.args.keys.now.ok.0)) i)
       | then-count-eq0-via-else-count-eq0+then-is_before w ↦ behind_all g.K.Ord.cmp g.met.K.Ord.total l
-          (c.len-count.result - 1) w.index.result.now c.args.key (omega (arith, c.len-count.ensures, c.args.keys.now.ok.0))
+          (c.len-count.result - 1) w.index.result.now c.args.key
+          (omega (arith, c.len-count.ensures, c.args.keys.now.ok.0))
           c.requires.order (subst (λ v. g.K.Ord.cmp v c.args.key ≡ _) w.index.ensures
           (is_less _ (sym w.is_before.ensures ∙ w.if-is_before.true))) x i
     ]))

@@ -13,7 +13,8 @@ loop-number-preserved c =
     let n = c.loop-number.number in
     elim c.match-cells-number.branch [
       | in-Full+in_ok-put-in-Full w ↦ items_next parts c.args.cells.now n _ _ _ _ _ c.loop-number-test.true
-          c.loop-number.invariant w.in-Full.is w.pairs.ensures (ap (λ v. v.items) w.items-is ∙ w.in_ok-put-in-Full.ensures)
+          c.loop-number.invariant w.in-Full.is w.pairs.ensures
+          (ap (λ v. v.items) w.items-is ∙ w.in_ok-put-in-Full.ensures)
       | in-Open+in_ok-put-in-Open w ↦ items_next parts c.args.cells.now n _ _ _ _ _ c.loop-number-test.true
           c.loop-number.invariant w.in-Open.is w.pairs-in-Open.ensures
           (ap (λ v. v.items) w.items-is ∙ w.in_ok-put-in-Open.ensures)

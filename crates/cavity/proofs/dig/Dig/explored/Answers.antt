@@ -10,4 +10,5 @@ returns-then-self-found c =
 pub returns-else-self-found : goal.returns-else-self-found
 returns-else-self-found c =
     sym (take_all c.self.inside.explored c.goes-found.result.now (omega arith))
-    ∙ ap (take c.self.inside.explored) c.goes-found.ensures ∙ ap (λ (d : Digging). take d.explored d.found) c.self.view_is
+    ∙ ap (take c.self.inside.explored) c.goes-found.ensures ∙ ap (λ (d : Digging). take d.explored d.found)
+    c.self.view_is

@@ -25,7 +25,8 @@ loop-number-init c = record {
 
 pub comes-requires-clause-found : goal.comes-requires-clause-found
 comes-requires-clause-found c t = c.requires.found t c.index-fresh-number.result
-    (at_place c.args.fresh.now c.loop-number.number c.index-fresh-number.result c.index-fresh-number.result c.loop-number-test.true c.index-fresh-number.is)
+    (at_place c.args.fresh.now c.loop-number.number c.index-fresh-number.result c.index-fresh-number.result
+    c.loop-number-test.true c.index-fresh-number.is)
 
 -- the next cell comes, or stands there already or touches another bucket
 pub loop-number-preserved : goal.loop-number-preserved
@@ -39,13 +40,16 @@ loop-number-preserved c =
     elim c.if-comes.branch [
       | then-comes+in_ok-push w ↦ rw w.coming-is (record {
         coming = coming_more b freed fresh n c.loop-number.coming.items w.push.new.self.items x c.loop-number-test.true
-            c.index-fresh-number.is (rw w.if-comes.true at c.in_ok-comes.ensures.comes) w.in_ok-push.ensures.items i.coming;
+            c.index-fresh-number.is (rw w.if-comes.true at c.in_ok-comes.ensures.comes) w.in_ok-push.ensures.items
+            i.coming;
         clear = c.in_ok-comes.ensures.clear;
         single = λ t. single_more fresh n c.loop-number.coming.items w.push.new.self.items x
-            (c.requires.single t) c.loop-number-test.true c.index-fresh-number.is w.in_ok-push.ensures.items (i.single t);
+            (c.requires.single t) c.loop-number-test.true c.index-fresh-number.is w.in_ok-push.ensures.items
+            (i.single t);
       })
       | else-comes w ↦ rw w.coming-is (record {
-        coming = coming_same b freed fresh n c.loop-number.coming.items x c.loop-number-test.true c.index-fresh-number.is
+        coming = coming_same b freed fresh n c.loop-number.coming.items x c.loop-number-test.true
+            c.index-fresh-number.is
             (rw w.if-comes.false at c.in_ok-comes.ensures.comes) i.coming;
         clear = c.in_ok-comes.ensures.clear;
         single = λ t. single_same fresh n c.loop-number.coming.items (i.single t);
@@ -57,8 +61,10 @@ returns-then-is_single-clause-once c = (c.loop-number.invariant.single
     (sym c.is_single.ensures ∙ c.if-is_single.true)).differ
 
 pub returns-then-is_single-clause-coming : goal.returns-then-is_single-clause-coming
-returns-then-is_single-clause-coming c = coming_all c.args.self.now c.args.freed.now c.args.fresh.now c.loop-number.number
-    c.loop-number.coming.items c.loop-number.coming.items c.loop-number-test.false (λ x m. m, λ x m. m) c.loop-number.invariant.coming
+returns-then-is_single-clause-coming c = coming_all c.args.self.now c.args.freed.now c.args.fresh.now
+    c.loop-number.number
+    c.loop-number.coming.items c.loop-number.coming.items c.loop-number-test.false (λ x m. m, λ x m. m)
+    c.loop-number.invariant.coming
 
 pub returns-clause-coming : goal.returns-clause-coming
 returns-clause-coming c = coming_all c.args.self.now c.args.freed.now c.args.fresh.now c.loop-number.number

@@ -13,7 +13,8 @@ loop-number-preserved c =
     let b = c.args.self.now in
     let x = c.index-gone-number.result in
     elim c.match-place.branch [
-      | in-Some+in_ok-push w ↦ rw w.freed-is (freed_more b c.args.gone.now c.loop-number.number c.loop-number.freed.items
+      | in-Some+in_ok-push w ↦ rw w.freed-is
+          (freed_more b c.args.gone.now c.loop-number.number c.loop-number.freed.items
           w.push.new.self.items x w.in-Some.i (subst AreStars c.self.view_is c.self.invariant) c.loop-number-test.true
           c.index-gone-number.is w.in-Some.ensures w.in_ok-push.ensures.items c.loop-number.invariant)
       | in_default w ↦ rw w.freed-is (freed_same b c.args.gone.now c.loop-number.number c.loop-number.freed.items x
@@ -25,5 +26,6 @@ returns-clause-freed c = freed_all c.args.self.now c.args.gone.now c.loop-number
     c.numbers_in_order.result.items c.loop-number-test.false c.numbers_in_order.ensures.same c.loop-number.invariant
 
 pub place_by-place-requires : goal.place_by-place-requires
-place_by-place-requires c = homes_at c.args.matched.now.gone c.args.gone.now c.loop-number.number c.index-gone-number.result
+place_by-place-requires c = homes_at c.args.matched.now.gone c.args.gone.now c.loop-number.number
+    c.index-gone-number.result
     c.requires c.loop-number-test.true c.index-gone-number.is

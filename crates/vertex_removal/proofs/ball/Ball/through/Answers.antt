@@ -47,7 +47,8 @@ returns-clause-ball s =
     ∙ normal_z_from a c d v.x v.y w.x w.y) ab) in
     record {
       above = s.requires;
-      value = λ e. by_kept a b c d e ∙ sym (same_kept (distance a e) (x_from a e) (y_from a e) (z_from a e) height x y z);
+      value = λ e. by_kept a b c d e ∙ sym
+          (same_kept (distance a e) (x_from a e) (y_from a e) (z_from a e) height x y z);
       height_within = within_read w64 s.triple.ensures.bound (lit< tt);
       x_within = within_read w64 s.mixed.ensures.bound (lit< tt);
       y_within = within_read w64 s.mixed-2.ensures.bound (lit< tt);

@@ -1,4 +1,4 @@
-use Rattle.std.proofs.Common.{sym, ◌≡◌, ◌∙◌, subst, List, ℕ, false}
+use Rattle.std.proofs.Common.{sym, ◌≡◌, subst, List, ℕ, false}
 use Rattle.std.specs.Prelude.{MatchOption}
 use Rattle.list_laws.proofs.Cited.{at_none}
 use Rattle.point_order.specs.declared.cell.Cell.{Cell}
@@ -30,7 +30,8 @@ near_set-requires c =
     let r = c.requires.shown in
     record {
       held = subst (λ (l : List Cell). AreHeld c.args.hold.now l) (sym c.deref-2.ensures.value)
-          (held_once c.args.hold.now c.in_ok-star.star.items c.cells_once-gone.result.items c.cells_once-gone.ensures.cells
+          (held_once c.args.hold.now c.in_ok-star.star.items c.cells_once-gone.result.items
+          c.cells_once-gone.ensures.cells
           (subst (λ (l : List Cell). AreHeld c.args.hold.now l) c.deref.ensures.value
           (at_none c.missing_bucket.result (AreHeld c.args.hold.now c.deref.result.now)
           (λ b. IsCellMissing c.args.hold.now c.deref.result.now b) c.in_default.not-Some c.missing_bucket.ensures)));
@@ -47,7 +48,8 @@ cells_coming-requires c =
     let v = c.self.inside.point in
     let m = subst (λ (x : ℕ). IsIn x r.0) (sym c.self.view_is) r.2 in
     let near = subst (λ o. MatchOption o (is_solid (without_point v r.0) ≡ false) (λ t. IsLinkSet r.0 v t.items))
-    c.in-Some-2.is (c.in_ok-near.ensures r.0 r.1 m (subst (λ (l : List Cell). IsStar r.0 v l) (sym c.deref-2.ensures.value)
+    c.in-Some-2.is (c.in_ok-near.ensures r.0 r.1 m
+    (subst (λ (l : List Cell). IsStar r.0 v l) (sym c.deref-2.ensures.value)
     (star_once r.0 c.self.inside.point c.in_ok-star.star.items c.cells_once-gone.result.items
     c.cells_once-gone.ensures.cells (c.in_ok-star.ensures r.0 r.1)))) in
     record {
@@ -75,14 +77,16 @@ returns-clause-turn c =
           let l = subst (λ o. MatchOption o (is_solid (without_point c.self.inside.point h) ≡ false)
           (λ t. IsLinkSet h c.self.inside.point t.items)) w.in-Some-2.is
           (c.in_ok-near.ensures h st n (subst (λ (g : List Cell). IsStar h c.self.inside.point g)
-          (sym c.deref-2.ensures.value) (star_once h c.self.inside.point c.in_ok-star.star.items c.cells_once-gone.result.items
+          (sym c.deref-2.ensures.value)
+          (star_once h c.self.inside.point c.in_ok-star.star.items c.cells_once-gone.result.items
           c.cells_once-gone.ensures.cells (c.in_ok-star.ensures h st)))) in
           let f = subst (λ (t : List ℕ). AreTaken t c.self.inside.point w.in_ok-fresh-in-Some-2.fresh.items)
           w.deref-in-Some-2.ensures.value w.in_ok-fresh-in-Some-2.ensures in
           subst (λ (v : ℕ). RefillGives c.args.hold.now h v (Done
           (record { gone = c.cells_once-gone.result; fresh = w.in_ok-fresh-in-Some-2.fresh }))) c.self.view_is
           (refill_done c.args.hold.now h c.self.inside.point w.in-Some-2.near.items c.cells_once-gone.result.items
-          w.in_ok-fresh-in-Some-2.fresh.items (solid_set c.args.hold.now h st).set n l (star_once h c.self.inside.point c.in_ok-star.star.items c.cells_once-gone.result.items
+          w.in_ok-fresh-in-Some-2.fresh.items (solid_set c.args.hold.now h st).set n l
+          (star_once h c.self.inside.point c.in_ok-star.star.items c.cells_once-gone.result.items
           c.cells_once-gone.ensures.cells (c.in_ok-star.ensures h st))
           c.cells_once-gone.ensures.once star f)))
       | in-None w ↦ rw w.result-is (λ h st. (
@@ -92,7 +96,8 @@ returns-clause-turn c =
           let l = subst (λ o. MatchOption o (is_solid (without_point c.self.inside.point h) ≡ false)
           (λ t. IsLinkSet h c.self.inside.point t.items)) w.in-None.is
           (c.in_ok-near.ensures h st n (subst (λ (g : List Cell). IsStar h c.self.inside.point g)
-          (sym c.deref-2.ensures.value) (star_once h c.self.inside.point c.in_ok-star.star.items c.cells_once-gone.result.items
+          (sym c.deref-2.ensures.value)
+          (star_once h c.self.inside.point c.in_ok-star.star.items c.cells_once-gone.result.items
           c.cells_once-gone.ensures.cells (c.in_ok-star.ensures h st)))) in
           subst (λ (v : ℕ). RefillGives c.args.hold.now h v Flat) c.self.view_is (
             none_needed c.args.hold.now h c.self.inside.point c.cells_once-gone.result.items
