@@ -39,6 +39,19 @@ fn in_order(alloc: Global, fresh: &[Cell]) -> Result<Vec<(Cell, usize)>, AllocEr
     Ok(list)
 }
 
+// Where a cell that comes is put: which of those that are put it is, and its place.
+#[derive(Clone, Copy)]
+struct Position {
+    at: u32,
+    place: u32,
+}
+
+// For a cell that is not put.
+const NOWHERE: Position = Position {
+    at: NONE,
+    place: NONE,
+};
+
 // The cells that are put, from one on, beside where the first of them stands among all.
 #[derive(Drop)]
 struct Rest<'a> {
@@ -47,35 +60,36 @@ struct Rest<'a> {
 }
 
 impl Rest<'_> {
-    // Where the cell stands among those that are put, if it is the next one.
-    fn next(&mut self, cell: &Cell) -> u32 {
-        if let Some(((_, next), others)) = self.cells.split_first() {
+    // Where the cell is put, if it is the next one.
+    fn next(&mut self, cell: &Cell) -> Position {
+        if let Some(((place, next), others)) = self.cells.split_first() {
             if next.is_same(cell) {
+                let at = self.first;
                 self.cells = others;
-                self.first = self.first.wrapping_add(1);
-                return self.first.wrapping_sub(1);
+                self.first = at.wrapping_add(1);
+                return Position { at, place: *place };
             }
         }
-        NONE
+        NOWHERE
     }
 }
 
-// Where each of the cells that come stands among those that are put, none for those that are not.
-fn positions(alloc: Global, fresh: &[Cell], moves: &Moves) -> Result<Vec<u32>, AllocError> {
-    let mut positions = Vec::new(alloc);
-    positions.resize(fresh.len(), NONE)?;
+// Where each of the cells that come is put.
+fn positions(alloc: Global, fresh: &[Cell], moves: &Moves) -> Result<Vec<Position>, AllocError> {
+    let mut positions = Vec::with_capacity(alloc, fresh.len())?;
     let mut rest = Rest {
         cells: &moves.placed,
         first: 0,
     };
-    if !moves.listed && rest.cells.len() > FEW {
-        for (cell, at) in &in_order(alloc, fresh)? {
-            if let Some(position) = positions.get_mut(*at) {
-                *position = rest.next(cell);
-            }
+    if moves.listed || rest.cells.len() <= FEW {
+        for cell in fresh {
+            positions.push(rest.next(cell))?;
         }
-    } else {
-        for (position, cell) in positions.iter_mut().zip(fresh) {
+        return Ok(positions);
+    }
+    positions.resize(fresh.len(), NOWHERE)?;
+    for (cell, at) in &in_order(alloc, fresh)? {
+        if let Some(position) = positions.get_mut(*at) {
             *position = rest.next(cell);
         }
     }
@@ -88,18 +102,14 @@ fn positions(alloc: Global, fresh: &[Cell], moves: &Moves) -> Result<Vec<u32>, A
 struct Joins<'a> {
     slots: &'a [Slot],
     moves: &'a Moves,
-    positions: &'a [u32],
+    positions: &'a [Position],
 }
 
 impl Joins<'_> {
     // The place of a cell that comes, by where it stands in their list.
     fn place_of(&self, fresh: u32) -> u32 {
-        match self
-            .moves
-            .placed
-            .get(number_at(self.positions, fresh) as usize)
-        {
-            Some((place, _)) => *place,
+        match self.positions.get(fresh as usize) {
+            Some(position) => position.place,
             None => NONE,
         }
     }
@@ -172,7 +182,7 @@ impl Joins<'_> {
         ensures { OnOk result (puts.new ≡ puts.old) }
     {
         for (position, sides) in self.positions.iter().zip(&joined.sides) {
-            let at = *position as usize;
+            let at = position.at as usize;
             if at < puts.len() {
                 self.link(rim, &mut puts[at], *sides)?;
             }

@@ -19,6 +19,7 @@ mod adding;
 mod around;
 mod at_once;
 mod cells;
+mod coming;
 mod doors;
 mod grid;
 mod guesses;

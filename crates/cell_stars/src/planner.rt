@@ -141,9 +141,11 @@ fn behind_first(list: &[u32], count: usize) -> &[u32] {
 fn open_after(alloc: Global, free: &[u32], moves: &Moves) -> Result<Vec<u32>, AllocError> {
     let taken = moves.placed.len();
     let freed = moves.freed.len();
-    let mut list = Vec::with_capacity(alloc, free.len().saturating_add(freed))?;
-    list.extend_from_slice(behind_first(free, taken.saturating_sub(freed)))?;
-    list.extend_from_slice(behind_first(&moves.freed, taken))?;
+    let open = behind_first(free, taken.saturating_sub(freed));
+    let left = behind_first(&moves.freed, taken);
+    let mut list = Vec::with_capacity(alloc, open.len().saturating_add(left.len()))?;
+    list.extend_from_slice(open)?;
+    list.extend_from_slice(left)?;
     Ok(list)
 }
 
@@ -156,7 +158,26 @@ fn spare_after(
     first: u32,
     end: u32,
 ) -> Result<Vec<u32>, AllocError> {
-    let mut list = Vec::with_capacity(alloc, spare.len().saturating_add(writes.len()))?;
+    let mut list = Vec::with_capacity(alloc, spare.len())?;
+    if !spare.is_empty() || first < end {
+        add_unwritten(&mut list, spare, writes, first, end)?;
+    }
+    for (n, around) in writes {
+        if !around.has_places() {
+            list.push(*n)?;
+        }
+    }
+    Ok(list)
+}
+
+// Adds the numbers that were spare, and those from the first number on and before the end, that no star got.
+fn add_unwritten(
+    list: &mut Vec<u32>,
+    spare: &[u32],
+    writes: &[(u32, Around)],
+    first: u32,
+    end: u32,
+) -> Result<(), AllocError> {
     let marks = marks_of_written(writes);
     for n in spare {
         if !is_written(writes, &marks, *n) {
@@ -168,12 +189,7 @@ fn spare_after(
             list.push(n)?;
         }
     }
-    for (n, around) in writes {
-        if !around.has_places() {
-            list.push(*n)?;
-        }
-    }
-    Ok(list)
+    Ok(())
 }
 
 // The marks of the numbers of these stars.

@@ -5,8 +5,8 @@ use Rattle.point_order.specs.Facets.{points_of}
 use Rattle.point_order.specs.Sets.{IsIn}
 use Rattle.cell_stars.specs.Places.{at}
 use Rattle.cell_stars.proofs.MoveLaws.{lacks_here}
-use Rattle.cell_stars.proofs.moves.none_has.Goals as goal
-use Rattle.cell_stars.proofs.moves.none_has.Goals.{in-Some+else-has_vertex, in_default}
+use Rattle.cell_stars.proofs.coming.none_has.Goals as goal
+use Rattle.cell_stars.proofs.coming.none_has.Goals.{in-Some+else-has_vertex, in_default}
 
 pub loop-i-preserved : goal.loop-i-preserved
 loop-i-preserved c =

@@ -1,6 +1,6 @@
 use Rattle.std.proofs.Common.{◌∙◌, sym}
 use Rattle.list_laws.proofs.Cited.{at_place}
-use Rattle.cell_stars.proofs.moves.meets.Goals as goal
+use Rattle.cell_stars.proofs.coming.meets.Goals as goal
 
 pub returns-then-has_vertex : goal.returns-then-has_vertex
 returns-then-has_vertex c t =
