@@ -9,7 +9,7 @@ returns-in_err-shapes-clause-stop g c = unwritten _ _ _ c.from_residual-in_err-s
     c.from_residual-in_err-shapes.ensures.1
 
 pub put-requires-clause-shapes : goal.put-requires-clause-shapes
-put-requires-clause-shapes g c =
+put-requires-clause-shapes g c κs within =
     let parts = c.args.parts in
     let e = shapes_lent parts.version (shapes_seen c.in_ok-shapes.shapes.items) parts.points.items c.deref-4.result.now
     parts.radii.items c.deref-5.result.now c.in_ok-shapes.ensures c.deref-4.ensures.value c.deref-5.ensures.value in
