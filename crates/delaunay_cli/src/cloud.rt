@@ -14,7 +14,7 @@ ghost use Rattle.delaunay_cli.specs.Run.{IsKept};
 
 use crate::made::Parts;
 use crate::parts::parts_of;
-use crate::task::Asked;
+use crate::task::{Asked, Making};
 use cloud_cells::complex_of_points;
 use edit_files::File;
 use edit_history::Entry;
@@ -51,6 +51,7 @@ fn set_of(alloc: Global, list: &[Point]) -> Result<Vec<Point>, AllocError>
 /// Want of memory.
 pub fn made_of_points(
     alloc: Global,
+    making: Making,
     asked: Asked,
     file: &File,
     four: [usize; 4],
@@ -72,6 +73,6 @@ pub fn made_of_points(
     let points = set_of(alloc, &file.points)?;
     let cells = complex_of_points(alloc, &points)?;
     let kept = history_of_points(alloc, &file.points, four)?;
-    let parts = parts_of(alloc, asked, file, points, cells, &kept)?;
+    let parts = parts_of(alloc, making, asked, file, points, cells, &kept)?;
     Ok((kept, parts))
 }

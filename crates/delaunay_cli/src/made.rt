@@ -30,6 +30,8 @@ pub struct Parts {
     pub radii: Vec<u64>,
     /// The tags of the history, where they are asked for.
     pub order: Option<Vec<u32>>,
+    /// Whether its lines are made by threads; it has the same bytes if not.
+    pub by_threads: bool,
 }
 
 /// What of a report is to be written.

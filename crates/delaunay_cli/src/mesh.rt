@@ -24,6 +24,7 @@ use std::thread::Threads;
 // made.
 fn parts(
     alloc: Global,
+    making: Making,
     asked: Asked,
     file: &File,
     mesh: Mesh,
@@ -39,7 +40,7 @@ fn parts(
     let points = points(alloc, &mesh)?;
     let cells = complex(alloc, &mesh)?;
     drop(mesh);
-    parts_of(alloc, asked, file, points, cells, kept)
+    parts_of(alloc, making, asked, file, points, cells, kept)
 }
 
 /// Makes the mesh of the file's lines by workers, its history, and the parts of the report of what that leaves, with
@@ -68,10 +69,10 @@ pub fn history_and_parts<R: Threads + Sync, G: Gate + Sync>(
         return Err(Stop::Flat);
     };
     if file.edits.is_empty() {
-        return Ok(made_of_points(alloc, asked, file, four)?);
+        return Ok(made_of_points(alloc, making, asked, file, four)?);
     }
     let mesh = mesh_of_lines(rt, alloc, file, four, making, gate)?;
     let kept = history(alloc, &mesh)?;
-    let parts = parts(alloc, asked, file, mesh, &kept)?;
+    let parts = parts(alloc, making, asked, file, mesh, &kept)?;
     Ok((kept, parts))
 }

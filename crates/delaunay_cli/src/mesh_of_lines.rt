@@ -8,16 +8,25 @@ ghost use Rattle.edit_files.specs.Content.{content};
 ghost use Rattle.delaunay_cli.specs.Run.{IsKept};
 
 use crate::task::Making;
-use cell_store::Mesh;
+use cell_store::{Grid, Mesh};
 use edit_files::File;
 use edit_workers::{deal_edits, run_edits};
 use grid_claims::Gate;
-use one_mesh::begin_cloud;
+use one_mesh::{begin_cloud, grid_for};
 use std::alloc::{AllocError, Global};
 use std::thread::Threads;
 
+// The grid over which the mesh of a file's lines is made so. One worker claims no bucket that another wants.
+fn grid_of(making: Making, file: &File) -> Grid {
+    if making.workers > 1 {
+        return making.grid;
+    }
+    grid_for(file.points.len().saturating_add(file.edits.len()))
+}
+
 /// The mesh of a file's lines: its points, put in at once as by one thread, and then its edit lines, which are dealt to
-/// the workers. `four` are the places of the opening four.
+/// the workers, who make them over the buckets of the grid. One worker makes them over the grid that suits their number.
+/// `four` are the places of the opening four.
 ///
 /// # Errors
 /// Want of memory.
@@ -31,11 +40,11 @@ pub fn mesh_of_lines<R: Threads + Sync, G: Gate + Sync>(
 ) -> Result<Mesh, AllocError>
     requires found { option_map places (opening_four file.now.points.items) ≡ Some four }
     requires small { length file.now.points.items + length file.now.edits.items + 4 < 2 ^ 32 }
-    ensures grid { IfOk result (λ mesh. mesh.grid ≡ making.grid) }
     ensures legal { IfOk result (λ mesh. IsLegal mesh.history) }
     ensures kept { IfOk result (λ mesh. IsKept (content file.now) making.workers mesh.history) }
 {
-    let mesh = begin_cloud(alloc, making.grid, &file.points, four)?;
+    let grid = grid_of(making, file);
+    let mesh = begin_cloud(alloc, grid, &file.points, four)?;
     let lists = deal_edits(alloc, file, making.workers)?;
     let mesh = run_edits(rt, alloc, mesh, &lists, gate)?;
     let _ = mesh.hold();

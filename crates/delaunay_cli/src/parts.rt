@@ -13,7 +13,7 @@ ghost use Rattle.delaunay_cli.specs.Report.{AreRadii, order_of as order_of_it, r
 
 use crate::made::Parts;
 use crate::replies::replies_by_tag;
-use crate::task::Asked;
+use crate::task::{Asked, Making};
 use edit_files::File;
 use edit_history::Entry;
 use point_order::{Cell, Point};
@@ -53,13 +53,19 @@ fn radii_of(alloc: Global, shape: bool, radii: &[u64]) -> Result<Vec<u64>, Alloc
     }
 }
 
+// Whether the lines of a report are made by threads.
+fn are_by_threads(making: Making, asked: Asked) -> bool {
+    asked.shape || making.workers > 1
+}
+
 /// The parts of the report of a history of a file's lines: `points` are those that it leaves, and `cells` those of
-/// their complex.
+/// their complex. Its lines are made by threads where it has shapes or several workers made the mesh.
 ///
 /// # Errors
 /// Want of memory.
 pub fn parts_of(
     alloc: Global,
+    making: Making,
     asked: Asked,
     file: &File,
     points: Vec<Point>,
@@ -84,5 +90,6 @@ pub fn parts_of(
         version: file.version,
         radii: radii_of(alloc, asked.shape, &file.radii)?,
         order: order_of(alloc, asked.order, kept)?,
+        by_threads: are_by_threads(making, asked),
     })
 }

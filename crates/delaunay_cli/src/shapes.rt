@@ -93,11 +93,12 @@ fn shapes<'a, 'b, R: Threads + Sync>(
     }
 }
 
-// Writes a report. The lines of one that has shapes are made by threads, as its shapes are.
+// Writes a report, whose lines are made by threads where that is wanted.
 fn write_report<R: Threads + Sync, O: Sink>(
     rt: &R,
     alloc: Global,
     report: &Report,
+    by_threads: bool,
     out: &mut O,
 ) -> Result<(), Failed>
     requires points { IsAscending report.now.points.items }
@@ -106,10 +107,10 @@ fn write_report<R: Threads + Sync, O: Sink>(
     ensures front { AppendsFront (O.holds out.old) (O.holds out.new) (report_text (parts_of report.now)) }
     ensures cause { HasCause (O.faults out.old) (O.faults out.new) result }
 {
-    if report.shapes.is_empty() {
-        put_report(out, report)
-    } else {
+    if by_threads {
         put_report_by_threads(rt, alloc, out, report)
+    } else {
+        put_report(out, report)
     }
 }
 
@@ -118,6 +119,7 @@ fn put_whole<R: Threads + Sync, O: Sink>(
     rt: &R,
     alloc: Global,
     report: &Report,
+    by_threads: bool,
     out: &mut O,
 ) -> Result<(), Stop>
     requires points { IsAscending report.now.points.items }
@@ -128,7 +130,7 @@ fn put_whole<R: Threads + Sync, O: Sink>(
         (report_text (parts_of report.now))) }
     ensures later { O.faults out.old ≤ O.faults out.new }
 {
-    match write_report(rt, alloc, report, out) {
+    match write_report(rt, alloc, report, by_threads, out) {
         Ok(()) => Ok(()),
         Err(Failed) => Err(Stop::WriteFault),
     }
@@ -153,6 +155,7 @@ fn put<R: Threads + Sync, O: Sink>(
     alloc: Global,
     form: Form,
     report: &Report,
+    by_threads: bool,
     out: &mut O,
 ) -> Result<(), Stop>
     requires points { IsAscending report.now.points.items }
@@ -165,7 +168,7 @@ fn put<R: Threads + Sync, O: Sink>(
     ensures later { O.faults out.old ≤ O.faults out.new }
 {
     match form {
-        Form::Whole => put_whole(rt, alloc, report, out),
+        Form::Whole => put_whole(rt, alloc, report, by_threads, out),
         Form::Summary => put_summary(alloc, report, out),
     }
 }
@@ -197,6 +200,7 @@ pub fn put_parts<R: Threads + Sync, O: Sink>(
         version,
         radii,
         order,
+        by_threads,
     } = parts;
     let faces = faces_for(rt, alloc, &points, &cells, &radii)?;
     let shapes = shapes(rt, alloc, &points, &faces, version, &radii)?;
@@ -207,5 +211,5 @@ pub fn put_parts<R: Threads + Sync, O: Sink>(
         shapes,
         order,
     };
-    put(rt, alloc, form, &report, out)
+    put(rt, alloc, form, &report, by_threads, out)
 }

@@ -26,7 +26,7 @@
 //!
 //! ```
 //! let four = find_four(&points)?;                                   // NotSolid: all points lie in one plane
-//! let mut mesh = begin_cloud(alloc, Grid::new(4)?, &points, four)?;
+//! let mut mesh = begin_cloud(alloc, grid_for(points.len()), &points, four)?;
 //! let receipt = apply(alloc, &mut mesh, 9, Edit::Add(p))?;          // Inserted or Duplicate, and its number
 //! let cells = complex(alloc, &mesh)?;                               // sorted; triangles of the hull are Open cells
 //! let faces = faces(&rt, alloc, &cells)?;
@@ -55,7 +55,8 @@ pub use mesh_files::{
 pub use mesh_handle::{Location, locate};
 pub use near_vertex::{Near, NearStart, NearTurn, NearWalk, nearest, nearest_to_each, put_near};
 pub use one_mesh::{
-    Receipt, apply, begin, begin_cloud, complex, find_four, history, opening_points, points,
+    Receipt, apply, begin, begin_cloud, complex, find_four, grid_for, history, opening_points,
+    points,
 };
 pub use point_order::{Cell, Facet, OutOfRange, Pair, Point, Quad, Tri};
 pub use solid_parts::{Part, PartSize, boundary, least_alpha, parts, put_parts, sizes};

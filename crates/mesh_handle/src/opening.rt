@@ -1,38 +1,16 @@
 //! The mesh of places, in a handle, and its end.
 
-ghost use Rattle.std.specs.Prelude.{◌≡◌, true, IfErr, IfOk, None, OnErr, OnOk};
-ghost use Rattle.cell_store.specs.Grids.{is_grid_size};
+ghost use Rattle.std.specs.Prelude.{◌≡◌, IfErr, IfOk, None, OnErr, OnOk};
 ghost use Rattle.edit_history.specs.Histories.{replay};
 ghost use Rattle.mesh_rows.specs.Meshes.{IsStopCause, IsSetOf};
 ghost use Rattle.mesh_handle.specs.Handles.{HoldsPoints};
 
 use crate::handle::{MeshHandle, free};
-use cell_store::{Grid, Mesh};
+use cell_store::Mesh;
 use edit_history::laws::one_thread_is_legal;
 use mesh_rows::{Place, Stop, set_of};
-use one_mesh::{begin_cloud, find_four};
+use one_mesh::{begin_cloud, find_four, grid_for};
 use std::alloc::Global;
-
-// The grid of a size that a grid may have.
-fn grid_of(size: u32) -> Grid
-    requires { is_grid_size size ≡ true }
-{
-    match Grid::new(size) {
-        Ok(grid) => grid,
-        Err(_) => unreachable!(),
-    }
-}
-
-// A grid on which so many points lie a few to a bucket.
-fn grid_for(count: usize) -> Grid {
-    if count < 512 {
-        grid_of(1)
-    } else if count < 16384 {
-        grid_of(4)
-    } else {
-        grid_of(16)
-    }
-}
 
 // The mesh of the points at some places.
 fn mesh_at(alloc: Global, given: &[Place]) -> Result<Mesh, Stop>

@@ -3,8 +3,8 @@
 //! A mesh is seen as its grid and its history.
 //!
 //! ```
-//! let mut mesh = begin(alloc, Grid::new(4)?, [(0, a), (1, b), (2, c), (3, d)])?;  // four independent points with tags
-//! let cloud = begin_cloud(alloc, Grid::new(4)?, &points, find_four(&points)?)?;   // all at once, by their places
+//! let mut mesh = begin(alloc, grid_for(9000), [(0, a), (1, b), (2, c), (3, d)])?;  // four independent points with tags
+//! let cloud = begin_cloud(alloc, grid_for(points.len()), &points, find_four(&points)?)?;  // all at once
 //! let receipt = apply(alloc, &mut mesh, 4, Edit::Add(p))?;  // its number and its reply; less than 2^32 entries before
 //! let cells = complex(alloc, &mesh)?;                       // sorted
 //! ```
@@ -12,11 +12,13 @@
 
 mod clouds;
 mod edits;
+mod grids;
 mod lists;
 mod opening;
 
 pub use clouds::begin_cloud;
 pub use edit_history::{NotSolid, Receipt, find_four};
 pub use edits::{apply, begin};
+pub use grids::grid_for;
 pub use lists::{complex, history, points};
 pub use opening::opening_points;
