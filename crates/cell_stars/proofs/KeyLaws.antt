@@ -433,7 +433,8 @@ keys_step old list new writes n x d g h e a f s = record { order = a; from = fro
       ]
     ]
 
-    kept : (p m : ℕ) → IsIn (p, m) (part_of old p) → ((j : ℕ) (s : List ℕ) → IsIn (j, (p, s)) (take (n + 1) writes) → ⊥) →
+    kept : (p m : ℕ) → IsIn (p, m) (part_of old p) →
+        ((j : ℕ) (s : List ℕ) → IsIn (j, (p, s)) (take (n + 1) writes) → ⊥) →
         IsIn (p, m) (part_of new p)
     kept p m i none = (f (p, m)).1 (inr (
       s.kept p m i (λ j t k. none j t (widen writes n (j, (p, t)) k)),
@@ -506,7 +507,8 @@ keys_stay old writes a f = record {
     from p n i = elim (written_or_not writes p) [
       | inl r ↦ (
           let k = f r.0 (p, r.1) r.2 in
-          let e : n ≡ r.0 = ap (λ y. y.1) (one_key (part_of old p) (p, n) (p, r.0) (a.order (p % length old)) i k.key refl) in
+          let e : n ≡ r.0 = ap (λ y. y.1)
+          (one_key (part_of old p) (p, n) (p, r.0) (a.order (p % length old)) i k.key refl) in
           inl (record {
             places = r.1;
             listed = subst (λ (m : ℕ). IsIn (m, (p, r.1)) writes) (sym e) r.2;

@@ -19,7 +19,15 @@ use Rattle.std.specs.Prelude.{
   slice_set,
 }
 use Rattle.std.proofs.Common.{refl, sym, ◌∙◌, ap, subst, inl, inr, arith, take}
-use Rattle.std.proofs.lemmas.List.{append-nil, append_assoc, get_or-set_same, get_or-set_other, length-append, map-append, take_all}
+use Rattle.std.proofs.lemmas.List.{
+  append-nil,
+  append_assoc,
+  get_or-set_same,
+  get_or-set_other,
+  length-append,
+  map-append,
+  take_all,
+}
 use Rattle.list_laws.proofs.Cited.{
   at_place,
   distinct_ascending,
@@ -480,7 +488,8 @@ change_more base cs ds at n m s part made e a q h b f r o g = (
 
     both : AreFiled (slice_set old n made) × AreKeysWith old m s (slice_set old n made)
     both = filed_with old n m s made f (omega (arith, h, long)) (q ∙ ap (λ c. s.0 % c) (sym long)) o
-        (subst (λ (v : Keys). (k : ℕ × ℕ) → (IsIn k made → IsKeyAfter v m s k) × (IsKeyAfter v m s k → IsIn k made)) r g)
+        (subst (λ (v : Keys). (k : ℕ × ℕ) → (IsIn k made → IsKeyAfter v m s k)
+        × (IsKeyAfter v m s k → IsIn k made)) r g)
 
 -- keys that ascend have each vertex once
 pub ascend_once : (ks : Keys) → IsAscending (vertices ks) → HaveOneKey ks

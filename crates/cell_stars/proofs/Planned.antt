@@ -433,7 +433,8 @@ put_next w v i x l all e b m = (
 )
 
 -- a bucket with the same lists is the same
-pub same_bucket : (p : Option (ℕ × ℕ)) (s s' : List (Option Cell)) (k k' : List (List (ℕ × ℕ))) (t t' : List (ℕ × List ℕ)) →
+pub same_bucket : (p : Option (ℕ × ℕ)) (s s' : List (Option Cell)) (k k' : List (List (ℕ × ℕ)))
+    (t t' : List (ℕ × List ℕ)) →
     s ≡ s' → k ≡ k' → t ≡ t' → ◌≡◌ {A = Placed} (record { place = p; slots = s; keys = k; stars = t })
     (record { place = p; slots = s'; keys = k'; stars = t' })
 same_bucket p s s' k k' t t' e f g = rw (e, f, g)

@@ -153,7 +153,8 @@ same_plan o o' cs cs' r r' es es' k k' us us' e f g h d j = λ i. record {
 }
 
 -- buckets with the same parts are one
-same_placed : (p p' : Option (ℕ × ℕ)) (s s' : List (Option Cell)) (k k' : List (List (ℕ × ℕ))) (t t' : List (ℕ × List ℕ)) →
+same_placed : (p p' : Option (ℕ × ℕ)) (s s' : List (Option Cell)) (k k' : List (List (ℕ × ℕ)))
+    (t t' : List (ℕ × List ℕ)) →
     p ≡ p' → s ≡ s' → k ≡ k' → t ≡ t' →
     ◌≡◌ {A = Placed} (record { place = p; slots = s; keys = k; stars = t })
     (record { place = p'; slots = s'; keys = k'; stars = t' })

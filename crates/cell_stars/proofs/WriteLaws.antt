@@ -123,8 +123,8 @@ full_by s p (x ∷ l) false e f = (let r = in_owned p x s (subst (λ (k : List �
 
 -- a key with a star of its own that has places has the vertex's own number
 pub own_number : (b : Placed) (ks : Keys) (stars : List (ℕ × List ℕ)) (p i : ℕ) (k : ℕ × ℕ) →
-    ks ≡ part_of b.keys p → stars ≡ b.stars → (i < length ks) × (slice_index (vertices ks) i ≡ p) → k ≡ slice_index_or ks i k →
-    ((star_at stars k.1).0 ≡ p) × ((j : ℕ) × IsIn j (star_at stars k.1).1) → IsOwnNumber b p k.1
+    ks ≡ part_of b.keys p → stars ≡ b.stars → (i < length ks) × (slice_index (vertices ks) i ≡ p) →
+    k ≡ slice_index_or ks i k → ((star_at stars k.1).0 ≡ p) × ((j : ℕ) × IsIn j (star_at stars k.1).1) → IsOwnNumber b p k.1
 own_number b ks stars p i k ek es f e o =
     let t = at_key ks i k f.0 e in
     let same : k.0 ≡ p = sym t.1 ∙ f.1 in
@@ -137,7 +137,8 @@ own_number b ks stars p i k ek es f e o =
 
 -- where the star beside the key has none, the vertex is in no star
 pub no_own : (b : Placed) (ks : Keys) (stars : List (ℕ × List ℕ)) (p i : ℕ) (k : ℕ × ℕ) →
-    ks ≡ part_of b.keys p → stars ≡ b.stars → IsAscending (vertices ks) → (i < length ks) × (slice_index (vertices ks) i ≡ p) →
+    ks ≡ part_of b.keys p → stars ≡ b.stars → IsAscending (vertices ks) →
+    (i < length ks) × (slice_index (vertices ks) i ≡ p) →
     k ≡ slice_index_or ks i k → ((star_at stars k.1).0 ≡ p → (j : ℕ) → IsIn j (star_at stars k.1).1 → ⊥) → (j : ℕ) →
     IsStarred b.keys b.stars p j → ⊥
 no_own b ks stars p i k ek es a f e n j s =

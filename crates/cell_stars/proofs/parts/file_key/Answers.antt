@@ -11,9 +11,9 @@ returns-clause-filed c =
     let p = c.args.p in
     let n = c.args.n in
     let new = c.put_in.new.part in
-    let h : i < length ks = (let b = c.number_for-number.ensures.below in let e = c.len.ensures in omega (arith, b, e)) in
-    (filed_more ks i p n new c.requires.filed h (c.number_for-number.ensures.number ∙ ap (λ m. p % m) (c.len.ensures ∙ c.args.parts.now.ok.0))
-    c.in_ok-put_in.ensures.order
+    let h : i < length ks = omega (arith, c.number_for-number.ensures.below, c.len.ensures) in
+    let e = c.number_for-number.ensures.number ∙ ap (λ m. p % m) (c.len.ensures ∙ c.args.parts.now.ok.0) in
+    (filed_more ks i p n new c.requires.filed h e c.in_ok-put_in.ensures.order
     (subst (λ (old : Keys). (k : ℕ × ℕ) → (IsIn k new → ((p, n) ≡ k) ⊎ (IsIn k old × (k.0 ≡ p → ⊥)))
     × (((p, n) ≡ k) ⊎ (IsIn k old × (k.0 ≡ p → ⊥)) → IsIn k new))
     (sym (part_read ks i c.index_mut.result.now c.index_mut.ensures.value h)) c.in_ok-put_in.ensures.keys)).0
@@ -25,9 +25,9 @@ returns-clause-keys c =
     let p = c.args.p in
     let n = c.args.n in
     let new = c.put_in.new.part in
-    let h : i < length ks = (let b = c.number_for-number.ensures.below in let e = c.len.ensures in omega (arith, b, e)) in
-    (filed_more ks i p n new c.requires.filed h (c.number_for-number.ensures.number ∙ ap (λ m. p % m) (c.len.ensures ∙ c.args.parts.now.ok.0))
-    c.in_ok-put_in.ensures.order
+    let h : i < length ks = omega (arith, c.number_for-number.ensures.below, c.len.ensures) in
+    let e = c.number_for-number.ensures.number ∙ ap (λ m. p % m) (c.len.ensures ∙ c.args.parts.now.ok.0) in
+    (filed_more ks i p n new c.requires.filed h e c.in_ok-put_in.ensures.order
     (subst (λ (old : Keys). (k : ℕ × ℕ) → (IsIn k new → ((p, n) ≡ k) ⊎ (IsIn k old × (k.0 ≡ p → ⊥)))
     × (((p, n) ≡ k) ⊎ (IsIn k old × (k.0 ≡ p → ⊥)) → IsIn k new))
     (sym (part_read ks i c.index_mut.result.now c.index_mut.ensures.value h)) c.in_ok-put_in.ensures.keys)).1

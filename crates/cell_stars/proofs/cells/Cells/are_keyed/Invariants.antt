@@ -5,4 +5,5 @@ use Rattle.cell_stars.specs.Moves.{IsKeyed}
 use Rattle.cell_stars.proofs.cells.Cells.are_keyed.Given as goal
 
 abbrev pub invariant-loop-n : goal.invariant-loop-n
-invariant-loop-n l = (x : ℕ × (ℕ × List ℕ)) → IsIn x (take l.n-index l.writes) → IsKeyed (part_of l.self.keys x.1.0) x.0 x.1
+invariant-loop-n l = (x : ℕ × (ℕ × List ℕ)) → IsIn x (take l.n-index l.writes) →
+    IsKeyed (part_of l.self.keys x.1.0) x.0 x.1

@@ -1,9 +1,7 @@
-use Rattle.std.proofs.Common.{subst, ap, sym, ◌∙◌, length, ◌<◌}
-use Rattle.std.specs.Option.{option_map}
-use Rattle.cell_stars.specs.Places.{AreFiled}
-use Rattle.cell_stars.specs.Plans.{AreBelow, or_else, set_all}
-use Rattle.cell_stars.specs.Moves.{AreKeysAfter, HasSameKeys}
-use Rattle.cell_stars.proofs.KeyLaws.{Parts, keys_stay}
+use Rattle.std.proofs.Common.{subst, sym}
+use Rattle.cell_stars.specs.Plans.{set_all}
+use Rattle.cell_stars.specs.Moves.{AreKeysAfter}
+use Rattle.cell_stars.proofs.KeyLaws.{keys_stay}
 use Rattle.cell_stars.proofs.PartLaws.{filed_in}
 use Rattle.cell_stars.proofs.cells.Cells.keys_after.Goals as goal
 

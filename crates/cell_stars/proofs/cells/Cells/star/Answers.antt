@@ -6,8 +6,8 @@ use Rattle.cell_stars.proofs.PartLaws.{part_ascends, part_cost}
 use Rattle.cell_stars.proofs.cells.Cells.star.Goals as goal
 
 pub place_counted-requires : goal.place_counted-requires
-place_counted-requires g c = part_ascends c.self.inside.keys.items c.args.p c.part_for-keys.result.now c.self.invariant.order
-    (c.part_for-keys.ensures ∙ ap (λ (ks : Parts). part_of ks c.args.p) c.deref.ensures.value)
+place_counted-requires g c = part_ascends c.self.inside.keys.items c.args.p c.part_for-keys.result.now
+    c.self.invariant.order (c.part_for-keys.ensures ∙ ap (λ (ks : Parts). part_of ks c.args.p) c.deref.ensures.value)
 
 pub returns-in-Ok-clause-places : goal.returns-in-Ok-clause-places
 returns-in-Ok-clause-places g c =
