@@ -58,9 +58,10 @@ use Rattle.cell_stars.specs.AtOnce.{
 }
 use Rattle.list_laws.specs.Lists.{Gathers}
 use Rattle.cell_stars.specs.Grids.{bucket_of}
-use Rattle.cell_stars.specs.Places.{AreStars, IsStarred, at, cells_of, lies_in, star_at}
+use Rattle.cell_stars.specs.Places.{AreFiled, AreStars, IsStarred, IsStarredBy, at, cells_of, lies_in, star_at}
 use Rattle.cell_stars.specs.Swaps.{Differ, touches}
-use Rattle.cell_stars.proofs.KeyLaws.{at_key, one_key, same_or_not, vertices}
+use Rattle.cell_stars.specs.Moves.{AreKeysOf}
+use Rattle.cell_stars.proofs.KeyLaws.{Parts, at_key, one_key, same_or_not, vertices}
 use Rattle.cell_stars.proofs.Moved.{in_placed, placed_in, placed_sorted}
 use Rattle.cell_stars.proofs.Orders.{sorted_differ}
 
@@ -181,7 +182,7 @@ bare_keyed l keys stars a s e = record {
 -- none of them names a place
 pub bare_none : (l : List ℕ) (keys : List (ℕ × ℕ)) (stars : Stars) (p i : ℕ) → AreNumberedTo (length l) l keys →
     stars ≡ map (λ p. (p, [])) l →
-    IsStarred keys stars p i → ⊥
+    IsStarredBy keys stars p i → ⊥
 bare_none l keys stars p i s e r =
     let h = (s.each (p, r.number) r.key).0 in
     let q : (star_at stars r.number).1 ≡ [] = ap (λ v. (star_at v r.number).1) e
@@ -212,7 +213,7 @@ gains_one keys old new p i n a k e = record {
   };
   only = only;
   kept = kept;
-  came = λ q j r. subst (λ v. IsStarred keys new v j) r.0 (subst (λ v. IsStarred keys new p v) r.1 here);
+  came = λ q j r. subst (λ v. IsStarredBy keys new v j) r.0 (subst (λ v. IsStarredBy keys new p v) r.1 here);
 }
   where
     s : ℕ × List ℕ
@@ -231,7 +232,7 @@ gains_one keys old new p i n a k e = record {
     by_number : (l m : ℕ × ℕ) → IsIn l keys → IsIn m keys → l.1 ≡ m.1 → l ≡ m
     by_number l m c d f = one_key keys l m a.order c d (sym (a.owned l c) ∙ ap (λ v. (star_at old v).0) f ∙ a.owned m d)
 
-    only : (q j : ℕ) → IsStarred keys new q j → IsStarred keys old q j ⊎ ((p ≡ q) × (i ≡ j))
+    only : (q j : ℕ) → IsStarredBy keys new q j → IsStarredBy keys old q j ⊎ ((p ≡ q) × (i ≡ j))
     only q j r = elim (at_number r.number) [
       | inl t ↦ (
           let same : (p, n) ≡ (q, r.number) = by_number (p, n) (q, r.number) k r.key (sym t.0) in
@@ -254,7 +255,7 @@ gains_one keys old new p i n a k e = record {
       })
     ]
 
-    kept : (q j : ℕ) → IsStarred keys old q j → IsStarred keys new q j
+    kept : (q j : ℕ) → IsStarredBy keys old q j → IsStarredBy keys new q j
     kept q j r = elim (at_number r.number) [
       | inl t ↦ record {
         number = r.number;
@@ -271,7 +272,7 @@ gains_one keys old new p i n a k e = record {
       }
     ]
 
-    here : IsStarred keys new p i
+    here : IsStarredBy keys new p i
     here = record {
       number = n;
       key = k;
@@ -485,29 +486,46 @@ all_keyed g b cells l keys s n c i p r =
     beside (k ∷ keys) p (inr m) = (let r = beside keys p m in (r.0, inr r.1))
 
 -- so the stars are those of the cells
-pub are_stars : (g b : ℕ) (cells : List Cell) (l : List ℕ) (keys : List (ℕ × ℕ)) (bare stars : Stars) →
+pub are_stars : (g b : ℕ) (cells : List Cell) (l : List ℕ) (keys : List (ℕ × ℕ)) (parts : Parts) (bare stars : Stars) →
     IsStrictlySortedBy cell_cmp cells →
     ((c : Cell) → IsIn c cells → touches g b c ≡ true) → Gathers (FromCellHere g b) cells [] l →
     AreNumberedTo (length l) l keys →
     bare ≡ map (λ p. (p, [])) l → GainsPlaces keys (StandsAtHere g b cells (length cells)) bare stars →
-    AreStars (record { place = Some (g, b); slots = map (λ c. Some c) cells; keys = keys; stars = stars })
-are_stars g b cells l keys bare stars o t s n e u = record {
-  order = u.keyed.order;
-  names = λ p i r. elim (u.only p i r) [
+    AreFiled parts → AreKeysOf keys parts →
+    AreStars (record { place = Some (g, b); slots = map (λ c. Some c) cells; keys = parts; stars = stars })
+are_stars g b cells l keys parts bare stars o t s n e u f h = record {
+  order = f;
+  names = λ p i r. elim (u.only p i (from_part p i r)) [
     | inl m ↦ absurd (bare_none l keys bare p i n e m)
     | inr q ↦ record { cell = q.1.0; there = q.1.1; has = q.1.2.0; inside = q.1.2.1 }
   ];
-  listed = λ p i c q m h. u.came p i ((at_some cells i c q).0, (c, q, (m, h)));
+  listed = λ p i c q m v. in_part p i (u.came p i ((at_some cells i c q).0, (c, q, (m, v))));
   filled = λ k m. (
-      let h = n.each k m in
+      let h = n.each k ((h k).0 m) in
       elim (s.each k.0 (subst (λ v. IsIn v l) h.1 (index_in l k.1 h.0))) [
         | inl i ↦ absurd i
         | inr r ↦ (let a = in_at cells r.0 r.1 in
-            (a.0, u.came k.0 a.0 ((at_some cells a.0 r.0 a.1).0, (r.0, a.1, r.2))))
+            (a.0, in_part k.0 a.0 (u.came k.0 a.0 ((at_some cells a.0 r.0 a.1).0, (r.0, a.1, r.2)))))
       ]);
   once = λ i j c p q. differ_at cells i j c (sorted_differ cells o) p q;
   touching = λ i c q. t c (at_some cells i c q).1;
 }
+  where
+    from_part : (p i : ℕ) → IsStarred parts stars p i → IsStarredBy keys stars p i
+    from_part p i r = record {
+      number = r.number;
+      key = (h (p, r.number)).0 r.key;
+      owned = r.owned;
+      listed = r.listed;
+    }
+
+    in_part : (p i : ℕ) → IsStarredBy keys stars p i → IsStarred parts stars p i
+    in_part p i r = record {
+      number = r.number;
+      key = (h (p, r.number)).1 r.key;
+      owned = r.owned;
+      listed = r.listed;
+    }
 
 -- and the cells are these
 pub cells_are : (cells : List Cell) (slots : List (Option Cell)) → IsStrictlySortedBy cell_cmp cells →

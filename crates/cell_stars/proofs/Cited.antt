@@ -12,4 +12,5 @@ pub use Rattle.cell_stars.proofs.CellLaws.{
 }
 pub use Rattle.cell_stars.proofs.GridLaws.{bucket_below}
 pub use Rattle.cell_stars.proofs.Least.{live_at}
+pub use Rattle.cell_stars.proofs.PartLaws.{in_own, keys_apart}
 pub use Rattle.cell_stars.proofs.Turned.{turn_is_one, turn_leads_back}

@@ -7,6 +7,7 @@ use Rattle.std.specs.Prelude.{
   ◌<◌,
   ◌≤◌,
   ◌==◌,
+  ◌%◌,
   Bool,
   true,
   false,
@@ -38,12 +39,16 @@ use Rattle.list_laws.proofs.Cited.{
   same_true,
 }
 use Rattle.point_order.specs.Sets.{IsIn, IsAscending, IsBelowFirst}
-use Rattle.cell_stars.specs.Places.{IsStarred, star_at}
-use Rattle.cell_stars.specs.Moves.{IsWritten, AreKeysAfter, AreAgreed, IsKeyed, IsKeyAfter}
+use Rattle.cell_stars.specs.Places.{AreFiled, IsStarredBy, part_of, star_at}
+use Rattle.cell_stars.specs.Moves.{IsWritten, AreKeysAfter, AreKeysWith, AreAgreed, HasSameKeys, IsKeyed, IsKeyAfter}
 
 -- vertices with the numbers of their stars
 abbrev pub Keys : Type 0
 Keys = List (ℕ × ℕ)
+
+-- keys in parts
+abbrev pub Parts : Type 0
+Parts = List (List (ℕ × ℕ))
 
 -- the vertices of keys
 abbrev pub vertices : Keys → List ℕ
@@ -114,7 +119,7 @@ owned_in p x s e i = rw (same_true s.0 p e) i
 pub star_here : (ks : Keys) (stars : List (ℕ × List ℕ)) (p i : ℕ) (k : ℕ × ℕ) (star : List ℕ) →
     IsAscending (vertices ks) → (i < length ks) × (slice_index (vertices ks) i ≡ p) → k ≡ slice_index_or ks i k →
     star ≡ owned_by p (star_at stars k.1) →
-    (x : ℕ) → (IsIn x star → IsStarred ks stars p x) × (IsStarred ks stars p x → IsIn x star)
+    (x : ℕ) → (IsIn x star → IsStarredBy ks stars p x) × (IsStarredBy ks stars p x → IsIn x star)
 star_here ks stars p i k star a h e f x = (there, back)
   where
     t : IsIn k ks × (slice_index (vertices ks) i ≡ k.0)
@@ -123,11 +128,11 @@ star_here ks stars p i k star a h e f x = (there, back)
     same : k.0 ≡ p
     same = sym t.1 ∙ h.1
 
-    there : IsIn x star → IsStarred ks stars p x
+    there : IsIn x star → IsStarredBy ks stars p x
     there m = (let o = in_owned p x (star_at stars k.1) (subst (λ (l : List ℕ). IsIn x l) f m) in
         record { number = k.1; key = subst (λ (q : ℕ). IsIn (q, k.1) ks) same t.0; owned = o.0; listed = o.1 })
 
-    back : IsStarred ks stars p x → IsIn x star
+    back : IsStarredBy ks stars p x → IsIn x star
     back s =
         let q : (p, s.number) ≡ k = one_key ks (p, s.number) k a s.key t.0 (sym same) in
         let n : s.number ≡ k.1 = ap (λ y. y.1) q in
@@ -137,7 +142,7 @@ star_here ks stars p i k star a h e f x = (there, back)
 
 -- a vertex that has none
 pub no_star : (ks : Keys) (stars : List (ℕ × List ℕ)) (p i : ℕ) (star : List ℕ) → BelongsAt ks p i → star ≡ [] →
-    (x : ℕ) → (IsIn x star → IsStarred ks stars p x) × (IsStarred ks stars p x → IsIn x star)
+    (x : ℕ) → (IsIn x star → IsStarredBy ks stars p x) × (IsStarredBy ks stars p x → IsIn x star)
 no_star ks stars p i star b e x = (
   λ m. absurd (subst (λ (l : List ℕ). IsIn x l) e m),
   λ s. absurd (no_key ks p i b (p, s.number) s.key refl),
@@ -347,28 +352,27 @@ rekeyed old new n p s e f g k = (
 abbrev Writes : Type 0
 Writes = List (ℕ × (ℕ × List ℕ))
 
--- the same for the first writes
-pub record KeysSoFar (old : Keys) (writes : Writes) (n : ℕ) (new : Keys) : Type 0 where
-  pub order : IsAscending (vertices new)
-  pub from : (p m : ℕ) → IsIn (p, m) new → IsWritten (take n writes) p m
-      ⊎ (IsIn (p, m) old × ((j : ℕ) (s : List ℕ) → IsIn (j, (p, s)) (take n writes) → ⊥))
-  pub kept : (p m : ℕ) → IsIn (p, m) old → ((j : ℕ) (s : List ℕ) → IsIn (j, (p, s)) (take n writes) → ⊥) →
-      IsIn (p, m) new
-  pub written : (p m : ℕ) → IsWritten (take n writes) p m → IsIn (p, m) new
+-- the keys after the first writes
+pub record KeysSoFar (old : Parts) (writes : Writes) (n : ℕ) (new : Parts) : Type 0 where
+  pub order : AreFiled new
+  pub from : (p m : ℕ) → IsIn (p, m) (part_of new p) → IsWritten (take n writes) p m
+      ⊎ (IsIn (p, m) (part_of old p) × ((j : ℕ) (s : List ℕ) → IsIn (j, (p, s)) (take n writes) → ⊥))
+  pub kept : (p m : ℕ) → IsIn (p, m) (part_of old p) → ((j : ℕ) (s : List ℕ) → IsIn (j, (p, s)) (take n writes) → ⊥) →
+      IsIn (p, m) (part_of new p)
+  pub written : (p m : ℕ) → IsWritten (take n writes) p m → IsIn (p, m) (part_of new p)
 
 -- none of the first no stars was written
 none_yet : (writes : Writes) (x : ℕ × (ℕ × List ℕ)) → IsIn x (take 0 writes) → ⊥
 none_yet writes x m = each_none (λ y. ⊥) writes x m
 
 -- before the first the keys are as they were
-pub keys_begin : (old new : Keys) (writes : Writes) → new ≡ old → IsAscending (vertices old) →
-    KeysSoFar old writes 0 new
-keys_begin old new writes e a = rw e (record {
+pub keys_begin : (old new : Parts) (writes : Writes) → HasSameKeys old new → AreFiled new → KeysSoFar old writes 0 new
+keys_begin old new writes e a = record {
   order = a;
-  from = λ p m i. inr (i, λ j s k. none_yet writes (j, (p, s)) k);
-  kept = λ p m i f. i;
+  from = λ p m i. inr ((e (p, m)).0 i, λ j s k. none_yet writes (j, (p, s)) k);
+  kept = λ p m i f. (e (p, m)).1 i;
   written = λ p m q. absurd (none_yet writes (m, (p, q.places)) q.listed);
-})
+}
 
 -- one of the first n stars is one of the first n + 1
 widen : (writes : Writes) (n : ℕ) (y : ℕ × (ℕ × List ℕ)) → IsIn y (take n writes) → IsIn y (take (n + 1) writes)
@@ -394,17 +398,16 @@ one_or writes n x d y h e m = in_more writes n x d y h e (subst (λ k. IsIn y (t
     one n = omega arith
 
 -- with the next star written the keys are those after it
-pub keys_step : (old list new : Keys) (writes : Writes) (n : ℕ) (x d : ℕ × (ℕ × List ℕ)) → AreAgreed writes →
-    n < length writes → x ≡ slice_index_or writes n d → IsAscending (vertices new) →
-    ((k : ℕ × ℕ) → (IsIn k new → IsKeyAfter list x.0 x.1 k) × (IsKeyAfter list x.0 x.1 k → IsIn k new)) →
+pub keys_step : (old list new : Parts) (writes : Writes) (n : ℕ) (x d : ℕ × (ℕ × List ℕ)) → AreAgreed writes →
+    n < length writes → x ≡ slice_index_or writes n d → AreFiled new → AreKeysWith list x.0 x.1 new →
     KeysSoFar old writes n list → KeysSoFar old writes (n + 1) new
 keys_step old list new writes n x d g h e a f s = record { order = a; from = from; kept = kept; written = written }
   where
     here : IsIn x writes
     here = at_place writes n x d h e
 
-    from : (p m : ℕ) → IsIn (p, m) new → IsWritten (take (n + 1) writes) p m
-        ⊎ (IsIn (p, m) old × ((j : ℕ) (s : List ℕ) → IsIn (j, (p, s)) (take (n + 1) writes) → ⊥))
+    from : (p m : ℕ) → IsIn (p, m) (part_of new p) → IsWritten (take (n + 1) writes) p m
+        ⊎ (IsIn (p, m) (part_of old p) × ((j : ℕ) (s : List ℕ) → IsIn (j, (p, s)) (take (n + 1) writes) → ⊥))
     from p m i = elim ((f (p, m)).0 i) [
       | inl q ↦ inl (record {
         places = x.1.1;
@@ -430,15 +433,16 @@ keys_step old list new writes n x d g h e a f s = record { order = a; from = fro
       ]
     ]
 
-    kept : (p m : ℕ) → IsIn (p, m) old → ((j : ℕ) (s : List ℕ) → IsIn (j, (p, s)) (take (n + 1) writes) → ⊥) →
-        IsIn (p, m) new
+    kept : (p m : ℕ) → IsIn (p, m) (part_of old p) →
+        ((j : ℕ) (s : List ℕ) → IsIn (j, (p, s)) (take (n + 1) writes) → ⊥) →
+        IsIn (p, m) (part_of new p)
     kept p m i none = (f (p, m)).1 (inr (
       s.kept p m i (λ j t k. none j t (widen writes n (j, (p, t)) k)),
       λ q. none x.0 x.1.1 (subst (λ (v : ℕ). IsIn (x.0, (v, x.1.1)) (take (n + 1) writes)) (sym q)
           (last_in writes n x d h e)),
     ))
 
-    written : (p m : ℕ) → IsWritten (take (n + 1) writes) p m → IsIn (p, m) new
+    written : (p m : ℕ) → IsWritten (take (n + 1) writes) p m → IsIn (p, m) (part_of new p)
     written p m w = elim (one_or writes n x d (m, (p, w.places)) h e w.listed) [
       | inl u ↦ elim (same_or_not p x.1.0) [
         | inl q ↦ (
@@ -461,7 +465,7 @@ keys_step old list new writes n x d g h e a f s = record { order = a; from = fro
     ]
 
 -- at the end they are those after all
-pub keys_end : (old new : Keys) (writes : Writes) (n : ℕ) → length writes ≤ n → KeysSoFar old writes n new →
+pub keys_end : (old new : Parts) (writes : Writes) (n : ℕ) → length writes ≤ n → KeysSoFar old writes n new →
     AreKeysAfter old writes new
 keys_end old new writes n h s = subst (λ w. All w) (taken writes n h)
     (record { order = s.order; from = s.from; kept = s.kept; written = s.written })
@@ -488,8 +492,8 @@ written_or_not (x ∷ w) p = elim (same_or_not x.1.0 p) [
 ]
 
 -- where all keys are there, they stay
-pub keys_stay : (old : Keys) (writes : Writes) → IsAscending (vertices old) →
-    ((n : ℕ) (s : ℕ × List ℕ) → IsIn (n, s) writes → IsKeyed old n s) → AreKeysAfter old writes old
+pub keys_stay : (old : Parts) (writes : Writes) → AreFiled old →
+    ((n : ℕ) (s : ℕ × List ℕ) → IsIn (n, s) writes → IsKeyed (part_of old s.0) n s) → AreKeysAfter old writes old
 keys_stay old writes a f = record {
   order = a;
   from = from;
@@ -498,12 +502,13 @@ keys_stay old writes a f = record {
       λ p m w. (f m (p, w.places) w.listed).key;
 }
   where
-    from : (p n : ℕ) → IsIn (p, n) old → IsWritten writes p n
-        ⊎ (IsIn (p, n) old × ((m : ℕ) (s : List ℕ) → IsIn (m, (p, s)) writes → ⊥))
+    from : (p n : ℕ) → IsIn (p, n) (part_of old p) → IsWritten writes p n
+        ⊎ (IsIn (p, n) (part_of old p) × ((m : ℕ) (s : List ℕ) → IsIn (m, (p, s)) writes → ⊥))
     from p n i = elim (written_or_not writes p) [
       | inl r ↦ (
           let k = f r.0 (p, r.1) r.2 in
-          let e : n ≡ r.0 = ap (λ y. y.1) (one_key old (p, n) (p, r.0) a i k.key refl) in
+          let e : n ≡ r.0 = ap (λ y. y.1)
+          (one_key (part_of old p) (p, n) (p, r.0) (a.order (p % length old)) i k.key refl) in
           inl (record {
             places = r.1;
             listed = subst (λ (m : ℕ). IsIn (m, (p, r.1)) writes) (sym e) r.2;
@@ -515,19 +520,19 @@ keys_stay old writes a f = record {
     ]
 
 -- where the next star's key was there at first, it is there yet
-pub keyed_yet : (old list : Keys) (writes : Writes) (n : ℕ) (x d : ℕ × (ℕ × List ℕ)) → AreAgreed writes →
-    n < length writes → x ≡ slice_index_or writes n d → KeysSoFar old writes n list → IsKeyed old x.0 x.1 →
-    IsKeyed list x.0 x.1
+pub keyed_yet : (old list : Parts) (writes : Writes) (n : ℕ) (x d : ℕ × (ℕ × List ℕ)) → AreAgreed writes →
+    n < length writes → x ≡ slice_index_or writes n d → KeysSoFar old writes n list →
+    IsKeyed (part_of old x.1.0) x.0 x.1 → IsKeyed (part_of list x.1.0) x.0 x.1
 keyed_yet old list writes n x d g h e s k = record { key = key; place = k.place; filled = k.filled }
   where
     here : IsIn x writes
     here = at_place writes n x d h e
 
-    key : IsIn (x.1.0, x.0) list
+    key : IsIn (x.1.0, x.0) (part_of list x.1.0)
     key = elim (written_or_not (take n writes) x.1.0) [
       | inl w ↦ (
           let r = g x.0 w.0 x.1.0 x.1.1 w.1 here (in_take n writes (w.0, (x.1.0, w.1)) w.2) in
-          subst (λ (m : ℕ). IsIn (x.1.0, m) list) (sym r.0)
+          subst (λ (m : ℕ). IsIn (x.1.0, m) (part_of list x.1.0)) (sym r.0)
           (s.written x.1.0 w.0 (record { places = w.1; listed = w.2; place = k.place; filled = r.1 k.place k.filled })))
       | inr none ↦ s.kept x.1.0 x.0 k.key none
     ]

@@ -3,6 +3,7 @@ pub mod GridLaws
 pub mod HomeLaws
 pub mod Least
 pub mod KeyLaws
+pub mod PartLaws
 pub mod Placing
 pub mod MoveLaws
 pub mod Moved

@@ -26,7 +26,18 @@ use Rattle.std.proofs.lemmas.List.{get_or-set_same, get_or-set_other, map-append
 use Rattle.list_laws.proofs.Cited.{among_from, among_true, len_set, mapped_from, mapped_true, take_next}
 use Rattle.point_order.specs.declared.cell.Cell.{Cell}
 use Rattle.point_order.specs.Sets.{IsIn, is_among}
-use Rattle.cell_stars.specs.Places.{Placed, AreStars, IsStarred, IsMoved, at, cells_of, touches_in, star_at, swapped_at}
+use Rattle.cell_stars.specs.Places.{
+  Placed,
+  AreStars,
+  IsStarred,
+  IsMoved,
+  at,
+  cells_of,
+  part_of,
+  touches_in,
+  star_at,
+  swapped_at,
+}
 use Rattle.cell_stars.specs.Plans.{
   PlanView,
   Allows,
@@ -187,7 +198,7 @@ agreed b freed placed writes r n m p s t i j = (
 
 -- with the written stars put into a list that is long enough, the stars are those after the exchange
 pub are_rewritten : (gone fresh : List Cell) (freed : List ℕ) (placed : List (ℕ × Cell)) (b : Placed)
-    (writes : List (ℕ × (ℕ × List ℕ))) (keys : List (ℕ × ℕ)) (more : List (ℕ × List ℕ)) → AreStars b →
+    (writes : List (ℕ × (ℕ × List ℕ))) (keys : List (List (ℕ × ℕ))) (more : List (ℕ × List ℕ)) → AreStars b →
     AreFor gone fresh freed placed b → IsRewriting b freed placed writes → AreKeysAfter b.keys writes keys →
     HasSameStars b.stars more → AreBelow (length more) writes → AreRewritten freed placed b keys (set_all writes more)
 are_rewritten gone fresh freed placed b writes keys more a f r k s h =
@@ -283,7 +294,7 @@ are_rewritten gone fresh freed placed b writes keys more a f r k s h =
       ]
     ]
 
-    filled : (x : ℕ × ℕ) → IsIn x keys → (i : ℕ) × IsStarred keys new x.0 i
+    filled : (x : ℕ × ℕ) → IsIn x (part_of keys x.0) → (i : ℕ) × IsStarred keys new x.0 i
     filled x m = elim (k.from x.0 x.1 m) [
       | inl w ↦ (w.place, back x.0 w.place ((r.after.places x.1 w.place (x.0, w.places) w.listed).0 w.filled))
       | inr o ↦ elim (in_or_not x.0) [
@@ -313,24 +324,25 @@ moved_at gone fresh old new m = by old.place refl
 -- so what stands at some places then, and what some stars are, is a plan for the exchange
 pub is_plan : (gone fresh : List Cell) (b : Placed) (p : PlanView) (freed : List ℕ) (placed : List (ℕ × Cell)) →
     AreStars b → AreFor gone fresh freed placed b → IsRewriting b freed placed p.stars →
-    AreKeysAfter b.keys p.stars (or_else p.keys b.keys) →
+    AreKeysAfter b.keys p.stars (set_all p.keys (or_else p.parts b.keys)) →
+    AreBelow (length (or_else p.parts b.keys)) p.keys →
     HasSameCells b.slots (or_else p.grown b.slots) →
     ((i : ℕ) (c : Cell) → IsIn (i, c) placed → i < length (or_else p.grown b.slots)) →
     p.slots ≡ freeing freed ++ putting placed →
     HasSameStars b.stars (or_else p.more b.stars) →
     ((n : ℕ) (s : ℕ × List ℕ) → IsIn (n, s) p.stars → n < length (or_else p.more b.stars)) → IsPlanFor gone fresh b p
-is_plan gone fresh b p freed placed a f r k s h e t g =
+is_plan gone fresh b p freed placed a f r k o s h e t g =
     let u = are_put gone fresh freed placed b (or_else p.grown b.slots) f s h in
     let below = below_all (length (or_else p.more b.stars)) p.stars g in
-    let v = are_rewritten gone fresh freed placed b p.stars (or_else p.keys b.keys) (or_else p.more b.stars) a f r k t
-    below in
+    let v = are_rewritten gone fresh freed placed b p.stars (set_all p.keys (or_else p.parts b.keys))
+    (or_else p.more b.stars) a f r k t below in
     let m = rewritten_is_moved gone fresh freed placed b (done p b) refl a f
     (subst (λ cs. ArePut freed placed b.slots (set_all cs (or_else p.grown b.slots))) (sym e) u.1) v in
     record {
       allows = record {
         slots = subst (λ cs. AreBelow (length (or_else p.grown b.slots)) cs) (sym e) u.0;
-        stars =
-            below;
+        stars = below;
+        keys = o;
         after = m.0;
       };
       cells = moved_at gone fresh b (done p b) m.1;
@@ -421,7 +433,8 @@ put_next w v i x l all e b m = (
 )
 
 -- a bucket with the same lists is the same
-pub same_bucket : (p : Option (ℕ × ℕ)) (s s' : List (Option Cell)) (k k' : List (ℕ × ℕ)) (t t' : List (ℕ × List ℕ)) →
+pub same_bucket : (p : Option (ℕ × ℕ)) (s s' : List (Option Cell)) (k k' : List (List (ℕ × ℕ)))
+    (t t' : List (ℕ × List ℕ)) →
     s ≡ s' → k ≡ k' → t ≡ t' → ◌≡◌ {A = Placed} (record { place = p; slots = s; keys = k; stars = t })
     (record { place = p; slots = s'; keys = k'; stars = t' })
 same_bucket p s s' k k' t t' e f g = rw (e, f, g)

@@ -139,19 +139,22 @@ back_next {X} cs ds l m k s x y w e q h j b f t a r =
 
 -- plans with the same parts are one
 same_plan : (o o' : Option (List (Option Cell))) (cs cs' : List (ℕ × Option Cell)) (r r' : Option (List (ℕ × List ℕ)))
-    (es es' : List (ℕ × (ℕ × List ℕ))) (k k' : Option (List (ℕ × ℕ))) → o ≡ o' → cs ≡ cs' → r ≡ r' → es ≡ es' → k ≡ k' →
-    ◌≡◌ {A = PlanView} (record { grown = o; slots = cs; more = r; stars = es; keys = k })
-    (record { grown = o'; slots = cs'; more = r'; stars = es'; keys = k' })
-same_plan o o' cs cs' r r' es es' k k' e f g h d = λ i. record {
+    (es es' : List (ℕ × (ℕ × List ℕ))) (k k' : Option (List (List (ℕ × ℕ)))) (us us' : List (ℕ × List (ℕ × ℕ))) →
+    o ≡ o' → cs ≡ cs' → r ≡ r' → es ≡ es' → k ≡ k' → us ≡ us' →
+    ◌≡◌ {A = PlanView} (record { grown = o; slots = cs; more = r; stars = es; parts = k; keys = us })
+    (record { grown = o'; slots = cs'; more = r'; stars = es'; parts = k'; keys = us' })
+same_plan o o' cs cs' r r' es es' k k' us us' e f g h d j = λ i. record {
   grown = e i;
   slots = f i;
   more = g i;
   stars = h i;
-  keys = d i;
+  parts = d i;
+  keys = j i;
 }
 
 -- buckets with the same parts are one
-same_placed : (p p' : Option (ℕ × ℕ)) (s s' : List (Option Cell)) (k k' : List (ℕ × ℕ)) (t t' : List (ℕ × List ℕ)) →
+same_placed : (p p' : Option (ℕ × ℕ)) (s s' : List (Option Cell)) (k k' : List (List (ℕ × ℕ)))
+    (t t' : List (ℕ × List ℕ)) →
     p ≡ p' → s ≡ s' → k ≡ k' → t ≡ t' →
     ◌≡◌ {A = Placed} (record { place = p; slots = s; keys = k; stars = t })
     (record { place = p'; slots = s'; keys = k'; stars = t' })
@@ -217,9 +220,10 @@ turn_is_one p q r b c d s t =
     (ap (λ x. x.grown) e) (ap (λ x. x.slots) e) (ap (λ x. x.slots) f) in
     let stars = one_part p.more q.more p.stars q.stars b.stars c.stars s.allows.stars t.allows.stars
     (ap (λ x. x.more) e) (ap (λ x. x.stars) e) (ap (λ x. x.stars) f) in
-    let keys = one_option p.keys q.keys b.keys c.keys (ap (λ x. x.keys) e) (ap (λ x. x.keys) f) in (
-      same_plan _ _ _ _ _ _ _ _ _ _ slots.0 slots.1 stars.0 stars.1 keys.0,
-      same_placed _ _ _ _ _ _ _ _ (ap (λ x. x.place) f) slots.2 keys.1 stars.2,
+    let keys = one_part p.parts q.parts p.keys q.keys b.keys c.keys s.allows.keys t.allows.keys
+    (ap (λ x. x.parts) e) (ap (λ x. x.keys) e) (ap (λ x. x.keys) f) in (
+      same_plan _ _ _ _ _ _ _ _ _ _ _ _ slots.0 slots.1 stars.0 stars.1 keys.0 keys.1,
+      same_placed _ _ _ _ _ _ _ _ (ap (λ x. x.place) f) slots.2 keys.2 stars.2,
     )
 
 -- ---- parts
@@ -269,34 +273,36 @@ part_back {X} o p r cs bs ds l k m n part len f e a b =
 -- a plan that was carried out
 pub turned : (pl : Option (ℕ × ℕ)) (o p : Option (List (Option Cell))) (cs ds : List (ℕ × Option Cell))
     (l m : List (Option Cell)) (r s : Option (List (ℕ × List ℕ))) (es fs : List (ℕ × (ℕ × List ℕ)))
-    (a b : List (ℕ × List ℕ)) (k h : Option (List (ℕ × ℕ))) (n w : List (ℕ × ℕ)) →
+    (a b : List (ℕ × List ℕ)) (k h : Option (List (List (ℕ × ℕ)))) (us vs : List (ℕ × List (ℕ × ℕ)))
+    (n w : List (List (ℕ × ℕ))) →
     AreStars (record { place = pl; slots = l; keys = n; stars = a }) →
-    Allows (record { grown = o; slots = cs; more = r; stars = es; keys = k })
+    Allows (record { grown = o; slots = cs; more = r; stars = es; parts = k; keys = us })
     (record { place = pl; slots = l; keys = n; stars = a }) → IsPart o cs l p ds m → IsPart r es a s fs b →
-    h ≡ kept k n → w ≡ or_else k n →
-    IsTurn (record { grown = o; slots = cs; more = r; stars = es; keys = k })
+    IsPart k us n h vs w →
+    IsTurn (record { grown = o; slots = cs; more = r; stars = es; parts = k; keys = us })
     (record { place = pl; slots = l; keys = n; stars = a }) (record
-    { grown = p; slots = ds; more = s; stars = fs; keys = h })
+    { grown = p; slots = ds; more = s; stars = fs; parts = h; keys = vs })
     (record { place = pl; slots = m; keys = w; stars = b })
-turned pl o p cs ds l m r s es fs a b k h n w before allows x y e f = record {
+turned pl o p cs ds l m r s es fs a b k h us vs n w before allows x y z = record {
   before = before;
   allows = allows;
-  plan = same_plan _ _ _ _ _ _ _ _ _ _ x.grown x.changes y.grown y.changes e;
-  bucket = same_placed _ _ _ _ _ _ _ _ refl x.list f y.list;
+  plan = same_plan _ _ _ _ _ _ _ _ _ _ _ _ x.grown x.changes y.grown y.changes z.grown z.changes;
+  bucket = same_placed _ _ _ _ _ _ _ _ refl x.list z.list y.list;
 }
 
 -- and one that was taken back
 pub turned_back : (pl : Option (ℕ × ℕ)) (o p : Option (List (Option Cell))) (cs ds : List (ℕ × Option Cell))
     (l m : List (Option Cell)) (r s : Option (List (ℕ × List ℕ))) (es fs : List (ℕ × (ℕ × List ℕ)))
-    (a b : List (ℕ × List ℕ)) (k h : Option (List (ℕ × ℕ))) (n w : List (ℕ × ℕ)) →
-    WasTurned (record { grown = p; slots = ds; more = s; stars = fs; keys = h })
+    (a b : List (ℕ × List ℕ)) (k h : Option (List (List (ℕ × ℕ)))) (us vs : List (ℕ × List (ℕ × ℕ)))
+    (n w : List (List (ℕ × ℕ))) →
+    WasTurned (record { grown = p; slots = ds; more = s; stars = fs; parts = h; keys = vs })
     (record { place = pl; slots = m; keys = w; stars = b }) → IsPart o cs l p ds m → IsPart r es a s fs b →
-    k ≡ kept h w → n ≡ or_else h w →
-    IsTurn (record { grown = o; slots = cs; more = r; stars = es; keys = k })
+    IsPart k us n h vs w →
+    IsTurn (record { grown = o; slots = cs; more = r; stars = es; parts = k; keys = us })
     (record { place = pl; slots = l; keys = n; stars = a }) (record
-    { grown = p; slots = ds; more = s; stars = fs; keys = h })
+    { grown = p; slots = ds; more = s; stars = fs; parts = h; keys = vs })
     (record { place = pl; slots = m; keys = w; stars = b })
-turned_back pl o p cs ds l m r s es fs a b k h n w was x y e f =
+turned_back pl o p cs ds l m r s es fs a b k h us vs n w was x y v =
     let t = was.turn in
     let q = was.plan in
     let c = was.bucket in
@@ -304,18 +310,15 @@ turned_back pl o p cs ds l m r s es fs a b k h n w was x y e f =
     (sym x.changes ∙ ap (λ z. z.slots) t.plan) (sym x.list ∙ ap (λ z. z.slots) t.bucket) in
     let stars = one_part r q.more es q.stars a c.stars y.below t.allows.stars (sym y.grown ∙ ap (λ z. z.more) t.plan)
     (sym y.changes ∙ ap (λ z. z.stars) t.plan) (sym y.list ∙ ap (λ z. z.stars) t.bucket) in
-    let back = kept_back q.keys c.keys in
-    let h_is : h ≡ kept q.keys c.keys = ap (λ z. z.keys) t.plan in
-    let w_is : w ≡ or_else q.keys c.keys = ap (λ z. z.keys) t.bucket in
-    let keys : k ≡ q.keys = e ∙ ap (λ u. kept u w) h_is ∙ ap (kept (kept q.keys c.keys)) w_is ∙ back.0 in
-    let own : n ≡ c.keys = f ∙ ap (λ u. or_else u w) h_is ∙ ap (or_else (kept q.keys c.keys)) w_is ∙ back.1 in
+    let keys = one_part k q.parts us q.keys n c.keys v.below t.allows.keys (sym v.grown ∙ ap (λ z. z.parts) t.plan)
+    (sym v.changes ∙ ap (λ z. z.keys) t.plan) (sym v.list ∙ ap (λ z. z.keys) t.bucket) in
     subst (λ (z : PlanView). IsTurn z (record { place = pl; slots = l; keys = n; stars = a })
-    (record { grown = p; slots = ds; more = s; stars = fs; keys = h })
+    (record { grown = p; slots = ds; more = s; stars = fs; parts = h; keys = vs })
     (record { place = pl; slots = m; keys = w; stars = b })) (sym
-    (same_plan _ _ _ _ _ _ _ _ _ _ slots.0 slots.1 stars.0 stars.1 keys))
-    (subst (λ (z : Placed). IsTurn q z (record { grown = p; slots = ds; more = s; stars = fs; keys = h })
+    (same_plan _ _ _ _ _ _ _ _ _ _ _ _ slots.0 slots.1 stars.0 stars.1 keys.0 keys.1))
+    (subst (λ (z : Placed). IsTurn q z (record { grown = p; slots = ds; more = s; stars = fs; parts = h; keys = vs })
     (record { place = pl; slots = m; keys = w; stars = b })) (sym
-    (same_placed _ _ _ _ _ _ _ _ (ap (λ z. z.place) t.bucket) slots.2 own stars.2)) t)
+    (same_placed _ _ _ _ _ _ _ _ (ap (λ z. z.place) t.bucket) slots.2 keys.2 stars.2)) t)
 
 -- the same, of plans and buckets that are these
 pub turn_same : (p p' q q' : PlanView) (b b' c c' : Placed) → p ≡ p' → b ≡ b' → q ≡ q' → c ≡ c' → IsTurn p b q c →

@@ -3,6 +3,7 @@ use Rattle.std.specs.Prelude.{
   ◌≡◌,
   ℕ,
   ◌+◌,
+  ◌%◌,
   ◌<◌,
   ◌≤◌,
   Bool,
@@ -40,7 +41,7 @@ use Rattle.list_laws.proofs.Cited.{
 use Rattle.point_order.specs.declared.cell.Cell.{Cell}
 use Rattle.point_order.specs.Facets.{points_of}
 use Rattle.point_order.specs.Sets.{IsIn, IsAscending}
-use Rattle.cell_stars.specs.Places.{Placed, IsStarred, lies_in, star_at}
+use Rattle.cell_stars.specs.Places.{Placed, AreFiled, IsStarred, lies_in, part_of, star_at}
 use Rattle.cell_stars.specs.Plans.{AreFor, AreVertices}
 use Rattle.cell_stars.specs.Moves.{AreTouched, AreNumbered, IsNumberFor, IsOwnNumber, IsSpare, IsTurnAdded}
 use Rattle.list_laws.specs.Lists.{Gathers}
@@ -121,9 +122,9 @@ full_by s p (x ∷ l) false e f = (let r = in_owned p x s (subst (λ (k : List �
     (r.0, (x, r.1)))
 
 -- a key with a star of its own that has places has the vertex's own number
-pub own_number : (b : Placed) (ks : Keys) (stars : List (ℕ × List ℕ)) (p i : ℕ) (k : ℕ × ℕ) → ks ≡ b.keys →
-    stars ≡ b.stars → (i < length ks) × (slice_index (vertices ks) i ≡ p) → k ≡ slice_index_or ks i k →
-    ((star_at stars k.1).0 ≡ p) × ((j : ℕ) × IsIn j (star_at stars k.1).1) → IsOwnNumber b p k.1
+pub own_number : (b : Placed) (ks : Keys) (stars : List (ℕ × List ℕ)) (p i : ℕ) (k : ℕ × ℕ) →
+    ks ≡ part_of b.keys p → stars ≡ b.stars → (i < length ks) × (slice_index (vertices ks) i ≡ p) →
+    k ≡ slice_index_or ks i k → ((star_at stars k.1).0 ≡ p) × ((j : ℕ) × IsIn j (star_at stars k.1).1) → IsOwnNumber b p k.1
 own_number b ks stars p i k ek es f e o =
     let t = at_key ks i k f.0 e in
     let same : k.0 ≡ p = sym t.1 ∙ f.1 in
@@ -135,8 +136,9 @@ own_number b ks stars p i k ek es f e o =
     }
 
 -- where the star beside the key has none, the vertex is in no star
-pub no_own : (b : Placed) (ks : Keys) (stars : List (ℕ × List ℕ)) (p i : ℕ) (k : ℕ × ℕ) → ks ≡ b.keys →
-    stars ≡ b.stars → IsAscending (vertices ks) → (i < length ks) × (slice_index (vertices ks) i ≡ p) →
+pub no_own : (b : Placed) (ks : Keys) (stars : List (ℕ × List ℕ)) (p i : ℕ) (k : ℕ × ℕ) →
+    ks ≡ part_of b.keys p → stars ≡ b.stars → IsAscending (vertices ks) →
+    (i < length ks) × (slice_index (vertices ks) i ≡ p) →
     k ≡ slice_index_or ks i k → ((star_at stars k.1).0 ≡ p → (j : ℕ) → IsIn j (star_at stars k.1).1 → ⊥) → (j : ℕ) →
     IsStarred b.keys b.stars p j → ⊥
 no_own b ks stars p i k ek es a f e n j s =
@@ -149,7 +151,7 @@ no_own b ks stars p i k ek es a f e n j s =
     (subst (λ l. IsIn j (star_at l k.1).1) (sym es) (subst (λ y. IsIn j (star_at b.stars y).1) m s.listed))
 
 -- nor where it has no key
-pub no_own_at : (b : Placed) (ks : Keys) (p i : ℕ) → ks ≡ b.keys → BelongsAt ks p i → (j : ℕ) →
+pub no_own_at : (b : Placed) (ks : Keys) (p i : ℕ) → ks ≡ part_of b.keys p → BelongsAt ks p i → (j : ℕ) →
     IsStarred b.keys b.stars p j → ⊥
 no_own_at b ks p i e f j s = no_key ks p i f (p, s.number) (subst (λ (l : Keys). IsIn (p, s.number) l) (sym e) s.key)
     refl
@@ -251,7 +253,7 @@ numbered_all b ps n least turns a h s = (
     same = s.vertices ∙ take_all n ps h
 
 -- the star with the number of a vertex has the places of that
-pub held_places : (b : Placed) (p n : ℕ) (items : List ℕ) → IsAscending (vertices b.keys) →
+pub held_places : (b : Placed) (p n : ℕ) (items : List ℕ) → AreFiled b.keys →
     items ≡ owned_by p (star_at b.stars n) → IsNumberFor b p n → (i : ℕ) →
     (IsIn i items → IsStarred b.keys b.stars p i) × (IsStarred b.keys b.stars p i → IsIn i items)
 held_places b p n items a e (inl o) i = (
@@ -259,7 +261,8 @@ held_places b p n items a e (inl o) i = (
       let r = in_owned p i (star_at b.stars n) (subst (λ (l : List ℕ). IsIn i l) e m) in
       record { number = n; key = o.key; owned = r.0; listed = r.1 }),
   λ s. (
-      let q : s.number ≡ n = ap (λ y. y.1) (one_key b.keys (p, s.number) (p, n) a s.key o.key refl) in
+      let q : s.number ≡ n = ap (λ y. y.1)
+      (one_key (part_of b.keys p) (p, s.number) (p, n) (a.order (p % length b.keys)) s.key o.key refl) in
       subst (λ (l : List ℕ). IsIn i l) (sym e)
       (owned_in p i (star_at b.stars n) o.owned (subst (λ y. IsIn i (star_at b.stars y).1) q s.listed))),
 )
@@ -269,6 +272,7 @@ held_places b p n items a e (inr o) i = (
 )
 
 -- where it has places, the vertex has a key with it
-pub held_key : (b : Placed) (p n : ℕ) → IsNumberFor b p n → (i : ℕ) × IsIn i (star_at b.stars n).1 → IsIn (p, n) b.keys
+pub held_key : (b : Placed) (p n : ℕ) → IsNumberFor b p n → (i : ℕ) × IsIn i (star_at b.stars n).1 →
+    IsIn (p, n) (part_of b.keys p)
 held_key b p n (inl o) m = o.key
 held_key b p n (inr o) m = absurd (o.0 m.0 m.1)

@@ -3,7 +3,7 @@ use Rattle.std.specs.Prelude.{◌≡◌, ℕ, ◌<◌, ◌⊎◌, true, List, le
 use Rattle.point_order.specs.declared.cell.Cell.{Cell}
 use Rattle.point_order.specs.Facets.{points_of}
 use Rattle.point_order.specs.Sets.{IsIn, IsAscending}
-use Rattle.cell_stars.specs.Places.{IsStarred, at, lies_in, star_at}
+use Rattle.cell_stars.specs.Places.{IsStarredBy, at, lies_in, star_at}
 
 -- the point, which lies in bucket b, is this one
 abbrev pub StandsHere : ℕ → ℕ → ℕ → ℕ → Type 0
@@ -31,9 +31,9 @@ HaveKeys P keys = (p : ℕ) → P p → (n : ℕ) × IsIn (p, n) keys
 -- beside the places that the stars had, they have those that R tells of their vertices
 pub record GainsPlaces (keys : List (ℕ × ℕ)) (R : ℕ → ℕ → Type 0) (old new : List (ℕ × List ℕ)) : Type 0 where
   pub keyed : AreKeyed keys new
-  pub only : (p i : ℕ) → IsStarred keys new p i → IsStarred keys old p i ⊎ R p i
-  pub kept : (p i : ℕ) → IsStarred keys old p i → IsStarred keys new p i
-  pub came : (p i : ℕ) → R p i → IsStarred keys new p i
+  pub only : (p i : ℕ) → IsStarredBy keys new p i → IsStarredBy keys old p i ⊎ R p i
+  pub kept : (p i : ℕ) → IsStarredBy keys old p i → IsStarredBy keys new p i
+  pub came : (p i : ℕ) → R p i → IsStarredBy keys new p i
 
 -- the cell at one of the first n places has the vertex, which lies in bucket b
 abbrev pub StandsAtHere : ℕ → ℕ → List Cell → ℕ → ℕ → ℕ → Type 0

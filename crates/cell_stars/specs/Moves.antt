@@ -1,28 +1,9 @@
 -- What goes and comes in an exchange, and where.
-use Rattle.std.specs.Prelude.{
-  ◌≡◌,
-  ◌⊎◌,
-  ◌%◌,
-  ◌<◌,
-  ◌≤◌,
-  ℕ,
-  Bool,
-  true,
-  false,
-  List,
-  [],
-  ◌∷◌,
-  ◌++◌,
-  length,
-  Option,
-  Some,
-  map,
-  slice_index_or,
-}
+use Rattle.std.specs.Prelude.{◌≡◌, ◌⊎◌, ◌↔◌, ◌%◌, ◌<◌, ◌≤◌, ℕ, Bool, true, false, List, [], ◌∷◌, ◌++◌, length, Option, Some, slice_index_or}
 use Rattle.point_order.specs.declared.cell.Cell.{Cell}
 use Rattle.point_order.specs.Facets.{points_of}
-use Rattle.point_order.specs.Sets.{IsIn, IsAscending}
-use Rattle.cell_stars.specs.Places.{Placed, IsStarred, at, lies_in, touches_in, star_at}
+use Rattle.point_order.specs.Sets.{IsIn}
+use Rattle.cell_stars.specs.Places.{Placed, AreFiled, IsStarred, at, lies_in, part_of, touches_in, star_at}
 use Rattle.cell_stars.specs.Plans.{StarsAfter}
 use Rattle.cell_stars.specs.Swaps.{cell_rest}
 
@@ -86,7 +67,7 @@ pub record AreTouched (b : Placed) (freed : List ℕ) (placed : List (ℕ × Cel
 
 -- the number stands beside the vertex, and the star with it is the vertex's own and has a place
 pub record IsOwnNumber (b : Placed) (p n : ℕ) : Type 0 where
-  pub key : IsIn (p, n) b.keys
+  pub key : IsIn (p, n) (part_of b.keys p)
   pub owned : (star_at b.stars n).0 ≡ p
   pub place : ℕ
   pub filled : IsIn place (star_at b.stars n).1
@@ -133,12 +114,14 @@ pub record IsWritten (writes : List (ℕ × (ℕ × List ℕ))) (p n : ℕ) : Ty
   pub filled : IsIn place places
 
 -- the vertices with stars after them
-pub record AreKeysAfter (old : List (ℕ × ℕ)) (writes : List (ℕ × (ℕ × List ℕ))) (new : List (ℕ × ℕ)) : Type 0 where
-  pub order : IsAscending (map (λ k. k.0) new)
-  pub from : (p n : ℕ) → IsIn (p, n) new →
-      IsWritten writes p n ⊎ (IsIn (p, n) old × ((m : ℕ) (s : List ℕ) → IsIn (m, (p, s)) writes → ⊥))
-  pub kept : (p n : ℕ) → IsIn (p, n) old → ((m : ℕ) (s : List ℕ) → IsIn (m, (p, s)) writes → ⊥) → IsIn (p, n) new
-  pub written : (p n : ℕ) → IsWritten writes p n → IsIn (p, n) new
+pub record AreKeysAfter (old : List (List (ℕ × ℕ))) (writes : List (ℕ × (ℕ × List ℕ)))
+    (new : List (List (ℕ × ℕ))) : Type 0 where
+  pub order : AreFiled new
+  pub from : (p n : ℕ) → IsIn (p, n) (part_of new p) →
+      IsWritten writes p n ⊎ (IsIn (p, n) (part_of old p) × ((m : ℕ) (s : List ℕ) → IsIn (m, (p, s)) writes → ⊥))
+  pub kept : (p n : ℕ) → IsIn (p, n) (part_of old p) → ((m : ℕ) (s : List ℕ) → IsIn (m, (p, s)) writes → ⊥) →
+      IsIn (p, n) (part_of new p)
+  pub written : (p n : ℕ) → IsWritten writes p n → IsIn (p, n) (part_of new p)
 
 -- the stars of all vertices of an exchange after it, at their numbers
 pub record IsRewriting (b : Placed) (freed : List ℕ) (placed : List (ℕ × Cell))
@@ -164,6 +147,22 @@ pub record IsKeyed (keys : List (ℕ × ℕ)) (n : ℕ) (s : ℕ × List ℕ) : 
 -- the vertex of the star, which has a place, with its number; or another vertex that was there
 abbrev pub IsKeyAfter : List (ℕ × ℕ) → ℕ → ℕ × List ℕ → ℕ × ℕ → Type 0
 IsKeyAfter old n s k = (((s.0, n) ≡ k) × ((i : ℕ) × IsIn i s.1)) ⊎ (IsIn k old × ¬ (k.0 ≡ s.0))
+
+-- the keys are in parts as they are in the list
+abbrev pub AreKeysOf : List (ℕ × ℕ) → List (List (ℕ × ℕ)) → Type 0
+AreKeysOf l keys = (k : ℕ × ℕ) → IsIn k (part_of keys k.0) ↔ IsIn k l
+
+-- each vertex has one number at most
+abbrev pub HaveOneKey : List (ℕ × ℕ) → Type 0
+HaveOneKey l = (k m : ℕ × ℕ) → IsIn k l → IsIn m l → k.0 ≡ m.0 → k ≡ m
+
+-- the same keys are there
+abbrev pub HasSameKeys : List (List (ℕ × ℕ)) → List (List (ℕ × ℕ)) → Type 0
+HasSameKeys old new = (k : ℕ × ℕ) → IsIn k (part_of new k.0) ↔ IsIn k (part_of old k.0)
+
+-- the keys of all parts are those after the star was written
+abbrev pub AreKeysWith : List (List (ℕ × ℕ)) → ℕ → ℕ × List ℕ → List (List (ℕ × ℕ)) → Type 0
+AreKeysWith old n s new = (k : ℕ × ℕ) → IsIn k (part_of new k.0) ↔ IsKeyAfter (part_of old k.0) n s k
 
 -- the same cells stand at the same places
 abbrev pub HasSameCells : List (Option Cell) → List (Option Cell) → Type 0

@@ -8,6 +8,7 @@ use Rattle.std.specs.Prelude.{
   List,
   [],
   ◌∷◌,
+  ◌++◌,
   map,
   Option,
   None,
@@ -15,6 +16,8 @@ use Rattle.std.specs.Prelude.{
   ◌==◌,
   ◌⊎◌,
   slice_index_or,
+  length,
+  ◌%◌,
 }
 use Rattle.std.specs.Ordering.{is_lt}
 use Rattle.std.specs.declared.cmp.Ordering.TheVariants.{Less}
@@ -26,12 +29,12 @@ use Rattle.cell_stars.specs.Grids.{bucket_of}
 use Rattle.cell_stars.specs.Swaps.{with_cells, touches, swapped}
 
 -- Where the bucket stands: the size of its grid and its number there, or none for a new one. Its places, each
--- with a cell or free. The vertices with a star, ascending, each with the number of its star. The stars, each
--- with its vertex and the places of its cells.
+-- with a cell or free. The keys in parts: the vertices with a star, each with the number of its star. The stars,
+-- each with its vertex and the places of its cells.
 pub record Placed : Type 0 where
   pub place : Option (ℕ × ℕ)
   pub slots : List (Option Cell)
-  pub keys : List (ℕ × ℕ)
+  pub keys : List (List (ℕ × ℕ))
   pub stars : List (ℕ × List ℕ)
 
 -- the cells at places that are not free
@@ -71,13 +74,35 @@ swapped_at (Some w) gone fresh l = swapped w.0 w.1 gone fresh l
 abbrev pub star_at : List (ℕ × List ℕ) → ℕ → ℕ × List ℕ
 star_at stars n = slice_index_or stars n (0, [])
 
--- The place is in the star of the vertex: in the one whose number stands beside
--- the vertex, and which is the vertex's own.
-pub record IsStarred (keys : List (ℕ × ℕ)) (stars : List (ℕ × List ℕ)) (p i : ℕ) : Type 0 where
+-- the part of the keys with a number
+abbrev pub part_at : List (List (ℕ × ℕ)) → ℕ → List (ℕ × ℕ)
+part_at keys n = slice_index_or keys n []
+
+-- the part in which the key of a vertex stands
+abbrev pub part_of : List (List (ℕ × ℕ)) → ℕ → List (ℕ × ℕ)
+part_of keys p = part_at keys (p % length keys)
+
+-- the keys of all parts
+unfoldable pub all_keys : List (List (ℕ × ℕ)) → List (ℕ × ℕ)
+all_keys [] = []
+all_keys (l ∷ keys) = l ++ all_keys keys
+
+-- each part ascends, and each key stands in the part of its vertex
+pub record AreFiled (keys : List (List (ℕ × ℕ))) : Type 0 where
+  pub order : (n : ℕ) → IsAscending (map (λ k. k.0) (part_at keys n))
+  pub own : (n : ℕ) (k : ℕ × ℕ) → IsIn k (part_at keys n) → n ≡ k.0 % length keys
+
+-- The place is in the star of the vertex, by a list of keys: in the one whose number
+-- stands beside the vertex, and which is the vertex's own.
+pub record IsStarredBy (keys : List (ℕ × ℕ)) (stars : List (ℕ × List ℕ)) (p i : ℕ) : Type 0 where
   pub number : ℕ
   pub key : IsIn (p, number) keys
   pub owned : (star_at stars number).0 ≡ p
   pub listed : IsIn i (star_at stars number).1
+
+-- it is, by the keys of its part
+abbrev pub IsStarred : List (List (ℕ × ℕ)) → List (ℕ × List ℕ) → ℕ → ℕ → Type 0
+IsStarred keys stars p i = IsStarredBy (part_of keys p) stars p i
 
 -- what a star has: the place of a cell with the vertex, which lies in the bucket
 pub record IsNamed (place : Option (ℕ × ℕ)) (slots : List (Option Cell)) (p i : ℕ) : Type 0 where
@@ -90,11 +115,11 @@ pub record IsNamed (place : Option (ℕ × ℕ)) (slots : List (Option Cell)) (p
 -- each cell stands in the star of each of its vertices in the bucket. No star is empty, no cell stands
 -- at two places, and each touches the bucket.
 pub record AreStars (b : Placed) : Type 0 where
-  pub order : IsAscending (map (λ k. k.0) b.keys)
+  pub order : AreFiled b.keys
   pub names : (p i : ℕ) → IsStarred b.keys b.stars p i → IsNamed b.place b.slots p i
   pub listed : (p i : ℕ) (c : Cell) → at b.slots i ≡ Some c → IsIn p (points_of c) → lies_in b.place p ≡ true →
       IsStarred b.keys b.stars p i
-  pub filled : (k : ℕ × ℕ) → IsIn k b.keys → (i : ℕ) × IsStarred b.keys b.stars k.0 i
+  pub filled : (k : ℕ × ℕ) → IsIn k (part_of b.keys k.0) → (i : ℕ) × IsStarred b.keys b.stars k.0 i
   pub once : (i j : ℕ) (c : Cell) → at b.slots i ≡ Some c → at b.slots j ≡ Some c → i ≡ j
   pub touching : (i : ℕ) (c : Cell) → at b.slots i ≡ Some c → touches_in b.place c ≡ true
 

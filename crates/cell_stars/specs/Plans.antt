@@ -1,37 +1,33 @@
 -- Exchanges that are planned, and then carried out without memory.
-use Rattle.std.specs.Prelude.{
-  ◌≡◌,
-  ◌<◌,
-  ◌↔◌,
-  ◌⊎◌,
-  ℕ,
-  Bool,
-  true,
-  List,
-  [],
-  ◌∷◌,
-  length,
-  map,
-  Option,
-  None,
-  Some,
-  slice_set,
-}
+use Rattle.std.specs.Prelude.{◌≡◌, ◌<◌, ◌↔◌, ◌⊎◌, ℕ, Bool, true, List, [], ◌∷◌, length, Option, None, Some, slice_set}
 use Rattle.point_order.specs.declared.cell.Cell.{Cell}
 use Rattle.point_order.specs.Facets.{points_of}
-use Rattle.point_order.specs.Sets.{IsIn, IsAscending}
-use Rattle.cell_stars.specs.Places.{Placed, AreStars, IsMoved, IsStarred, at, cells_of, lies_in, touches_in, swapped_at}
+use Rattle.point_order.specs.Sets.{IsIn}
+use Rattle.cell_stars.specs.Places.{
+  Placed,
+  AreFiled,
+  AreStars,
+  IsMoved,
+  IsStarred,
+  at,
+  cells_of,
+  lies_in,
+  part_of,
+  touches_in,
+  swapped_at,
+}
 use Rattle.cell_stars.specs.Swaps.{Differ}
 use Rattle.cell_stars.specs.Homes.{AreHomes}
 
 -- A plan: the places and the stars in longer lists, where there are too few; for each place that changes what stands
--- there after, for each star that changes the star after it; the keys where they change.
+-- there after, for each star that changes the star after it; and the same for the keys, with a longer list of parts.
 pub record PlanView : Type 0 where
   pub grown : Option (List (Option Cell))
   pub slots : List (ℕ × Option Cell)
   pub more : Option (List (ℕ × List ℕ))
   pub stars : List (ℕ × (ℕ × List ℕ))
-  pub keys : Option (List (ℕ × ℕ))
+  pub parts : Option (List (List (ℕ × ℕ)))
+  pub keys : List (ℕ × List (ℕ × ℕ))
 
 -- the longer list, where there is one
 abbrev pub or_else : {X : Type 0} → Option X → X → X
@@ -53,13 +49,14 @@ abbrev pub done : PlanView → Placed → Placed
 done p b = record b {
   slots = set_all p.slots (or_else p.grown b.slots);
   stars = set_all p.stars (or_else p.more b.stars);
-  keys = or_else p.keys b.keys;
+  keys = set_all p.keys (or_else p.parts b.keys);
 }
 
 -- the plan can be carried out in the bucket
 pub record Allows (p : PlanView) (b : Placed) : Type 0 where
   pub slots : AreBelow (length (or_else p.grown b.slots)) p.slots
   pub stars : AreBelow (length (or_else p.more b.stars)) p.stars
+  pub keys : AreBelow (length (or_else p.parts b.keys)) p.keys
   pub after : AreStars (done p b)
 
 -- the plan makes the exchange in the bucket
@@ -123,11 +120,11 @@ abbrev pub StarsAfter : List ℕ → List (ℕ × Cell) → Placed → ℕ → �
 StarsAfter freed placed old p i = (IsStarred old.keys old.stars p i × (IsIn i freed → ⊥)) ⊎ IsPutAt old.place placed p i
 
 -- all stars do, and none is empty
-pub record AreRewritten (freed : List ℕ) (placed : List (ℕ × Cell)) (old : Placed) (keys : List (ℕ × ℕ))
+pub record AreRewritten (freed : List ℕ) (placed : List (ℕ × Cell)) (old : Placed) (keys : List (List (ℕ × ℕ)))
     (stars : List (ℕ × List ℕ)) : Type 0 where
-  pub order : IsAscending (map (λ k. k.0) keys)
+  pub order : AreFiled keys
   pub starred : (p i : ℕ) → IsStarred keys stars p i ↔ StarsAfter freed placed old p i
-  pub filled : (k : ℕ × ℕ) → IsIn k keys → (i : ℕ) × IsStarred keys stars k.0 i
+  pub filled : (k : ℕ × ℕ) → IsIn k (part_of keys k.0) → (i : ℕ) × IsStarred keys stars k.0 i
 
 -- Then the stars are those of the cells, and the exchange is made.
 abbrev pub RewrittenIsMoved : Type 0

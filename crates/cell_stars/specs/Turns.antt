@@ -22,7 +22,8 @@ left p b = record {
   slots = stood p.slots (or_else p.grown b.slots);
   more = kept p.more b.stars;
   stars = stood p.stars (or_else p.more b.stars);
-  keys = kept p.keys b.keys;
+  parts = kept p.parts b.keys;
+  keys = stood p.keys (or_else p.parts b.keys);
 }
 
 -- A list l, or a longer one in its place, with changes cs becomes m, and what stood there is kept.

@@ -25,6 +25,7 @@ use crate::doors::links_of;
 use crate::grid::Grid;
 use crate::links::{Around4, Links};
 use crate::numbers::as_number;
+use crate::parts::{count_for, filed_keys};
 use crate::slots::Slot;
 use crate::steps::place_of;
 use point_order::{Cell, Point, points_in_order};
@@ -198,11 +199,12 @@ impl Cells {
         let keys = keys_of(alloc, &vertices)?;
         let mut stars = bare_stars(alloc, &vertices)?;
         add_all(&keys, &mut stars, grid, number, cells)?;
+        let parts = filed_keys(alloc, count_for(keys.len()), &keys)?;
         let mut made = Cells::new(alloc).placed(grid, number);
         made.used = used;
         made.used_stars = used_stars;
         made.slots = slots_of(alloc, cells, &links_of(alloc, cells)?)?;
-        made.keys = keys;
+        made.keys = parts;
         made.stars = stars;
         Ok(made)
     }

@@ -24,13 +24,14 @@ ghost use Rattle.std.specs.Prelude.{
 ghost use Rattle.std.specs.List.{filter};
 ghost use Rattle.point_order.specs.Facets.{points_of};
 ghost use Rattle.point_order.specs.Sets.{IsIn, is_among};
-ghost use Rattle.cell_stars.specs.Places.{cells_of, lies_in, star_at, IsStarred, AreStars};
+ghost use Rattle.cell_stars.specs.Places.{all_keys, cells_of, lies_in, star_at, IsStarred, AreStars};
 ghost use Rattle.cell_stars.specs.Stars.{cells_left, cells_around, cells_to_come};
 
 use crate::around::{Around, copied_stars};
 use crate::grid::Grid;
 use crate::guesses::{links_at, loaded_around};
 use crate::links::{NONE, side_of};
+use crate::parts::{KeyPart, copied_parts, part_for};
 use crate::slots::{Slot, cell_at, copied_slots, place_among};
 use crate::star::{BucketCells, Star, StarCells};
 use crate::steps::{Steps, place_counted, place_of};
@@ -45,7 +46,7 @@ use std::sync::ledger::Ledger;
 pub struct Cells {
     place: Option<(Grid, u32)>,
     pub(crate) slots: Vec<Slot>,
-    pub(crate) keys: Vec<(Point, u32)>,
+    pub(crate) keys: Vec<KeyPart>,
     pub(crate) stars: Vec<Around>,
     // Places and stars that are likely to be free, and the first number of either from which on all are.
     pub(crate) free: Vec<u32>,
@@ -144,10 +145,11 @@ impl Cells {
         ensures places { (i : ℕ) → IsIn i result.now ↔ IsStarred self.now.keys self.now.stars p i }
         ensures stars { AreStars self.now }
         ensures rises { steps.old ≤ steps.new }
-        ensures cost { 2 ^ (steps.new - steps.old) ≤ 2 * length self.now.keys + 1 }
+        ensures cost { 2 ^ (steps.new - steps.old) ≤ 2 * length (all_keys self.now.keys) + 1 }
     {
-        match place_counted(&self.keys, p, steps) {
-            Ok(i) => places_in(&self.stars, self.keys[i].1, p),
+        let keys = part_for(&self.keys, p);
+        match place_counted(keys, p, steps) {
+            Ok(i) => places_in(&self.stars, keys[i].1, p),
             Err(_) => &[],
         }
     }
@@ -157,8 +159,9 @@ impl Cells {
         ensures places { (i : ℕ) → IsIn i result.now ↔ IsStarred self.now.keys self.now.stars p i }
         ensures stars { AreStars self.now }
     {
-        match place_of(&self.keys, p) {
-            Ok(i) => places_in(&self.stars, self.keys[i].1, p),
+        let keys = part_for(&self.keys, p);
+        match place_of(keys, p) {
+            Ok(i) => places_in(&self.stars, keys[i].1, p),
             Err(_) => &[],
         }
     }
@@ -170,7 +173,7 @@ impl Cells {
         ensures cells { cells_left result ≡ filter (λ c. is_among p (points_of c)) (cells_of self.now.slots) }
         ensures stars { AreStars self.now }
         ensures rises { steps.old ≤ steps.new }
-        ensures cost { 2 ^ (steps.new - steps.old) ≤ 2 * length self.now.keys + 1 }
+        ensures cost { 2 ^ (steps.new - steps.old) ≤ 2 * length (all_keys self.now.keys) + 1 }
     {
         Star {
             slots: &self.slots,
@@ -243,7 +246,7 @@ impl Cells {
         Ok(Cells {
             place: self.place,
             slots: copied_slots(alloc, &self.slots, self.slots.len())?,
-            keys: Vec::from_slice(alloc, &self.keys)?,
+            keys: copied_parts(alloc, &self.keys)?,
             stars: copied_stars(alloc, &self.stars, self.stars.len())?,
             free: Vec::from_slice(alloc, &self.free)?,
             spare: Vec::from_slice(alloc, &self.spare)?,

@@ -1,13 +1,25 @@
 //! The vertices with a star after an exchange.
 
-ghost use Rattle.std.specs.Prelude.{◌≡◌, ◌↔◌, ◌⊎◌, ℕ, List, IfOk, OnOk, map, IsTrue};
+ghost use Rattle.std.specs.Prelude.{◌≡◌, ◌↔◌, ◌⊎◌, ◌<◌, ℕ, List, IfOk, OnOk, length, map, IsTrue};
 ghost use Rattle.std.specs.Option.{option_map};
 ghost use Rattle.point_order.specs.Sets.{IsIn, IsAscending};
-ghost use Rattle.cell_stars.specs.Plans.{or_else};
-ghost use Rattle.cell_stars.specs.Moves.{AreKeysAfter, AreAgreed, IsKeyed, IsKeyAfter, IsNumberFor};
+ghost use Rattle.cell_stars.specs.Places.{AreFiled, part_at, part_of};
+ghost use Rattle.cell_stars.specs.Plans.{AreBelow, or_else, set_all};
+ghost use Rattle.cell_stars.specs.Moves.{
+  AreKeysAfter,
+  AreKeysWith,
+  AreAgreed,
+  HasSameKeys,
+  IsKeyed,
+  IsKeyAfter,
+  IsNumberFor,
+};
 
 use crate::around::Around;
 use crate::cells::Cells;
+use crate::numbers::as_number;
+use crate::parts::{KeyPart, count_for, more_parts, number_for};
+use crate::plan::KeysPlan;
 use crate::steps::place_of;
 use crate::writes::is_own;
 use point_order::Point;
@@ -28,7 +40,7 @@ fn drop_key(keys: &mut Vec<(Point, u32)>, p: Point)
 }
 
 // Puts the vertex in, with the number.
-fn put_key(keys: &mut Vec<(Point, u32)>, p: Point, n: u32) -> Result<(), AllocError>
+pub(crate) fn put_key(keys: &mut Vec<(Point, u32)>, p: Point, n: u32) -> Result<(), AllocError>
     requires { IsAscending (map (λ k. k.0) keys.old.items) }
     ensures order { OnOk result (IsAscending (map (λ k. k.0) keys.new.items)) }
     ensures keys { OnOk result ((k : ℕ × ℕ) → IsIn k keys.new.items
@@ -56,11 +68,89 @@ fn write_key(keys: &mut Vec<(Point, u32)>, n: u32, around: &Around) -> Result<()
     Ok(())
 }
 
+// The longer list, where there is one.
+fn either<'a>(more: &'a Option<Vec<KeyPart>>, keys: &'a [KeyPart]) -> &'a [KeyPart]
+    ensures { result.now ≡ or_else (option_map (λ v. v.items) more.now) keys.now }
+{
+    match more {
+        Some(list) => list,
+        None => keys,
+    }
+}
+
+// The part with the number after one change.
+fn newer<'a>(part: &'a KeyPart, change: &'a (u32, KeyPart), number: usize) -> &'a KeyPart
+    ensures same { change.now.0 ≡ number → result.now ≡ change.now.1 }
+    ensures other { ¬ (change.now.0 ≡ number) → result.now ≡ part.now }
+{
+    if change.0 as usize == number {
+        &change.1
+    } else {
+        part
+    }
+}
+
+// The part with the number after the changes.
+fn part_after<'a>(
+    base: &'a [KeyPart],
+    changes: &'a [(u32, KeyPart)],
+    number: usize,
+) -> &'a [(Point, u32)]
+    requires { number < length base.now }
+    ensures { result.now ≡ part_at (set_all changes.now base.now) number }
+{
+    let mut part = &base[number];
+    for change in changes {
+        part = newer(part, change, number);
+    }
+    part.keys()
+}
+
+// The keys of a part after the star was written.
+fn written_part(
+    alloc: Global,
+    part: &[(Point, u32)],
+    n: u32,
+    around: &Around,
+) -> Result<KeyPart, AllocError>
+    requires { IsAscending (map (λ k. k.0) part.now) }
+    ensures order { IfOk result (λ made. IsAscending (map (λ k. k.0) made)) }
+    ensures keys { IfOk result (λ made. (k : ℕ × ℕ) → IsIn k made ↔ IsKeyAfter part.now n around.now k) }
+{
+    let mut keys = Vec::with_capacity(alloc, part.len().saturating_add(1))?;
+    keys.extend_from_slice(part)?;
+    write_key(&mut keys, n, around)?;
+    Ok(KeyPart { keys })
+}
+
+// Adds the part that changes as the star is written.
+fn add_change(
+    alloc: Global,
+    base: &[KeyPart],
+    changes: &mut Vec<(u32, KeyPart)>,
+    n: u32,
+    around: &Around,
+) -> Result<(), AllocError>
+    requires some { 0 < length base.now }
+    requires below { AreBelow (length base.now) changes.old.items }
+    requires filed { AreFiled (set_all changes.old.items base.now) }
+    ensures below { OnOk result (AreBelow (length base.now) changes.new.items) }
+    ensures filed { OnOk result (AreFiled (set_all changes.new.items base.now)) }
+    ensures keys { OnOk result (AreKeysWith (set_all changes.old.items base.now) n around.now
+        (set_all changes.new.items base.now)) }
+{
+    let number = number_for(base.len(), around.vertex());
+    let at = as_number(number)?;
+    let part = written_part(alloc, part_after(base, changes, number), n, around)?;
+    changes.push((at, part))?;
+    Ok(())
+}
+
 impl Cells {
     // Whether the star, which has this number, has a place, and had one before.
     fn is_keyed(&self, n: u32, around: &Around) -> bool
         requires { IsNumberFor self.now around.now.0 n }
-        ensures { IsTrue result → IsKeyed self.now.keys n around.now }
+        ensures { IsTrue result → IsKeyed (part_of self.now.keys around.now.0) n around.now }
     {
         around.has_places() && is_own(&self.stars, n, around.vertex())
     }
@@ -68,7 +158,8 @@ impl Cells {
     // Whether that is so of all.
     fn are_keyed(&self, writes: &[(u32, Around)]) -> bool
         requires { (n : ℕ) (s : ℕ × List ℕ) → IsIn (n, s) writes.now → IsNumberFor self.now s.0 n }
-        ensures { IsTrue result → (n : ℕ) (s : ℕ × List ℕ) → IsIn (n, s) writes.now → IsKeyed self.now.keys n s }
+        ensures { IsTrue result → (n : ℕ) (s : ℕ × List ℕ) → IsIn (n, s) writes.now →
+            IsKeyed (part_of self.now.keys s.0) n s }
     {
         for (n, around) in writes {
             if !self.is_keyed(*n, around) {
@@ -78,61 +169,77 @@ impl Cells {
         true
     }
 
-    // Puts the vertex of a star in, or takes it out where the star has no place. A star that had a place before has its
-    // vertex there yet.
+    // Adds the part that changes with a star. A star that had a place before has its vertex there yet.
     fn change_key(
         &self,
-        list: &mut Vec<(Point, u32)>,
+        alloc: Global,
+        base: &[KeyPart],
+        changes: &mut Vec<(u32, KeyPart)>,
         n: u32,
         around: &Around,
     ) -> Result<(), AllocError>
-        requires order { IsAscending (map (λ k. k.0) list.old.items) }
+        requires some { 0 < length base.now }
+        requires below { AreBelow (length base.now) changes.old.items }
+        requires filed { AreFiled (set_all changes.old.items base.now) }
         requires number { IsNumberFor self.now around.now.0 n }
-        requires there { IsKeyed self.now.keys n around.now → IsKeyed list.old.items n around.now }
-        ensures order { OnOk result (IsAscending (map (λ k. k.0) list.new.items)) }
-        ensures keys { OnOk result ((k : ℕ × ℕ) → IsIn k list.new.items ↔ IsKeyAfter list.old.items n around.now k) }
+        requires there { IsKeyed (part_of self.now.keys around.now.0) n around.now →
+            IsKeyed (part_of (set_all changes.old.items base.now) around.now.0) n around.now }
+        ensures below { OnOk result (AreBelow (length base.now) changes.new.items) }
+        ensures filed { OnOk result (AreFiled (set_all changes.new.items base.now)) }
+        ensures keys { OnOk result (AreKeysWith (set_all changes.old.items base.now) n around.now
+            (set_all changes.new.items base.now)) }
     {
         if self.is_keyed(n, around) {
             return Ok(());
         }
-        write_key(list, n, around)
+        add_change(alloc, base, changes, n, around)
     }
 
-    // The vertices with a star after the stars were written.
+    // The parts that change as the stars are written.
     fn changed_keys(
         &self,
         alloc: Global,
+        base: &[KeyPart],
         writes: &[(u32, Around)],
-    ) -> Result<Vec<(Point, u32)>, AllocError>
-        requires order { IsAscending (map (λ k. k.0) self.now.keys) }
+    ) -> Result<Vec<(u32, KeyPart)>, AllocError>
+        requires some { 0 < length base.now }
+        requires filed { AreFiled base.now }
+        requires same { HasSameKeys self.now.keys base.now }
         requires numbers { (n : ℕ) (s : ℕ × List ℕ) → IsIn (n, s) writes.now → IsNumberFor self.now s.0 n }
         requires agreed { AreAgreed writes.now }
-        ensures { IfOk result (λ list. AreKeysAfter self.now.keys writes.now list.items) }
+        ensures below { IfOk result (λ list. AreBelow (length base.now) list.items) }
+        ensures keys { IfOk result (λ list. AreKeysAfter self.now.keys writes.now (set_all list.items base.now)) }
     {
-        let keys = &self.keys;
-        let mut list = Vec::with_capacity(alloc, keys.len().saturating_add(writes.len()))?;
-        list.extend_from_slice(keys)?;
+        let mut changes = Vec::new(alloc);
         for (n, around) in writes {
-            self.change_key(&mut list, *n, around)?;
+            self.change_key(alloc, base, &mut changes, *n, around)?;
         }
-        Ok(list)
+        Ok(changes)
     }
 
-    // The vertices with a star after the stars were written, or none where they stay.
+    // What becomes of the keys as the stars are written, where so many stars are used.
     pub(crate) fn keys_after(
         &self,
         alloc: Global,
         writes: &[(u32, Around)],
-    ) -> Result<Option<Vec<(Point, u32)>>, AllocError>
+        used: usize,
+    ) -> Result<KeysPlan, AllocError>
         requires numbers { (n : ℕ) (s : ℕ × List ℕ) → IsIn (n, s) writes.now → IsNumberFor self.now s.0 n }
         requires agreed { AreAgreed writes.now }
-        ensures { IfOk result (λ list. AreKeysAfter self.now.keys writes.now
-            (or_else (option_map (λ v. v.items) list) self.now.keys)) }
+        ensures below { IfOk result (λ plan. AreBelow
+            (length (or_else (option_map (λ v. v.items) plan.more) self.now.keys)) plan.parts.items) }
+        ensures keys { IfOk result (λ plan. AreKeysAfter self.now.keys writes.now
+            (set_all plan.parts.items (or_else (option_map (λ v. v.items) plan.more) self.now.keys))) }
     {
         let _ = &self.keys;
         if self.are_keyed(writes) {
-            return Ok(None);
+            return Ok(KeysPlan {
+                more: None,
+                parts: Vec::new(alloc),
+            });
         }
-        Ok(Some(self.changed_keys(alloc, writes)?))
+        let more = more_parts(alloc, &self.keys, count_for(used))?;
+        let parts = self.changed_keys(alloc, either(&more, &self.keys), writes)?;
+        Ok(KeysPlan { more, parts })
     }
 }

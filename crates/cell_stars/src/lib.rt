@@ -33,6 +33,7 @@ mod matched;
 mod moves;
 mod numbers;
 mod order;
+mod parts;
 mod plan;
 mod planner;
 mod slots;

@@ -4,8 +4,8 @@ ghost use Rattle.std.specs.Option.{option_map};
 
 use crate::around::Around;
 use crate::joins::Joint;
+use crate::parts::KeyPart;
 use crate::slots::Slot;
-use point_order::Point;
 use std::fmt::{self, Debug, Formatter};
 use std::marker::Model;
 
@@ -21,12 +21,19 @@ pub(crate) struct PlacesPlan {
     pub(crate) loaded: u32,
 }
 
+/// What some parts of the keys are after an exchange.
+#[derive(Drop)]
+pub(crate) struct KeysPlan {
+    pub(crate) more: Option<Vec<KeyPart>>,
+    pub(crate) parts: Vec<(u32, KeyPart)>,
+}
+
 /// What some stars are after an exchange.
 #[derive(Drop)]
 pub(crate) struct StarsPlan {
     pub(crate) more: Option<Vec<Around>>,
     pub(crate) stars: Vec<(u32, Around)>,
-    pub(crate) keys: Option<Vec<(Point, u32)>>,
+    pub(crate) keys: KeysPlan,
     pub(crate) spare: Vec<u32>,
     pub(crate) used_stars: u32,
     // What was loaded early, added up.
@@ -57,6 +64,7 @@ impl Model for Plan {
       slots = p.places.slots.items;
       more = option_map (λ v. v.items) p.stars.more;
       stars = p.stars.stars.items;
-      keys = option_map (λ v. v.items) p.stars.keys;
+      parts = option_map (λ v. v.items) p.stars.keys.more;
+      keys = p.stars.keys.parts.items;
     } };
 }

@@ -6,7 +6,7 @@ ghost use Rattle.std.specs.Option.{option_map};
 ghost use Rattle.point_order.specs.declared.cell.Cell.{Cell};
 ghost use Rattle.point_order.specs.Sets.{IsIn, IsAscending};
 ghost use Rattle.cell_stars.specs.Places.{AreStars, cells_of, lies_in};
-ghost use Rattle.cell_stars.specs.Plans.{or_else, IsOnceFor, IsPlanFor};
+ghost use Rattle.cell_stars.specs.Plans.{AreBelow, or_else, set_all, IsOnceFor, IsPlanFor};
 ghost use Rattle.cell_stars.specs.Turns.{AreReady};
 ghost use Rattle.cell_stars.specs.Moves.{AreKeysAfter, AreTouched, HasSameCells, HasSameStars, IsRewriting};
 
@@ -261,7 +261,9 @@ impl Cells {
         ensures stars { IfOk result (λ plan. IsRewriting self.now moves.now.freed.items moves.now.placed.items
             plan.stars.items) }
         ensures keys { IfOk result (λ plan. AreKeysAfter self.now.keys plan.stars.items
-            (or_else (option_map (λ v. v.items) plan.keys) self.now.keys)) }
+            (set_all plan.keys.parts.items (or_else (option_map (λ v. v.items) plan.keys.more) self.now.keys))) }
+        ensures parts { IfOk result (λ plan. AreBelow
+            (length (or_else (option_map (λ v. v.items) plan.keys.more) self.now.keys)) plan.keys.parts.items) }
         ensures same { IfOk result (λ plan. HasSameStars self.now.stars
             (or_else (option_map (λ v. v.items) plan.more) self.now.stars)) }
         ensures long { IfOk result (λ plan. (n : ℕ) (s : ℕ × List ℕ) → IsIn (n, s) plan.stars.items →
@@ -269,8 +271,8 @@ impl Cells {
     {
         let mut loaded = 0;
         let stars = self.writes(alloc, moves, vertices, &mut loaded)?;
-        let keys = self.keys_after(alloc, &stars)?;
         let end = behind_numbers(&stars);
+        let keys = self.keys_after(alloc, &stars, end.max(self.used_stars as usize))?;
         let more = grown_stars(alloc, &self.stars, &stars, end)?;
         let used_stars = self.used_stars.max(u32::try_from(end).unwrap_or(u32::MAX));
         let spare = spare_after(alloc, &self.spare, &stars, self.used_stars, used_stars)?;

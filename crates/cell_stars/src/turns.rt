@@ -137,7 +137,7 @@ impl Cells {
         let Plan { places, stars } = plan;
         turn_slots(&mut self.slots, places);
         turn_part(&mut self.stars, &mut stars.more, &mut stars.stars);
-        turn_list(&mut self.keys, &mut stars.keys);
+        turn_part(&mut self.keys, &mut stars.keys.more, &mut stars.keys.parts);
         self.turn_numbers(plan);
     }
 
@@ -149,7 +149,7 @@ impl Cells {
         let Plan { places, stars } = plan;
         turn_back_slots(&mut self.slots, places);
         turn_back_part(&mut self.stars, &mut stars.more, &mut stars.stars);
-        turn_list(&mut self.keys, &mut stars.keys);
+        turn_back_part(&mut self.keys, &mut stars.keys.more, &mut stars.keys.parts);
         self.turn_numbers(plan);
     }
 

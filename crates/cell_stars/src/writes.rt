@@ -39,6 +39,7 @@ use crate::cells::{Cells, places_in};
 use crate::marks::{Marks, is_unmarked, marks_of};
 use crate::moves::Moves;
 use crate::numbers::number_behind;
+use crate::parts::part_for;
 use crate::steps::place_of;
 use point_order::Point;
 use std::alloc::{AllocError, Global};
@@ -109,9 +110,10 @@ impl Cells {
         ensures { MatchOption result ((i : ℕ) → IsStarred self.now.keys self.now.stars p i →
             ⊥) (λ n. IsOwnNumber self.now p n) }
     {
-        match place_of(&self.keys, p) {
+        let keys = part_for(&self.keys, p);
+        match place_of(keys, p) {
             Ok(i) => {
-                let number = self.keys[i].1;
+                let number = keys[i].1;
                 if is_own(&self.stars, number, p) {
                     Some(number)
                 } else {

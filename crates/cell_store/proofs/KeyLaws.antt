@@ -3,36 +3,25 @@ use Rattle.std.specs.Prelude.{◌≡◌, ℕ, ◌≤◌, true, List, [], Option,
 use Rattle.std.specs.Option.{option_map_or}
 use Rattle.std.proofs.Common.{sym, ◌∙◌, ap, subst}
 use Rattle.std.proofs.lemmas.List.{length-map}
-use Rattle.list_laws.proofs.Cited.{
-  at_most,
-  distinct_ascending,
-  filtered_ascending,
-  filtered_from,
-  filtered_true,
-  mapped_from,
-}
+use Rattle.list_laws.proofs.Cited.{at_most, filtered_from, filtered_true, mapped_from}
 use Rattle.point_order.specs.Complex.{complex}
-use Rattle.point_order.specs.Sets.{IsIn, IsAscending}
+use Rattle.point_order.specs.Sets.{IsIn}
 use Rattle.del_laws.proofs.Cited.{listed_inside, listed_is_cell}
-use Rattle.cell_stars.specs.Places.{AreStars, cells_of, lies_in, live}
-use Rattle.cell_stars.proofs.Cited.{live_at, withs_new}
+use Rattle.cell_stars.specs.Places.{AreStars, all_keys, cells_of, lies_in, live}
+use Rattle.cell_stars.proofs.Cited.{in_own, keys_apart, live_at, withs_new}
 use Rattle.cell_store.specs.Grids.{bucket_of}
 use Rattle.cell_store.specs.Buckets.{BucketContent, InHand, Layout, bucket_at, content_of, points_in}
 use Rattle.cell_store.specs.Shares.{Shows, ShowsSome}
 use Rattle.cell_store.specs.Swaps.{touches}
 
--- of two ascending lists one has no more members than the other where it has no others
-fewer : (l m : List ℕ) → IsAscending l → IsAscending m → ((p : ℕ) → IsIn p l → IsIn p m) → length l ≤ length m
-fewer l m a b f = at_most l m (distinct_ascending l a) f
-
 -- a vertex with a star is a point of the bucket
 vertex_inside : (hold : InHand) (s : List ℕ) (b : ℕ) (o : Layout) → Shows hold s →
     bucket_at hold.places b ≡ Some (content_of o) → o.cells.place ≡ Some (hold.grid, b) → AreStars o.cells → (p : ℕ) →
-    IsIn p (map (λ k. k.0) o.cells.keys) → IsIn p o.points
+    IsIn p (map (λ k. k.0) (all_keys o.cells.keys)) → IsIn p o.points
 unfolding cells_of
 vertex_inside hold s b o sh e at stars p m =
-    let key = mapped_from (λ k. k.0) p o.cells.keys m in
-    let star = stars.filled key.0 key.1 in
+    let key = mapped_from (λ k. k.0) p (all_keys o.cells.keys) m in
+    let star = stars.filled key.0 (in_own o.cells.keys stars.order key.0 key.1) in
     let named = stars.names key.0.0 star.0 star.1 in
     let sight = sh.sights b (content_of o) e in
     let held = withs_new (live o.cells.slots) [] named.cell (live_at o.cells.slots star.0 named.cell named.there) in
@@ -46,13 +35,11 @@ vertex_inside hold s b o sh e at stars p m =
 -- there are no more of them than points in the bucket of a point
 pub keys_within : (hold : InHand) (g b p : ℕ) (o : Layout) → ShowsSome hold → g ≡ hold.grid → b ≡ bucket_of g p →
     bucket_at hold.places b ≡ Some (content_of o) → o.cells.place ≡ Some (hold.grid, b) → AreStars o.cells →
-    length o.cells.keys ≤ length (points_in hold.places (bucket_of hold.grid p))
+    length (all_keys o.cells.keys) ≤ length (points_in hold.places (bucket_of hold.grid p))
 keys_within hold g b p o shows e f h at stars =
-    let sh = shows.1 in
-    let points = subst IsAscending (sym (sh.sights b (content_of o) h).points)
-    (filtered_ascending (λ q. bucket_of hold.grid q == b) shows.0 sh.ascending) in
-    let most = fewer (map (λ k. k.0) o.cells.keys) o.points stars.order points
-    (vertex_inside hold shows.0 b o sh h at stars) in
-    subst (λ (n : ℕ). length o.cells.keys ≤ length (points_in hold.places n)) (f ∙ ap (λ n. bucket_of n p) e)
-    (subst (λ (c : Option BucketContent). length o.cells.keys ≤ length (option_map_or (λ c. c.points) c [])) (sym h)
-    (subst (λ (n : ℕ). n ≤ length o.points) (length-map o.cells.keys (λ k. k.0)) most))
+    let keys = all_keys o.cells.keys in
+    let most = at_most (map (λ k. k.0) keys) o.points (keys_apart o.cells.keys stars.order)
+    (vertex_inside hold shows.0 b o shows.1 h at stars) in
+    subst (λ (n : ℕ). length keys ≤ length (points_in hold.places n)) (f ∙ ap (λ n. bucket_of n p) e)
+    (subst (λ (c : Option BucketContent). length keys ≤ length (option_map_or (λ c. c.points) c [])) (sym h)
+    (subst (λ (n : ℕ). n ≤ length o.points) (length-map keys (λ k. k.0)) most))

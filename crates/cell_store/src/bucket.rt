@@ -27,7 +27,7 @@ ghost use Rattle.point_order.specs.Facets.{points_of};
 ghost use Rattle.point_order.specs.declared.cell.Cell.{Cell};
 ghost use Rattle.point_order.specs.Sets.{IsIn, IsAscending, is_among, with_point as with, without_point};
 ghost use Rattle.edit_history.specs.Edits.{point_of, changed};
-ghost use Rattle.cell_stars.specs.Places.{lies_in, cells_of, AreStars};
+ghost use Rattle.cell_stars.specs.Places.{all_keys, lies_in, cells_of, AreStars};
 ghost use Rattle.cell_stars.specs.Plans.{IsOnceFor, IsPlanFor};
 ghost use Rattle.cell_stars.specs.Turns.{AreReady};
 ghost use Rattle.cell_store.specs.Buckets.{FitsPlace, content_of};
@@ -139,7 +139,7 @@ impl Bucket {
         ensures cells { cells_left result ≡ filter (λ c. is_among p (points_of c)) (content_of self.now).cells }
         ensures stars { AreStars self.now.cells }
         ensures rises { steps.old ≤ steps.new }
-        ensures cost { 2 ^ (steps.new - steps.old) ≤ 2 * length self.now.cells.keys + 1 }
+        ensures cost { 2 ^ (steps.new - steps.old) ≤ 2 * length (all_keys self.now.cells.keys) + 1 }
     {
         self.cells.star_counted(p, steps)
     }

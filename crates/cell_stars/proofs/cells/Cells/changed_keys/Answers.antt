@@ -1,15 +1,14 @@
-use Rattle.std.proofs.Common.{◌++◌, ◌∙◌, ap}
+use Rattle.std.proofs.Common.{subst, sym, length}
 use Rattle.list_laws.proofs.Cited.{at_place}
-use Rattle.cell_stars.proofs.KeyLaws.{Keys, keyed_yet, keys_begin, keys_step, keys_end}
+use Rattle.cell_stars.specs.Plans.{AreBelow, set_all}
+use Rattle.cell_stars.proofs.KeyLaws.{KeysSoFar, keyed_yet, keys_begin, keys_step, keys_end}
 use Rattle.cell_stars.proofs.cells.Cells.changed_keys.Goals as goal
 
-pub loop-n-init : goal.loop-n-init
-loop-n-init c = keys_begin c.args.self.now.keys c.extend_from_slice.new.self.items c.args.writes.now
-    (c.in_ok-extend_from_slice.ensures.items ∙ ap (λ (l : Keys). l ++ c.deref.result.now) c.in_ok-list.ensures.items
-    ∙ (c.deref.ensures.value ∙ ap (λ v. v.keys) c.self.view_is)) c.requires.order
+pub change_key-requires-clause-below : goal.change_key-requires-clause-below
+change_key-requires-clause-below c = c.loop-n.invariant.below
 
-pub change_key-requires-clause-order : goal.change_key-requires-clause-order
-change_key-requires-clause-order c = c.loop-n.invariant.order
+pub change_key-requires-clause-filed : goal.change_key-requires-clause-filed
+change_key-requires-clause-filed c = c.loop-n.invariant.keys.order
 
 pub change_key-requires-clause-number : goal.change_key-requires-clause-number
 change_key-requires-clause-number c =
@@ -19,16 +18,29 @@ change_key-requires-clause-number c =
 pub change_key-requires-clause-there : goal.change_key-requires-clause-there
 change_key-requires-clause-there c =
     let x = c.loop-n-item.result in
-    keyed_yet c.args.self.now.keys c.loop-n.list.items c.args.writes.now c.loop-n.n-index x x c.requires.agreed
-    c.loop-n-test.true c.loop-n-item.is c.loop-n.invariant
+    keyed_yet c.args.self.now.keys (set_all c.loop-n.changes.items c.args.base.now) c.args.writes.now c.loop-n.n-index x
+    x c.requires.agreed c.loop-n-test.true c.loop-n-item.is c.loop-n.invariant.keys
+
+pub loop-n-init : goal.loop-n-init
+loop-n-init c = record {
+  below = subst (AreBelow (length c.args.base.now)) (sym c.new-changes.ensures.items) tt;
+  keys = subst (λ v. KeysSoFar c.args.self.now.keys c.args.writes.now 0 (set_all v c.args.base.now))
+      (sym c.new-changes.ensures.items)
+      (keys_begin c.args.self.now.keys c.args.base.now c.args.writes.now c.requires.same c.requires.filed);
+}
 
 pub loop-n-preserved : goal.loop-n-preserved
 loop-n-preserved c =
     let x = c.loop-n-item.result in
-    keys_step c.args.self.now.keys c.loop-n.list.items c.change_key.new.list.items c.args.writes.now c.loop-n.n-index x
-    x c.requires.agreed c.loop-n-test.true c.loop-n-item.is c.in_ok-change_key.ensures.order
-    c.in_ok-change_key.ensures.keys c.loop-n.invariant
+    record {
+      below = c.in_ok-change_key.ensures.below;
+      keys = keys_step c.args.self.now.keys (set_all c.loop-n.changes.items c.args.base.now)
+          (set_all c.change_key.new.changes.items c.args.base.now) c.args.writes.now c.loop-n.n-index x x
+          c.requires.agreed c.loop-n-test.true c.loop-n-item.is c.in_ok-change_key.ensures.filed
+          c.in_ok-change_key.ensures.keys c.loop-n.invariant.keys;
+    }
 
-pub returns : goal.returns
-returns c = keys_end c.args.self.now.keys c.loop-n.list.items c.args.writes.now c.loop-n.n-index c.loop-n-test.false
-    c.loop-n.invariant
+pub returns-clause-keys : goal.returns-clause-keys
+returns-clause-keys c =
+    keys_end c.args.self.now.keys (set_all c.loop-n.changes.items c.args.base.now) c.args.writes.now c.loop-n.n-index
+    c.loop-n-test.false c.loop-n.invariant.keys

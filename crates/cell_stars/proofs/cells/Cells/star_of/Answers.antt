@@ -1,27 +1,43 @@
-use Rattle.std.proofs.Common.{subst, ap, ◌∙◌, ℕ, ◌≡◌, ◌<◌, List, length, slice_index, [], refl}
+use Rattle.std.proofs.Common.{subst, ap, sym, ◌∙◌, ℕ, ◌≡◌, List, [], refl}
 use Rattle.point_order.specs.Sets.{IsIn}
-use Rattle.cell_stars.specs.Places.{Placed, IsStarred, star_at}
-use Rattle.cell_stars.proofs.KeyLaws.{Keys, BelongsAt, vertices, owned_by, star_here, no_star}
+use Rattle.cell_stars.specs.Places.{Placed, IsStarred, IsStarredBy, part_of, star_at}
+use Rattle.cell_stars.proofs.KeyLaws.{Keys, Parts, owned_by, star_here, no_star}
+use Rattle.cell_stars.proofs.PartLaws.{part_ascends}
 use Rattle.cell_stars.proofs.cells.Cells.star_of.Goals as goal
+
+pub place_of-requires : goal.place_of-requires
+place_of-requires c = part_ascends c.self.inside.keys.items c.args.p c.part_for-keys.result.now c.self.invariant.order
+    (c.part_for-keys.ensures ∙ ap (λ (ks : Parts). part_of ks c.args.p) c.deref.ensures.value)
 
 pub returns-in-Ok-clause-places : goal.returns-in-Ok-clause-places
 returns-in-Ok-clause-places c =
     let p = c.args.p in
     let star = c.places_in.result.now in
-    let keys = c.self.inside.keys.items in
-    let k = c.index.result.now in
-    let found = subst (λ (ks : Keys). (c.in-Ok.i < length ks) × (slice_index (vertices ks) c.in-Ok.i ≡ p))
-    c.deref.ensures.value c.in-Ok.ensures in
+    let keys = c.part_for-keys.result.now in
+    let stars = c.self.inside.stars.items in
+    let k = c.index-keys-i.result in
+    let part : keys ≡ part_of c.self.inside.keys.items p = c.part_for-keys.ensures
+    ∙ ap (λ (ks : Parts). part_of ks p) c.deref.ensures.value in
     subst (λ (b : Placed). (x : ℕ) → (IsIn x star → IsStarred b.keys b.stars p x)
     × (IsStarred b.keys b.stars p x → IsIn x star)) c.self.view_is
-    (star_here keys c.self.inside.stars.items p c.in-Ok.i k star c.self.invariant.order found c.index.ensures
-    (c.places_in.ensures ∙ ap (λ (ss : List (ℕ × List ℕ)). owned_by p (star_at ss k.1)) c.deref-in-Ok.ensures.value))
+    (subst (λ (ks : Keys). (x : ℕ) → (IsIn x star → IsStarredBy ks stars p x)
+    × (IsStarredBy ks stars p x → IsIn x star)) part
+    (star_here keys stars p c.in-Ok.i k star (part_ascends c.self.inside.keys.items p keys c.self.invariant.order part)
+    c.in-Ok.ensures c.index-keys-i.is
+    (c.places_in.ensures
+    ∙ ap (λ (m : ℕ × ℕ). owned_by p (star_at c.deref-in-Ok.result.now m.1)) (sym c.index-keys-i.is)
+    ∙ ap (λ (ss : List (ℕ × List ℕ)). owned_by p (star_at ss k.1)) c.deref-in-Ok.ensures.value)))
 
 pub returns-in-Err-clause-places : goal.returns-in-Err-clause-places
 returns-in-Err-clause-places c =
     let p = c.args.p in
     let none : List ℕ = [] in
+    let keys = c.part_for-keys.result.now in
+    let stars = c.self.inside.stars.items in
+    let part : keys ≡ part_of c.self.inside.keys.items p = c.part_for-keys.ensures
+    ∙ ap (λ (ks : Parts). part_of ks p) c.deref.ensures.value in
     subst (λ (b : Placed). (x : ℕ) → (IsIn x none → IsStarred b.keys b.stars p x)
     × (IsStarred b.keys b.stars p x → IsIn x none)) c.self.view_is
-    (no_star c.self.inside.keys.items c.self.inside.stars.items p c.in-Err.field-0 none
-    (subst (λ (ks : Keys). BelongsAt ks p c.in-Err.field-0) c.deref.ensures.value c.in-Err.ensures) refl)
+    (subst (λ (ks : Keys). (x : ℕ) → (IsIn x none → IsStarredBy ks stars p x)
+    × (IsStarredBy ks stars p x → IsIn x none)) part
+    (no_star keys stars p c.in-Err.field-0 none c.in-Err.ensures refl))
