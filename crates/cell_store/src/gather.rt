@@ -14,7 +14,7 @@ use crate::bucket::Bucket;
 use crate::hold::Hold;
 use crate::mesh::Mesh;
 use cell_stars::Grid;
-use edit_history::{Entry, merge};
+use edit_history::Entry;
 use point_order::{Cell, cells_in_order};
 use std::alloc::{AllocError, Global};
 
@@ -28,8 +28,8 @@ impl Hold {
         requires stands { StandsForSome self.now }
         ensures { IfOk result (λ entries. (h : List Entry) → Stands self.now h → entries.items ≡ h) }
     {
-        let lists = [self.all_entries(alloc)?];
-        let entries = merge(alloc, &lists)?;
+        let mut entries = self.all_entries(alloc)?;
+        entries.sort_unstable_by_key(|entry| entry.number);
         Ok(entries)
     }
 
@@ -51,7 +51,7 @@ impl Hold {
         ensures list { IfOk result (λ list. list.items ≡ all_entries self.now.places) }
         ensures whole { OnOk result (IsWhole self.now) }
     {
-        let mut list = Vec::new(alloc);
+        let mut list = Vec::with_capacity(alloc, self.count_entries() as usize)?;
         for b in 0..self.grid().count() {
             list.extend_from_slice(self.bucket(b).entries())?;
         }
