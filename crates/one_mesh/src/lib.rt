@@ -7,6 +7,7 @@
 //! let cloud = begin_cloud(alloc, Grid::new(4)?, &points, find_four(&points)?)?;   // all at once, by their places
 //! let receipt = apply(alloc, &mut mesh, 4, Edit::Add(p))?;  // its number and its reply; less than 2^32 entries before
 //! let cells = complex(alloc, &mesh)?;                       // sorted
+//! let cells = into_complex(alloc, mesh)?;                   // the same, and the mesh is let go as it is read
 //! ```
 #![tactic(auto)]
 
@@ -18,5 +19,5 @@ mod opening;
 pub use clouds::begin_cloud;
 pub use edit_history::{NotSolid, Receipt, find_four};
 pub use edits::{apply, begin};
-pub use lists::{complex, history, points};
+pub use lists::{complex, history, into_complex, points};
 pub use opening::opening_points;
