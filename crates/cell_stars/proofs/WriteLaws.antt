@@ -124,7 +124,8 @@ full_by s p (x ∷ l) false e f = (let r = in_owned p x s (subst (λ (k : List �
 -- a key with a star of its own that has places has the vertex's own number
 pub own_number : (b : Placed) (ks : Keys) (stars : List (ℕ × List ℕ)) (p i : ℕ) (k : ℕ × ℕ) →
     ks ≡ part_of b.keys p → stars ≡ b.stars → (i < length ks) × (slice_index (vertices ks) i ≡ p) →
-    k ≡ slice_index_or ks i k → ((star_at stars k.1).0 ≡ p) × ((j : ℕ) × IsIn j (star_at stars k.1).1) → IsOwnNumber b p k.1
+    k ≡ slice_index_or ks i k → ((star_at stars k.1).0 ≡ p) × ((j : ℕ) × IsIn j (star_at stars k.1).1) →
+    IsOwnNumber b p k.1
 own_number b ks stars p i k ek es f e o =
     let t = at_key ks i k f.0 e in
     let same : k.0 ≡ p = sym t.1 ∙ f.1 in

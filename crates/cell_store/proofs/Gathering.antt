@@ -20,9 +20,10 @@ use Rattle.std.specs.Prelude.{
   IsSome,
 }
 use Rattle.std.specs.List.{filter, flat_map}
-use Rattle.std.specs.List.Sorted.{IsPermutation}
-use Rattle.std.proofs.Common.{ap, sym, subst, refl, ◌∙◌, add-one, append_assoc, inl, inr, arith}
-use Rattle.std.proofs.lemmas.List.{append-nil, take_all}
+use Rattle.std.specs.List.Sorted.{IsPermutation, IsStrictlySortedBy}
+use Rattle.std.proofs.Common.{ap, sym, subst, refl, ◌∙◌, add-one, append_assoc, inl, inr, arith, Vec, Global}
+use Rattle.std.proofs.lemmas.Grind.{flat_map-append}
+use Rattle.std.proofs.lemmas.List.{append-nil, get_or-set_other, take_all}
 use Rattle.std.proofs.lemmas.List.Sorted.{IsPermutation-refl, IsPermutation-sym}
 use Rattle.list_laws.proofs.Cited.{
   filtered_from,
@@ -40,7 +41,7 @@ use Rattle.point_order.specs.declared.cell.Cell.TheVariants.{Full, Open}
 use Rattle.point_order.specs.Complex.{complex}
 use Rattle.point_order.specs.Facets.{points_of}
 use Rattle.point_order.specs.Sets.{IsIn}
-use Rattle.point_order.specs.CellOrder.{AreSameCells}
+use Rattle.point_order.specs.CellOrder.{AreSameCells, cell_cmp}
 use Rattle.del_laws.specs.Listed.{IsListed}
 use Rattle.del_laws.proofs.Cited.{listed_is_cell}
 use Rattle.cell_stars.proofs.Cited.{bucket_below}
@@ -49,7 +50,7 @@ use Rattle.cell_store.specs.Swaps.{touches}
 use Rattle.cell_store.specs.Buckets.{BucketContent, InHand, bucket_at}
 use Rattle.cell_store.specs.Shares.{Shows}
 use Rattle.cell_store.specs.Stars.{bucket_of_first}
-use Rattle.cell_store.specs.Meshes.{IsWhole, all_cells}
+use Rattle.cell_store.specs.Meshes.{AllInHand, IsWhole, all_cells, without_bucket}
 use Rattle.cell_store.specs.Gathered.{AreGathered, HasHome, home_of, is_home}
 use Rattle.cell_store.proofs.MeshLaws.{cells_of, in_flat, mesh_gathers_cells, next_gathered, point_held}
 use Rattle.cell_store.proofs.ShareLaws.{touched}
@@ -179,3 +180,65 @@ list_next {Y} f l n x old more new h e o m k =
 pub list_all : {Y : Type 0} (f : Option BucketContent → List Y) (l : List (Option BucketContent)) (n : ℕ)
     (list : List Y) → length l ≤ n → list ≡ flat_map f (take n l) → list ≡ flat_map f l
 list_all f l n list h e = e ∙ ap (flat_map f) (take_all n l h)
+
+-- ---- a list for each bucket, which is then let go
+
+-- the buckets from the n-th on are in hand as they were
+abbrev pub AreLeft : InHand → InHand → ℕ → Type 0
+AreLeft old now n = (b : ℕ) → n ≤ b → bucket_at now.places b ≡ bucket_at old.places b
+
+-- when the n-th is let go, the others after it are
+pub left_next : (old now new : InHand) (n : ℕ) → new ≡ without_bucket n now → AreLeft old now n →
+    AreLeft old new (n + 1)
+left_next old now new n e l b h =
+    ap (λ h. bucket_at h.places b) e
+    ∙ get_or-set_other now.places n b None None (λ q. absurd (omega (arith, q, h))) ∙ l b (omega (arith, h))
+
+-- the n-th is in hand
+pub left_here : (old now : InHand) (n : ℕ) → AllInHand old → AreLeft old now n → n < length old.places →
+    IsSome (bucket_at now.places n)
+left_here old now n all l h = subst (λ o. IsSome o) (sym (l n (omega arith))) (all n h)
+
+-- the cells of one more list are gathered, which are those of its bucket
+pub gathered_list : (hold : InHand) (n : ℕ) (x : BucketContent) (old new : List (Vec Cell Global))
+    (list : Vec Cell Global) → n < length hold.places → bucket_at hold.places n ≡ Some x →
+    HasHome hold.grid n x.cells [] list.items →
+    new ≡ old ++ list ∷ [] → AreGathered hold n (flat_map (λ list. list.items) old) →
+    AreGathered hold (n + 1) (flat_map (λ list. list.items) new)
+gathered_list hold n x old new list h e (come, p, m) q s =
+    gathered_next hold n x (flat_map f old) (flat_map f new) h e (
+      come,
+      p,
+      (
+        m.0,
+        m.1,
+        ap (flat_map f) q ∙ flat_map-append f old (list ∷ [])
+            ∙ ap (λ (v : List Cell). flat_map f old ++ v) (append-nil list.items ∙ m.2),
+      ),
+    ) s
+  where
+    f : Vec Cell Global → List Cell
+    f list = list.items
+
+-- the elements of one more list are put behind those of the others
+pub list_joined : {X Y : Type 0} (f : X → List Y) (xs : List X) (x : X) (old more new : List Y) →
+    old ≡ flat_map f xs → more ≡ f x → new ≡ old ++ more → new ≡ flat_map f (xs ++ x ∷ [])
+list_joined {X} {Y} f xs x old more new o m k =
+    k ∙ ap (λ (v : List Y). v ++ more) o
+    ∙ ap (λ (v : List Y). flat_map f xs ++ v) (m ∙ sym (append-nil (f x))) ∙ sym (flat_map-append f xs (x ∷ []))
+
+-- until none is left
+pub none_left : {X : Type 0} (l : List X) → length l ≡ 0 → l ≡ []
+none_left [] h = refl
+none_left (x ∷ l) h = absurd (omega (arith, h))
+
+-- ---- the complex
+
+-- in order the gathered cells of all buckets are the complex of the set that the hold shows
+pub complex_gathered : (hold : InHand) (s : List ℕ) (list sorted : List Cell) → IsWhole hold → Shows hold s →
+    AreGathered hold (length hold.places) list → IsStrictlySortedBy cell_cmp sorted → AreSameCells list sorted →
+    sorted ≡ complex s
+complex_gathered hold s list sorted w sh g o same =
+    let l = gathered_all hold s list w sh g in
+    (mesh_gathers_cells hold s w sh).ordered sorted o
+    ((λ x m. same.0 x (l.0 x m)), (λ x m. l.1 x (same.1 x m)))

@@ -1,18 +1,20 @@
 //! What all buckets of a grid have together.
 
 ghost use Rattle.std.specs.Prelude.{◌≡◌, ◌∷◌, ◌++◌, [], ℕ, List, length, IfOk, OnOk};
-ghost use Rattle.std.specs.List.{filter};
+ghost use Rattle.std.specs.List.{filter, flat_map};
 ghost use Rattle.point_order.specs.Complex.{complex as complex_of};
+ghost use Rattle.edit_history.specs.Histories.{replay};
 ghost use Rattle.edit_history.specs.declared.history.Entry.{Entry};
 ghost use Rattle.cell_store.specs.Buckets.{content_of};
-ghost use Rattle.cell_store.specs.Shares.{Stands, Shows};
+ghost use Rattle.cell_store.specs.Shares.{IsSound, Stands, Shows};
 ghost use Rattle.cell_store.specs.Meshes.{AllInHand, IsWhole, StandsForSome, all_entries};
 ghost use Rattle.cell_store.specs.Gathered.{AreGathered, HasHome, home_of, is_home};
 
 use crate::bucket::Bucket;
 use crate::hold::Hold;
+use crate::mesh::Mesh;
 use cell_stars::Grid;
-use edit_history::{Entry, merge};
+use edit_history::Entry;
 use point_order::{Cell, cells_in_order};
 use std::alloc::{AllocError, Global};
 
@@ -26,8 +28,8 @@ impl Hold {
         requires stands { StandsForSome self.now }
         ensures { IfOk result (λ entries. (h : List Entry) → Stands self.now h → entries.items ≡ h) }
     {
-        let lists = [self.all_entries(alloc)?];
-        let entries = merge(alloc, &lists)?;
+        let mut entries = self.all_entries(alloc)?;
+        entries.sort_unstable_by_key(|entry| entry.number);
         Ok(entries)
     }
 
@@ -49,7 +51,7 @@ impl Hold {
         ensures list { IfOk result (λ list. list.items ≡ all_entries self.now.places) }
         ensures whole { OnOk result (IsWhole self.now) }
     {
-        let mut list = Vec::new(alloc);
+        let mut list = Vec::with_capacity(alloc, self.count_entries() as usize)?;
         for b in 0..self.grid().count() {
             list.extend_from_slice(self.bucket(b).entries())?;
         }
@@ -63,11 +65,7 @@ impl Hold {
         let grid = self.grid();
         let mut count: usize = 0;
         for b in 0..grid.count() {
-            for cell in self.bucket(b).cells() {
-                if is_at_home(grid, b, cell) {
-                    count = count.saturating_add(1);
-                }
-            }
+            count = count.saturating_add(count_home(grid, b, self.bucket(b)));
         }
         count
     }
@@ -84,6 +82,39 @@ impl Hold {
             push_cells(&mut list, grid, b, self.bucket(b))?;
         }
         Ok(list)
+    }
+
+    // For each bucket the cells that have their first point there. A bucket is let go once it is read.
+    fn into_lists(mut self, alloc: Global) -> Result<Vec<Vec<Cell>>, AllocError>
+        requires { AllInHand self }
+        ensures lists { IfOk result (λ lists. AreGathered self (length self.places)
+            (flat_map (λ list. list.items) lists.items)) }
+        ensures whole { OnOk result (IsWhole self) }
+    {
+        let grid = self.grid();
+        let mut lists = Vec::with_capacity(alloc, grid.count() as usize)?;
+        for b in 0..grid.count() {
+            let bucket = self.take(b);
+            let list = home_cells(alloc, grid, b, &bucket)?;
+            lists.push(list)?;
+        }
+        Ok(lists)
+    }
+}
+
+impl Mesh {
+    /// The complex of the points that the history leaves: its cells, sorted. A bucket is let go once its cells are
+    /// read, so that these take the memory that it had.
+    ///
+    /// # Errors
+    /// Want of memory.
+    pub fn into_complex(self, alloc: Global) -> Result<Vec<Cell>, AllocError>
+        ensures cells { IfOk result (λ cells. cells.items ≡ complex_of (replay self.history)) }
+        ensures sound { IsSound self.history }
+    {
+        let lists = self.into_hold().into_lists(alloc)?;
+        let cells = joined(alloc, lists)?;
+        Ok(cells_in_order(cells))
     }
 }
 
@@ -104,6 +135,17 @@ fn is_at_home(grid: Grid, b: u32, cell: &Cell) -> bool
     home(grid, cell) == b
 }
 
+// How many cells of a bucket have their first point there.
+fn count_home(grid: Grid, b: u32, bucket: &Bucket) -> usize {
+    let mut count: usize = 0;
+    for cell in bucket.cells() {
+        if is_at_home(grid, b, cell) {
+            count = count.saturating_add(1);
+        }
+    }
+    count
+}
+
 // Puts the cell behind the others, if that is its bucket.
 fn push_cell(list: &mut Vec<Cell>, grid: Grid, b: u32, cell: &Cell) -> Result<(), AllocError>
     ensures { OnOk result (list.new.items ≡ list.old.items ++ filter (is_home grid b) (cell.now ∷ [])) }
@@ -122,4 +164,33 @@ fn push_cells(list: &mut Vec<Cell>, grid: Grid, b: u32, bucket: &Bucket) -> Resu
         push_cell(list, grid, b, cell)?;
     }
     Ok(())
+}
+
+// The cells of a bucket that have their first point there, in any order.
+fn home_cells(alloc: Global, grid: Grid, b: u32, bucket: &Bucket) -> Result<Vec<Cell>, AllocError>
+    ensures { IfOk result (λ list. HasHome grid b (content_of bucket.now).cells [] list.items) }
+{
+    let mut list = Vec::with_capacity(alloc, count_home(grid, b, bucket))?;
+    push_cells(&mut list, grid, b, bucket)?;
+    Ok(list)
+}
+
+// How many cells there are in all lists.
+fn count_all(lists: &[Vec<Cell>]) -> usize {
+    let mut count: usize = 0;
+    for list in lists {
+        count = count.saturating_add(list.len());
+    }
+    count
+}
+
+// The cells of all lists, one list after another. A list is let go once it is read.
+fn joined(alloc: Global, lists: Vec<Vec<Cell>>) -> Result<Vec<Cell>, AllocError>
+    ensures { IfOk result (λ cells. cells.items ≡ flat_map (λ list. list.items) lists.items) }
+{
+    let mut cells = Vec::with_capacity(alloc, count_all(lists.as_slice()))?;
+    for list in lists {
+        cells.extend_from_slice(&list)?;
+    }
+    Ok(cells)
 }

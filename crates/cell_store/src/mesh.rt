@@ -153,7 +153,7 @@ impl Hold {
     }
 
     // How many entries all buckets have together, which are all to be in hand.
-    fn count_entries(&self) -> u64
+    pub(crate) fn count_entries(&self) -> u64
         requires { AllInHand self.now }
         ensures count { result ≡ counted (length (history_in self.now.places)) }
         ensures has { HasPlaces self.now }

@@ -16,12 +16,12 @@ use cell_store::Mesh;
 use edit_files::File;
 use edit_history::Entry;
 use grid_claims::Gate;
-use one_mesh::{complex, find_four, history, points};
+use one_mesh::{find_four, history, into_complex, points};
 use std::alloc::{AllocError, Global};
 use std::thread::Threads;
 
-// The parts of the report of the mesh of a file's lines, and of its history. The mesh is let go before the shapes are
-// made.
+// The parts of the report of the mesh of a file's lines, and of its history. The mesh is let go while its cells are
+// read.
 fn parts(
     alloc: Global,
     making: Making,
@@ -38,8 +38,7 @@ fn parts(
     ensures ready { IfOk result IsReady }
 {
     let points = points(alloc, &mesh)?;
-    let cells = complex(alloc, &mesh)?;
-    drop(mesh);
+    let cells = into_complex(alloc, mesh)?;
     parts_of(alloc, making, asked, file, points, cells, kept)
 }
 

@@ -25,8 +25,8 @@ fn grid_of(making: Making, file: &File) -> Grid {
 }
 
 /// The mesh of a file's lines: its points, put in at once as by one thread, and then its edit lines, which are dealt to
-/// the workers, who make them over the buckets of the grid. One worker makes them over the grid that suits their number.
-/// `four` are the places of the opening four.
+/// the workers, who make them over the buckets of the grid. One worker makes them over the grid that suits their
+/// number. `four` are the places of the opening four.
 ///
 /// # Errors
 /// Want of memory.

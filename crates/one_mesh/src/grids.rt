@@ -17,8 +17,8 @@ fn grid_of(size: u32) -> Grid
 }
 
 /// The grid that suits a mesh which one thread edits, where it is to have about so many points. Buckets are there to be
-/// claimed by threads side by side: one thread is quicker with few of them, since a cell stands in the bucket of each of
-/// its vertices.
+/// claimed by threads side by side: one thread is quicker with few of them, since a cell stands in the bucket of each
+/// of its vertices.
 pub fn grid_for(points: usize) -> Grid
     ensures few { points < 16384 → result ≡ 1 }
     ensures many { 16384 ≤ points → result ≡ 2 }

@@ -38,6 +38,20 @@ pub fn complex(alloc: Global, mesh: &Mesh) -> Result<Vec<Cell>, AllocError>
     mesh.hold().complex(alloc)
 }
 
+/// The complex of a mesh that is given away, as `complex` gives it. Each bucket is let go once its cells are read, so
+/// it takes less memory.
+///
+/// # Errors
+/// Want of memory.
+pub fn into_complex(alloc: Global, mesh: Mesh) -> Result<Vec<Cell>, AllocError>
+    ensures cells { IfOk result (λ cells. cells.items ≡ complex_of (replay mesh.history)) }
+    ensures ascending { IsAscending (replay mesh.history) }
+    ensures solid { is_solid (replay mesh.history) ≡ true }
+    ensures keys { AreKeys (replay mesh.history) }
+{
+    mesh.into_complex(alloc)
+}
+
 // The points of all buckets.
 fn all_points_of(alloc: Global, hold: &Hold) -> Result<Vec<Point>, AllocError>
     requires { AllInHand hold.now }

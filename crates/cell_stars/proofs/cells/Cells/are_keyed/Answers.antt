@@ -17,7 +17,8 @@ pub loop-n-preserved : goal.loop-n-preserved
 loop-n-preserved c =
     let x = c.loop-n-item.result in
     each_more (λ (x : ℕ × (ℕ × List ℕ)). IsKeyed (part_of c.args.self.now.keys x.1.0) x.0 x.1) c.args.writes.now
-    c.loop-n.n-index x x c.loop-n-test.true c.loop-n-item.is c.loop-n.invariant (c.is_keyed.ensures c.if-not-is_keyed.false)
+    c.loop-n.n-index x x c.loop-n-test.true c.loop-n-item.is c.loop-n.invariant
+    (c.is_keyed.ensures c.if-not-is_keyed.false)
 
 pub returns : goal.returns
 returns c t n s m =

@@ -1,10 +1,8 @@
-use Rattle.cell_store.proofs.Gathering.{gathered_all}
-use Rattle.cell_store.proofs.MeshLaws.{mesh_gathers_cells}
+use Rattle.cell_store.proofs.Gathering.{complex_gathered}
 use Rattle.cell_store.proofs.hold.Hold.complex.Goals as goal
 
 pub returns : goal.returns
 returns c s sh =
-    let w = c.in_ok-cells.ensures.whole in
-    let l = gathered_all c.args.self.now s c.in_ok-cells.cells.items w sh c.in_ok-cells.ensures.list in
-    (mesh_gathers_cells c.args.self.now s w sh).ordered c.cells_in_order.result.items c.cells_in_order.ensures.order
-    ((λ x m. c.cells_in_order.ensures.cells.0 x (l.0 x m)), (λ x m. l.1 x (c.cells_in_order.ensures.cells.1 x m)))
+    complex_gathered c.args.self.now s c.in_ok-cells.cells.items c.cells_in_order.result.items
+    c.in_ok-cells.ensures.whole sh c.in_ok-cells.ensures.list c.cells_in_order.ensures.order
+    c.cells_in_order.ensures.cells
