@@ -6,10 +6,10 @@ ghost use Rattle.cell_store.specs.Shares.{Shows};
 use crate::reading::{at, list_at};
 use crate::telling::{Answer, put_cells, put_point};
 use cell_store::{Grid, Hold, Mesh};
-use edit_history::{Edit, Entry, PointSet, Reply, find_four};
-use one_mesh::{apply, begin, begin_cloud, complex, history, opening_points, points};
+use edit_history::{Edit, Entry, PointSet, Reply, find_four, merge};
+use one_mesh::{apply, begin, begin_cloud, complex, opening_points, points};
 use point_order::Point;
-use std::alloc::Global;
+use std::alloc::{AllocError, Global};
 
 // The most entries with which a case begins.
 const MOST: u64 = 1024;
@@ -148,9 +148,16 @@ fn put_history(alloc: Global, answer: &mut Answer, history: &[Entry]) {
     }
 }
 
+// The history of a mesh, put together of the one list that a hold gives.
+fn merged(alloc: Global, mesh: &Mesh) -> Result<Vec<Entry>, AllocError> {
+    let hold = mesh.hold();
+    let lists = [hold.history(alloc)?];
+    merge(alloc, &lists)
+}
+
 // The history of a mesh, the points that it leaves, and their cells.
 fn put_mesh(alloc: Global, answer: &mut Answer, mesh: &Mesh) -> Option<()> {
-    let entries = answer.got(history(alloc, mesh))?;
+    let entries = answer.got(merged(alloc, mesh))?;
     let left = answer.got(points(alloc, mesh))?;
     let cells = answer.got(complex(alloc, mesh))?;
     put_history(alloc, answer, &entries);
