@@ -3,7 +3,7 @@
 The files are small and full of ties: few points, few coordinates, at borders of the grid's cubes. The plain program
 is written from the definitions and formats (docs/DEFINITIONS.md, docs/FORMATS.md), not from the code, and knows only
 the sets of points: it tries all quadruples and triples. Each file is run with one worker and with more. Where no
-edit takes one of the opening four, the bytes without the order block must be the same for 2, 4, 8 and 64 workers
+edit takes one of the opening four, the bytes without the order block must be the same for 2, 3, 8 and 64 workers
 over all grids. Else the order that the program tells must be one that keeps the file, and the rest must be what the
 plain program makes of the lines in that order. So are the least alphas that `steps` writes, what `parts` tells at
 an alpha, for a most of parts, and of a part's boundary, and the nearest points that `near` tells of the queries of a
@@ -434,7 +434,7 @@ def near_agrees(file):
     """Whether `near` tells what the plain program does, by one worker, and by more where no edit takes one of the
     opening four."""
     points, edits, _, _, queries = file
-    crew = ('--workers', random.choice(['2', '8', '64']), '--grid', random.choice(['1', '2', '4', '8', '16']))
+    crew = ('--workers', random.choice(['2', '3', '8', '64']), '--grid', random.choice(['1', '2', '4', '8', '16']))
     if not is_solid(points):
         return run(file, command='near') == run(file, *crew, command='near') == (6, '')
     left = replies_of([(True, p) for p in points] + edits, order_of_one(points, edits))[1]
@@ -500,7 +500,7 @@ def agrees(file, few):
     """Whether the program agrees with the plain one on a file: by one worker, and by many over grids of all sizes,
     or a few of these."""
     points, edits, radii, version, queries = file if len(file) > 3 else (*file, 1, [])
-    crews = [('--workers', workers, '--grid', grid) for workers in ('2', '4', '8', '64')
+    crews = [('--workers', workers, '--grid', grid) for workers in ('2', '3', '8', '64')
              for grid in ('1', '2', '4', '8', '16')]
     crews = random.sample(crews, few or len(crews))
     if not is_solid(points):
