@@ -5,17 +5,14 @@
 //! It never prints a time: `bench/moves` of the repository takes that from outside.
 #![tactic(auto)]
 
-use cell_store::{Grid, Mesh};
+use cell_store::Mesh;
 use edit_files::read_file;
 use edit_history::Edit;
-use one_mesh::{apply, begin, complex, opening_points, points};
+use one_mesh::{apply, begin, complex, grid_for, opening_points, points};
 use point_order::{Cell, Point};
 use std::alloc::{AllocError, Global};
 use std::io::Read;
 use std::{env, io};
-
-// The program's grid, where none is asked for.
-const GRID: u32 = 4;
 
 // Makes an edit, where the history is not too long for it.
 fn edit(alloc: Global, mesh: &mut Mesh, edit: Edit) -> Result<(), AllocError> {
@@ -57,14 +54,14 @@ fn is_full(cell: &Cell) -> bool {
 }
 
 // The mesh of the points, one by one, if four of them are independent.
-fn mesh_of(alloc: Global, grid: Grid, points: &[Point]) -> Result<Option<Mesh>, AllocError> {
+fn mesh_of(alloc: Global, points: &[Point]) -> Result<Option<Mesh>, AllocError> {
     if points.len() > 4_294_967_296 {
         return Ok(None);
     }
     let Ok(four) = opening_points(points) else {
         return Ok(None);
     };
-    let mut mesh = begin(alloc, grid, four)?;
+    let mut mesh = begin(alloc, grid_for(points.len()), four)?;
     for p in points {
         edit(alloc, &mut mesh, Edit::Add(*p))?;
     }
@@ -77,10 +74,10 @@ fn main(rt: HostRuntime) -> io::Result<()> {
     let moves = words.nth(1).is_some();
     let mut text = Vec::new(alloc);
     rt.stdin().read_to_end(&mut text)?;
-    let (Ok(file), Ok(grid)) = (read_file(alloc, &text), Grid::new(GRID)) else {
+    let Ok(file) = read_file(alloc, &text) else {
         return Err(io::ErrorKind::InvalidInput.into());
     };
-    let Some(mut mesh) = mesh_of(alloc, grid, &file.points)? else {
+    let Some(mut mesh) = mesh_of(alloc, &file.points)? else {
         println!(rt; "flat")?;
         return Ok(());
     };
