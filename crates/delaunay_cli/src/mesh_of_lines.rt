@@ -16,12 +16,15 @@ use one_mesh::{begin_cloud, grid_for};
 use std::alloc::{AllocError, Global};
 use std::thread::Threads;
 
-// The grid over which the mesh of a file's lines is made so. One worker claims no bucket that another wants.
-fn grid_of(making: Making, file: &File) -> Grid {
-    if making.workers > 1 {
-        return making.grid;
-    }
-    grid_for(file.points.len().saturating_add(file.edits.len()))
+// How many lines the file has.
+fn line_count(file: &File) -> usize {
+    file.points.len().saturating_add(file.edits.len())
+}
+
+// The grid over which so many workers make the mesh of so many lines, where this one is asked for. One worker claims no
+// bucket that another wants.
+fn grid_of(grid: Grid, workers: u32, lines: usize) -> Grid {
+    if workers > 1 { grid } else { grid_for(lines) }
 }
 
 /// The mesh of a file's lines: its points, put in at once as by one thread, and then its edit lines, which are dealt to
@@ -43,7 +46,7 @@ pub fn mesh_of_lines<R: Threads + Sync, G: Gate + Sync>(
     ensures legal { IfOk result (λ mesh. IsLegal mesh.history) }
     ensures kept { IfOk result (λ mesh. IsKept (content file.now) making.workers mesh.history) }
 {
-    let grid = grid_of(making, file);
+    let grid = grid_of(making.grid, making.workers, line_count(file));
     let mesh = begin_cloud(alloc, grid, &file.points, four)?;
     let lists = deal_edits(alloc, file, making.workers)?;
     let mesh = run_edits(rt, alloc, mesh, &lists, gate)?;
