@@ -22,6 +22,7 @@ ghost use Rattle.cell_stars.specs.Swaps.{touches as touches_of};
 use crate::around::Around;
 use crate::cells::Cells;
 use crate::doors::links_of;
+use crate::free::Free;
 use crate::grid::Grid;
 use crate::links::{Around4, Links};
 use crate::numbers::as_number;
@@ -201,8 +202,8 @@ impl Cells {
         add_all(&keys, &mut stars, grid, number, cells)?;
         let parts = filed_keys(alloc, count_for(keys.len()), &keys)?;
         let mut made = Cells::new(alloc).placed(grid, number);
-        made.used = used;
-        made.used_stars = used_stars;
+        made.free = Free::from_on(alloc, used);
+        made.spare = Free::from_on(alloc, used_stars);
         made.slots = slots_of(alloc, cells, &links_of(alloc, cells)?)?;
         made.keys = parts;
         made.stars = stars;

@@ -28,6 +28,7 @@ ghost use Rattle.cell_stars.specs.Places.{all_keys, cells_of, lies_in, star_at, 
 ghost use Rattle.cell_stars.specs.Stars.{cells_left, cells_around, cells_to_come};
 
 use crate::around::{Around, copied_stars};
+use crate::free::Free;
 use crate::grid::Grid;
 use crate::guesses::{links_at, loaded_around};
 use crate::links::{NONE, side_of};
@@ -48,11 +49,9 @@ pub struct Cells {
     pub(crate) slots: Vec<Slot>,
     pub(crate) keys: Vec<KeyPart>,
     pub(crate) stars: Vec<Around>,
-    // Places and stars that are likely to be free, and the first number of either from which on all are.
-    pub(crate) free: Vec<u32>,
-    pub(crate) spare: Vec<u32>,
-    pub(crate) used: u32,
-    pub(crate) used_stars: u32,
+    // The numbers of places and of stars that are likely to be free.
+    pub(crate) free: Free,
+    pub(crate) spare: Free,
 }
 
 impl Debug for Cells {
@@ -107,10 +106,8 @@ impl Cells {
             slots: Vec::new(alloc),
             keys: Vec::new(alloc),
             stars: Vec::new(alloc),
-            free: Vec::new(alloc),
-            spare: Vec::new(alloc),
-            used: 0,
-            used_stars: 0,
+            free: Free::from_on(alloc, 0),
+            spare: Free::from_on(alloc, 0),
         }
     }
 
@@ -248,10 +245,8 @@ impl Cells {
             slots: copied_slots(alloc, &self.slots, self.slots.len())?,
             keys: copied_parts(alloc, &self.keys)?,
             stars: copied_stars(alloc, &self.stars, self.stars.len())?,
-            free: Vec::from_slice(alloc, &self.free)?,
-            spare: Vec::from_slice(alloc, &self.spare)?,
-            used: self.used,
-            used_stars: self.used_stars,
+            free: self.free.copied(alloc)?,
+            spare: self.spare.copied(alloc)?,
         })
     }
 }

@@ -17,42 +17,13 @@ ghost use Rattle.cell_stars.specs.Moves.{
 
 use crate::around::Around;
 use crate::cells::Cells;
+use crate::key_lists::{drop_key, put_key};
 use crate::numbers::as_number;
 use crate::parts::{KeyPart, count_for, more_parts, number_for};
 use crate::plan::KeysPlan;
-use crate::steps::place_of;
 use crate::writes::is_own;
 use point_order::Point;
 use std::alloc::{AllocError, Global};
-
-// Takes the vertex out.
-fn drop_key(keys: &mut Vec<(Point, u32)>, p: Point)
-    requires { IsAscending (map (λ k. k.0) keys.old.items) }
-    ensures order { IsAscending (map (λ k. k.0) keys.new.items) }
-    ensures keys { (k : ℕ × ℕ) → IsIn k keys.new.items ↔ (IsIn k keys.old.items × ¬ (k.0 ≡ p)) }
-{
-    match place_of(keys, p) {
-        Ok(i) => {
-            keys.remove(i);
-        }
-        Err(_) => {}
-    }
-}
-
-// Puts the vertex in, with the number.
-pub(crate) fn put_key(keys: &mut Vec<(Point, u32)>, p: Point, n: u32) -> Result<(), AllocError>
-    requires { IsAscending (map (λ k. k.0) keys.old.items) }
-    ensures order { OnOk result (IsAscending (map (λ k. k.0) keys.new.items)) }
-    ensures keys { OnOk result ((k : ℕ × ℕ) → IsIn k keys.new.items
-        ↔ (((p, n) ≡ k) ⊎ (IsIn k keys.old.items × ¬ (k.0 ≡ p)))) }
-{
-    drop_key(keys, p);
-    match place_of(keys, p) {
-        Ok(_) => unreachable!(),
-        Err(i) => keys.insert(i, (p, n))?,
-    }
-    Ok(())
-}
 
 // Puts the vertex of a star in, or takes it out where the star has no place.
 fn write_key(keys: &mut Vec<(Point, u32)>, n: u32, around: &Around) -> Result<(), AllocError>

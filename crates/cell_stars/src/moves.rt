@@ -154,10 +154,10 @@ impl Cells {
         let places = places_for(
             alloc,
             &self.slots,
-            &self.free,
+            self.free.numbers(),
             &freed,
             coming.len(),
-            self.used,
+            self.free.behind(),
         )?;
         let placed = pairs(alloc, &places, &coming)?;
         Ok(Moves {

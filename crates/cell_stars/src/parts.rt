@@ -8,7 +8,7 @@ ghost use Rattle.cell_stars.specs.Places.{AreFiled, all_keys, part_of};
 ghost use Rattle.cell_stars.specs.Plans.{or_else};
 ghost use Rattle.cell_stars.specs.Moves.{AreKeysOf, HaveOneKey, HasSameKeys};
 
-use crate::keys::put_key;
+use crate::key_lists::put_key;
 use point_order::Point;
 use std::alloc::{AllocError, Global};
 use std::marker::Model;

@@ -3,6 +3,7 @@
 ghost use Rattle.std.specs.Option.{option_map};
 
 use crate::around::Around;
+use crate::free::Free;
 use crate::joins::Joint;
 use crate::parts::KeyPart;
 use crate::slots::Slot;
@@ -14,8 +15,7 @@ use std::marker::Model;
 pub(crate) struct PlacesPlan {
     pub(crate) grown: Option<Vec<Slot>>,
     pub(crate) slots: Vec<(u32, Slot)>,
-    pub(crate) free: Vec<u32>,
-    pub(crate) used: u32,
+    pub(crate) free: Free,
     pub(crate) rim: Vec<Joint>,
     // What was loaded early, added up.
     pub(crate) loaded: u32,
@@ -34,8 +34,7 @@ pub(crate) struct StarsPlan {
     pub(crate) more: Option<Vec<Around>>,
     pub(crate) stars: Vec<(u32, Around)>,
     pub(crate) keys: KeysPlan,
-    pub(crate) spare: Vec<u32>,
-    pub(crate) used_stars: u32,
+    pub(crate) spare: Free,
     // What was loaded early, added up.
     pub(crate) loaded: u32,
 }

@@ -130,90 +130,6 @@ fn join_puts(
     join(alloc, slots, fresh, joined, moves, &mut changes[first..])
 }
 
-// The numbers behind the first so many.
-#[inline]
-fn behind_first(list: &[u32], count: usize) -> &[u32] {
-    &list[count.min(list.len())..]
-}
-
-// The numbers that are likely to be open after the exchange: those that were and are not taken, and those that are
-// freed and not taken.
-fn open_after(alloc: Global, free: &[u32], moves: &Moves) -> Result<Vec<u32>, AllocError> {
-    let taken = moves.placed.len();
-    let freed = moves.freed.len();
-    let open = behind_first(free, taken.saturating_sub(freed));
-    let left = behind_first(&moves.freed, taken);
-    let mut list = Vec::with_capacity(alloc, open.len().saturating_add(left.len()))?;
-    list.extend_from_slice(open)?;
-    list.extend_from_slice(left)?;
-    Ok(list)
-}
-
-// The numbers of stars that are likely to be spare after the exchange: those that were, those of stars that have no
-// place then, and the new ones, from the first number on and before the end, that no star got.
-fn spare_after(
-    alloc: Global,
-    spare: &[u32],
-    writes: &[(u32, Around)],
-    first: u32,
-    end: u32,
-) -> Result<Vec<u32>, AllocError> {
-    let mut list = Vec::with_capacity(alloc, spare.len())?;
-    if !spare.is_empty() || first < end {
-        add_unwritten(&mut list, spare, writes, first, end)?;
-    }
-    for (n, around) in writes {
-        if !around.has_places() {
-            list.push(*n)?;
-        }
-    }
-    Ok(list)
-}
-
-// Adds the numbers that were spare, and those from the first number on and before the end, that no star got.
-fn add_unwritten(
-    list: &mut Vec<u32>,
-    spare: &[u32],
-    writes: &[(u32, Around)],
-    first: u32,
-    end: u32,
-) -> Result<(), AllocError> {
-    let marks = marks_of_written(writes);
-    for n in spare {
-        if !is_written(writes, &marks, *n) {
-            list.push(*n)?;
-        }
-    }
-    for n in first..end {
-        if !is_written(writes, &marks, n) {
-            list.push(n)?;
-        }
-    }
-    Ok(())
-}
-
-// The marks of the numbers of these stars.
-fn marks_of_written(writes: &[(u32, Around)]) -> [bool; 512] {
-    let mut marks = [false; 512];
-    for (n, _) in writes {
-        marks[(*n % 512) as usize] = true;
-    }
-    marks
-}
-
-// Whether the star with the number is one of these, which have these marks.
-fn is_written(writes: &[(u32, Around)], marks: &[bool; 512], n: u32) -> bool {
-    if !marks[(n % 512) as usize] {
-        return false;
-    }
-    for (m, _) in writes {
-        if *m == n {
-            return true;
-        }
-    }
-    false
-}
-
 impl Cells {
     // What becomes of the places.
     #[inline]
@@ -238,8 +154,9 @@ impl Cells {
         Ok(PlacesPlan {
             grown,
             slots,
-            free: open_after(alloc, &self.free, moves)?,
-            used: self.used.max(u32::try_from(end).unwrap_or(u32::MAX)),
+            free: self
+                .free
+                .after_puts(alloc, &moves.freed, moves.placed.len(), end)?,
             rim,
             loaded: moves.gone.loaded,
         })
@@ -272,16 +189,14 @@ impl Cells {
         let mut loaded = 0;
         let stars = self.writes(alloc, moves, vertices, &mut loaded)?;
         let end = behind_numbers(&stars);
-        let keys = self.keys_after(alloc, &stars, end.max(self.used_stars as usize))?;
+        let keys = self.keys_after(alloc, &stars, end.max(self.spare.behind() as usize))?;
         let more = grown_stars(alloc, &self.stars, &stars, end)?;
-        let used_stars = self.used_stars.max(u32::try_from(end).unwrap_or(u32::MAX));
-        let spare = spare_after(alloc, &self.spare, &stars, self.used_stars, used_stars)?;
+        let spare = self.spare.after_writes(alloc, &stars, end)?;
         Ok(StarsPlan {
             more,
             stars,
             keys,
             spare,
-            used_stars,
             loaded,
         })
     }

@@ -159,8 +159,6 @@ impl Cells {
         ensures plan { plan.new ≡ plan.old }
     {
         swap(&mut self.free, &mut plan.places.free);
-        swap(&mut self.used, &mut plan.places.used);
         swap(&mut self.spare, &mut plan.stars.spare);
-        swap(&mut self.used_stars, &mut plan.stars.used_stars);
     }
 }

@@ -128,10 +128,10 @@ impl Cells {
     fn spare_from(&self, least: u32) -> Result<u32, AllocError>
         ensures { IfOk result (λ n. (least ≤ n) × IsSpare self.now.stars n) }
     {
-        if let Some(n) = likely_spare(&self.stars, &self.spare, least) {
+        if let Some(n) = likely_spare(&self.stars, self.spare.numbers(), least) {
             return Ok(n);
         }
-        let n = spare_behind(&self.stars, self.used_stars.max(least))?;
+        let n = spare_behind(&self.stars, self.spare.behind().max(least))?;
         Ok(n)
     }
 

@@ -20,7 +20,7 @@ use Rattle.std.specs.Prelude.{
   IsSome,
 }
 use Rattle.std.specs.List.{filter, flat_map}
-use Rattle.std.specs.List.Sorted.{IsPermutation, IsStrictlySortedBy}
+use Rattle.std.specs.List.Sorted.{IsNonDecreasingBy, IsPermutation, IsStrictlySortedBy}
 use Rattle.std.proofs.Common.{ap, sym, subst, refl, ◌∙◌, add-one, append_assoc, inl, inr, arith, Vec, Global}
 use Rattle.std.proofs.lemmas.Grind.{flat_map-append}
 use Rattle.std.proofs.lemmas.List.{append-nil, get_or-set_other, take_all}
@@ -44,15 +44,24 @@ use Rattle.point_order.specs.Sets.{IsIn}
 use Rattle.point_order.specs.CellOrder.{AreSameCells, cell_cmp}
 use Rattle.del_laws.specs.Listed.{IsListed}
 use Rattle.del_laws.proofs.Cited.{listed_is_cell}
+use Rattle.edit_history.specs.declared.history.Entry.{Entry}
+use Rattle.edit_history.proofs.Cited.{merged_order}
 use Rattle.cell_stars.proofs.Cited.{bucket_below}
 use Rattle.cell_store.specs.Grids.{bucket_of}
 use Rattle.cell_store.specs.Swaps.{touches}
 use Rattle.cell_store.specs.Buckets.{BucketContent, InHand, bucket_at}
-use Rattle.cell_store.specs.Shares.{Shows}
+use Rattle.cell_store.specs.Shares.{Shows, Stands}
 use Rattle.cell_store.specs.Stars.{bucket_of_first}
-use Rattle.cell_store.specs.Meshes.{AllInHand, IsWhole, all_cells, without_bucket}
+use Rattle.cell_store.specs.Meshes.{AllInHand, IsWhole, all_cells, all_entries, without_bucket}
 use Rattle.cell_store.specs.Gathered.{AreGathered, HasHome, home_of, is_home}
-use Rattle.cell_store.proofs.MeshLaws.{cells_of, in_flat, mesh_gathers_cells, next_gathered, point_held}
+use Rattle.cell_store.proofs.MeshLaws.{
+  cells_of,
+  in_flat,
+  mesh_gathers,
+  mesh_gathers_cells,
+  next_gathered,
+  point_held,
+}
 use Rattle.cell_store.proofs.ShareLaws.{touched}
 
 -- nothing is gathered at first
@@ -180,6 +189,15 @@ list_next {Y} f l n x old more new h e o m k =
 pub list_all : {Y : Type 0} (f : Option BucketContent → List Y) (l : List (Option BucketContent)) (n : ℕ)
     (list : List Y) → length l ≤ n → list ≡ flat_map f (take n l) → list ≡ flat_map f l
 list_all f l n list h e = e ∙ ap (flat_map f) (take_all n l h)
+
+-- the entries of all buckets, in the order of their numbers, are the history for which the hold stands
+pub history_gathered : (hold : InHand) (h entries sorted : List Entry) → IsWhole hold → Stands hold h →
+    entries ≡ all_entries hold.places → IsPermutation entries sorted →
+    IsNonDecreasingBy (λ (e : Entry). e.number) sorted → sorted ≡ h
+history_gathered hold h entries sorted w st e p o =
+    let g = mesh_gathers hold h w st in
+    let same : IsPermutation (all_entries hold.places) sorted = subst (λ (l : List Entry). IsPermutation l sorted) e p in
+    g.ordered sorted same (merged_order (all_entries hold.places) sorted g.numbered same o)
 
 -- ---- a list for each bucket, which is then let go
 

@@ -2,6 +2,7 @@
 
 ghost use Rattle.std.specs.Prelude.{◌≡◌, ◌∷◌, ◌++◌, [], ℕ, List, length, IfOk, OnOk};
 ghost use Rattle.std.specs.List.{filter, flat_map};
+ghost use Rattle.std.specs.List.Sorted.{IsNonDecreasingBy, IsPermutation};
 ghost use Rattle.point_order.specs.Complex.{complex as complex_of};
 ghost use Rattle.edit_history.specs.Histories.{replay};
 ghost use Rattle.edit_history.specs.declared.history.Entry.{Entry};
@@ -28,9 +29,8 @@ impl Hold {
         requires stands { StandsForSome self.now }
         ensures { IfOk result (λ entries. (h : List Entry) → Stands self.now h → entries.items ≡ h) }
     {
-        let mut entries = self.all_entries(alloc)?;
-        entries.sort_unstable_by_key(|entry| entry.number);
-        Ok(entries)
+        let entries = self.all_entries(alloc)?;
+        Ok(in_order(entries))
     }
 
     /// The complex of the set that the hold shows: its cells, sorted. Every bucket is to be in hand.
@@ -84,38 +84,52 @@ impl Hold {
         Ok(list)
     }
 
-    // For each bucket the cells that have their first point there. A bucket is let go once it is read.
-    fn into_lists(mut self, alloc: Global) -> Result<Vec<Vec<Cell>>, AllocError>
+    // The entries of all buckets, and for each bucket the cells that have their first point there. A bucket is let go
+    // once it is read.
+    fn into_lists(mut self, alloc: Global) -> Result<(Vec<Entry>, Vec<Vec<Cell>>), AllocError>
         requires { AllInHand self }
-        ensures lists { IfOk result (λ lists. AreGathered self (length self.places)
-            (flat_map (λ list. list.items) lists.items)) }
+        ensures entries { IfOk result (λ both. both.0.items ≡ all_entries self.places) }
+        ensures lists { IfOk result (λ both. AreGathered self (length self.places)
+            (flat_map (λ list. list.items) both.1.items)) }
         ensures whole { OnOk result (IsWhole self) }
     {
         let grid = self.grid();
+        let mut log = Vec::with_capacity(alloc, self.count_entries() as usize)?;
         let mut lists = Vec::with_capacity(alloc, grid.count() as usize)?;
         for b in 0..grid.count() {
             let bucket = self.take(b);
+            log.extend_from_slice(bucket.entries())?;
             let list = home_cells(alloc, grid, b, &bucket)?;
             lists.push(list)?;
         }
-        Ok(lists)
+        Ok((log, lists))
     }
 }
 
 impl Mesh {
-    /// The complex of the points that the history leaves: its cells, sorted. A bucket is let go once its cells are
+    /// The history, and the complex of the points that it leaves: its cells, sorted. A bucket is let go once it is
     /// read, so that these take the memory that it had.
     ///
     /// # Errors
     /// Want of memory.
-    pub fn into_complex(self, alloc: Global) -> Result<Vec<Cell>, AllocError>
-        ensures cells { IfOk result (λ cells. cells.items ≡ complex_of (replay self.history)) }
+    pub fn into_parts(self, alloc: Global) -> Result<(Vec<Entry>, Vec<Cell>), AllocError>
+        ensures history { IfOk result (λ parts. parts.0.items ≡ self.history) }
+        ensures cells { IfOk result (λ parts. parts.1.items ≡ complex_of (replay self.history)) }
         ensures sound { IsSound self.history }
     {
-        let lists = self.into_hold().into_lists(alloc)?;
+        let (log, lists) = self.into_hold().into_lists(alloc)?;
         let cells = joined(alloc, lists)?;
-        Ok(cells_in_order(cells))
+        Ok((in_order(log), cells_in_order(cells)))
     }
+}
+
+// The entries, by their numbers.
+fn in_order(mut entries: Vec<Entry>) -> Vec<Entry>
+    ensures same { IsPermutation entries.items result.items }
+    ensures order { IsNonDecreasingBy (λ e. e.number) result.items }
+{
+    entries.sort_unstable_by_key(|entry| entry.number);
+    entries
 }
 
 // The number of the bucket of the cell's first point.

@@ -16,30 +16,29 @@ use cell_store::Mesh;
 use edit_files::File;
 use edit_history::Entry;
 use grid_claims::Gate;
-use one_mesh::{find_four, history, into_complex, points};
+use one_mesh::{find_four, into_parts, points};
 use std::alloc::{AllocError, Global};
 use std::thread::Threads;
 
-// The parts of the report of the mesh of a file's lines, and of its history. The mesh is let go while its cells are
-// read.
+// The history of the mesh of a file's lines, and the parts of its report. The mesh is let go while it is read.
 fn parts(
     alloc: Global,
     making: Making,
     asked: Asked,
     file: &File,
     mesh: Mesh,
-    kept: &[Entry],
-) -> Result<Parts, AllocError>
-    requires history { mesh.history ≡ kept.now }
+) -> Result<(Vec<Entry>, Parts), AllocError>
     requires radii { AreRadii file.now.version file.now.radii.items }
     requires lines { length file.now.points.items + length file.now.edits.items < 2 ^ 32 }
-    ensures report { IfOk result (λ parts. report_of_parts parts
-        ≡ report_of asked.shape asked.order (content file.now) kept.now) }
-    ensures ready { IfOk result IsReady }
+    ensures history { IfOk result (λ both. both.0.items ≡ mesh.history) }
+    ensures report { IfOk result (λ both. report_of_parts both.1
+        ≡ report_of asked.shape asked.order (content file.now) mesh.history) }
+    ensures ready { IfOk result (λ both. IsReady both.1) }
 {
     let points = points(alloc, &mesh)?;
-    let cells = into_complex(alloc, mesh)?;
-    parts_of(alloc, making, asked, file, points, cells, kept)
+    let (kept, cells) = into_parts(alloc, mesh)?;
+    let parts = parts_of(alloc, making, asked, file, points, cells, &kept)?;
+    Ok((kept, parts))
 }
 
 /// Makes the mesh of the file's lines by workers, its history, and the parts of the report of what that leaves, with
@@ -71,7 +70,6 @@ pub fn history_and_parts<R: Threads + Sync, G: Gate + Sync>(
         return Ok(made_of_points(alloc, making, asked, file, four)?);
     }
     let mesh = mesh_of_lines(rt, alloc, file, four, making, gate)?;
-    let kept = history(alloc, &mesh)?;
-    let parts = parts(alloc, making, asked, file, mesh, &kept)?;
-    Ok((kept, parts))
+    let both = parts(alloc, making, asked, file, mesh)?;
+    Ok(both)
 }

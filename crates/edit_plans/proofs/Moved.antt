@@ -37,14 +37,14 @@ use Rattle.vertex_removal.specs.Refills.{IsRefilled}
 use Rattle.vertex_removal.specs.Turns.{AsksBelow, AsksNothing, NoneIsNeeded, RefillGives}
 use Rattle.vertex_removal.specs.declared.refill.RefillTurn.{RefillTurn}
 use Rattle.vertex_removal.specs.declared.refill.RefillTurn.TheVariants.{Done as Fills, Flat as LiesFlat, Need as Lacks}
-use Rattle.edit_plans.specs.declared.planner.Landed.{Landed}
-use Rattle.edit_plans.specs.declared.planner.Look.{Look}
-use Rattle.edit_plans.specs.declared.planner.Look.TheVariants.{Beside, Turn}
-use Rattle.edit_plans.specs.declared.planner.Plan.{Plan}
-use Rattle.edit_plans.specs.declared.planner.Planner.{Planner}
-use Rattle.edit_plans.specs.declared.planner.Planner.TheVariants.{Home, Lands as Landing, Leaves as Leaving}
-use Rattle.edit_plans.specs.declared.planner.PlanTurn.{PlanTurn}
-use Rattle.edit_plans.specs.declared.planner.PlanTurn.TheVariants.{Done, Need}
+use Rattle.edit_plans.specs.declared.plan.Landed.{Landed}
+use Rattle.edit_plans.specs.declared.plan.Look.{Look}
+use Rattle.edit_plans.specs.declared.plan.Look.TheVariants.{Beside, Turn}
+use Rattle.edit_plans.specs.declared.plan.Plan.{Plan}
+use Rattle.edit_plans.specs.declared.plan.Planner.{Planner}
+use Rattle.edit_plans.specs.declared.plan.Planner.TheVariants.{Home, Lands as Landing, Leaves as Leaving}
+use Rattle.edit_plans.specs.declared.plan.PlanTurn.{PlanTurn}
+use Rattle.edit_plans.specs.declared.plan.PlanTurn.TheVariants.{Done, Need}
 use Rattle.edit_plans.specs.Leaving.{AnswersBeside, AreBoth, CanLeave, IsMovedBy, IsQuiet, RefillAnswers}
 use Rattle.edit_plans.specs.Plans.{
   HoldsHome,

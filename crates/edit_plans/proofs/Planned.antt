@@ -33,9 +33,9 @@ use Rattle.insertion.proofs.Cited.{arrival_stays}
 use Rattle.vertex_removal.specs.Turns as refill
 use Rattle.vertex_removal.specs.declared.refill.RefillTurn.{RefillTurn}
 use Rattle.vertex_removal.specs.declared.refill.RefillTurn.TheVariants as turn
-use Rattle.edit_plans.specs.declared.planner.Plan.{Plan}
-use Rattle.edit_plans.specs.declared.planner.Planner.{Planner}
-use Rattle.edit_plans.specs.declared.planner.Planner.TheVariants.{
+use Rattle.edit_plans.specs.declared.plan.Plan.{Plan}
+use Rattle.edit_plans.specs.declared.plan.Planner.{Planner}
+use Rattle.edit_plans.specs.declared.plan.Planner.TheVariants.{
   Home,
   Comes as Coming,
   Goes as Going,

@@ -14,11 +14,11 @@ use Rattle.cavity.specs.declared.fill_hole.Fresh.{Fresh}
 use Rattle.vertex_removal.specs.Turns.{AsksBelow, AsksNothing, RefillGives, ShowsWithPoint}
 use Rattle.vertex_removal.specs.declared.refill.RefillTurn.{RefillTurn}
 use Rattle.vertex_removal.specs.declared.refill.RefillTurn.TheVariants.{Done as Fills, Flat as LiesFlat, Need as Lacks}
-use Rattle.edit_plans.specs.declared.planner.Landed.{Landed}
-use Rattle.edit_plans.specs.declared.planner.Plan.{Plan}
-use Rattle.edit_plans.specs.declared.planner.Planner.TheVariants.{Leaves}
-use Rattle.edit_plans.specs.declared.planner.PlanTurn.{PlanTurn}
-use Rattle.edit_plans.specs.declared.planner.PlanTurn.TheVariants.{Done, Need}
+use Rattle.edit_plans.specs.declared.plan.Landed.{Landed}
+use Rattle.edit_plans.specs.declared.plan.Plan.{Plan}
+use Rattle.edit_plans.specs.declared.plan.Planner.TheVariants.{Leaves}
+use Rattle.edit_plans.specs.declared.plan.PlanTurn.{PlanTurn}
+use Rattle.edit_plans.specs.declared.plan.PlanTurn.TheVariants.{Done, Need}
 use Rattle.edit_plans.specs.Plans.{HoldsHome, IsLandedIn}
 
 -- a plan with this reply that changes no cell

@@ -18,14 +18,14 @@ use Rattle.cell_store.specs.Touches.{HoldTouched, IsTouched}
 use Rattle.cavity.specs.Turns.{NoneIsNeeded}
 use Rattle.insertion.specs.Arrivals.{IsArrivalIn}
 use Rattle.insertion.specs.Searches.{IsLacking}
-use Rattle.edit_plans.specs.declared.planner.Landed.{Landed}
-use Rattle.edit_plans.specs.declared.planner.Look.{Look}
-use Rattle.edit_plans.specs.declared.planner.Look.TheVariants.{Turn, Beside}
-use Rattle.edit_plans.specs.declared.planner.Plan.{Plan}
-use Rattle.edit_plans.specs.declared.planner.Planner.{Planner}
-use Rattle.edit_plans.specs.declared.planner.Planner.TheVariants.{Home, Comes, Goes, Lands, Leaves}
-use Rattle.edit_plans.specs.declared.planner.PlanTurn.{PlanTurn}
-use Rattle.edit_plans.specs.declared.planner.PlanTurn.TheVariants.{Done, Need}
+use Rattle.edit_plans.specs.declared.plan.Landed.{Landed}
+use Rattle.edit_plans.specs.declared.plan.Look.{Look}
+use Rattle.edit_plans.specs.declared.plan.Look.TheVariants.{Turn, Beside}
+use Rattle.edit_plans.specs.declared.plan.Plan.{Plan}
+use Rattle.edit_plans.specs.declared.plan.Planner.{Planner}
+use Rattle.edit_plans.specs.declared.plan.Planner.TheVariants.{Home, Comes, Goes, Lands, Leaves}
+use Rattle.edit_plans.specs.declared.plan.PlanTurn.{PlanTurn}
+use Rattle.edit_plans.specs.declared.plan.PlanTurn.TheVariants.{Done, Need}
 
 -- The edit claims no more than it touches: it takes a point, or adds one that is there.
 abbrev pub IsExact : Edit → Reply → Type 0

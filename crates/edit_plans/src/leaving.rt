@@ -1,23 +1,21 @@
 //! Moves: what leaving the old place changes, looked for while the new one is there.
 
 ghost use Rattle.std.specs.Prelude.{◌≡◌, IfOk};
-ghost use Rattle.edit_history.specs.declared.history.Edit.TheVariants.{Move};
-ghost use Rattle.edit_history.specs.Histories.{replay};
 ghost use Rattle.cell_store.specs.Between.{HasWay};
-ghost use Rattle.edit_plans.specs.declared.planner.Planner.TheVariants.{Leaves as IsLeaving};
+ghost use Rattle.edit_plans.specs.declared.plan.Planner.TheVariants.{Leaves as IsLeaving};
 ghost use Rattle.edit_plans.specs.Leaving.{AnswersBeside, AreBoth, CanLeave, IsMovedBy, RefillAnswers};
-ghost use Rattle.edit_plans.specs.Plans.{IsLandedFor, IsPlanFor, ShowsPlanner, PlanAnswers};
+ghost use Rattle.edit_plans.specs.Plans.{ShowsPlanner, PlanAnswers};
 
-use crate::planner::{Landed, Look, Plan, PlanTurn, Planner, no_change};
+use crate::plan::{Landed, Plan, PlanTurn, Planner, no_change};
 use cavity::{Fresh, composed};
-use cell_store::{Hold, Mesh};
+use cell_store::Hold;
 use edit_history::{Edit, Reply};
 use point_order::Point;
 use std::alloc::{AllocError, Global};
 use vertex_removal::{Refill, RefillTurn};
 
 // A turn of the refill of a point.
-fn refill_at(alloc: Global, hold: &Hold, v: Point) -> Result<RefillTurn, AllocError>
+pub(crate) fn refill_at(alloc: Global, hold: &Hold, v: Point) -> Result<RefillTurn, AllocError>
     requires { CanLeave hold.now v }
     ensures { IfOk result (RefillAnswers hold.now v) }
 {
@@ -38,7 +36,11 @@ fn both(alloc: Global, came: &Fresh, left: &Fresh) -> Result<Plan, AllocError>
 }
 
 // What the move comes to by a turn of the refill of its old place.
-fn moved_by(alloc: Global, landed: Landed, found: RefillTurn) -> Result<PlanTurn, AllocError>
+pub(crate) fn moved_by(
+    alloc: Global,
+    landed: Landed,
+    found: RefillTurn,
+) -> Result<PlanTurn, AllocError>
     ensures { IfOk result (IsMovedBy landed found) }
 {
     match found {
@@ -75,37 +77,4 @@ pub(crate) fn leave_on(
     hold.reserve_both(alloc, &landed.came.gone, &landed.came.fresh, &edit)?;
     let found = look_beside(alloc, hold, &landed)?;
     moved_by(alloc, landed, found)
-}
-
-// What a move to a free place changes in a mesh.
-fn leave_in(alloc: Global, mesh: &mut Mesh, landed: Landed) -> Result<Plan, AllocError>
-    requires { IsLandedFor (replay mesh.old.history) landed }
-    ensures same { mesh.new ≡ mesh.old }
-    ensures plan { IfOk result (IsPlanFor (replay mesh.old.history) (Move landed.from landed.to)) }
-{
-    let (from, to) = (landed.from, landed.to);
-    let found = mesh.with_point(alloc, &landed.came.gone, &landed.came.fresh, to, |hold| {
-        refill_at(alloc, hold, from)
-    })?;
-    match moved_by(alloc, landed, found?)? {
-        PlanTurn::Done(plan) => Ok(plan),
-        PlanTurn::Need(_, _) => unreachable!(),
-    }
-}
-
-/// What an edit changes in a mesh, which is then as before.
-///
-/// # Errors
-/// Want of memory.
-pub fn plan_of(alloc: Global, mesh: &mut Mesh, edit: Edit) -> Result<Plan, AllocError>
-    ensures same { mesh.new ≡ mesh.old }
-    ensures plan { IfOk result (IsPlanFor (replay mesh.old.history) edit) }
-{
-    match Planner::begin(edit).look(alloc, mesh.hold())? {
-        Look::Turn(turn) => match turn {
-            PlanTurn::Done(plan) => Ok(plan),
-            PlanTurn::Need(_, _) => unreachable!(),
-        },
-        Look::Beside(landed) => leave_in(alloc, mesh, landed),
-    }
 }

@@ -17,10 +17,12 @@
 //! ```
 #![tactic(auto)]
 
+mod in_mesh;
 pub mod laws;
 mod leaving;
 mod moving;
+mod plan;
 mod planner;
 
-pub use leaving::plan_of;
-pub use planner::{Landed, Plan, PlanTurn, Planner};
+pub use in_mesh::plan_of;
+pub use plan::{Landed, Plan, PlanTurn, Planner};

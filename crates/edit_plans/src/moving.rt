@@ -3,10 +3,10 @@
 ghost use Rattle.std.specs.Prelude.{IfOk};
 ghost use Rattle.edit_history.specs.declared.history.Edit.TheVariants.{Move};
 ghost use Rattle.cell_store.specs.Shares.{ShowsSome};
-ghost use Rattle.edit_plans.specs.declared.planner.Planner.TheVariants.{Home as IsHome, Lands as IsLanding};
+ghost use Rattle.edit_plans.specs.declared.plan.Planner.TheVariants.{Home as IsHome, Lands as IsLanding};
 ghost use Rattle.edit_plans.specs.Plans.{HoldsHome, ShowsPlanner, LookAnswers};
 
-use crate::planner::{Landed, Look, PlanTurn, Planner, no_change};
+use crate::plan::{Landed, Look, PlanTurn, Planner, no_change};
 use cell_store::Hold;
 use edit_history::{Edit, Reply};
 use insertion::{Arrival, ArrivalTurn};

@@ -1,73 +1,25 @@
-//! Planners, and the plans that they come to.
+//! Planners look over the buckets in hand.
 
 ghost use Rattle.std.specs.Prelude.{◌≡◌, IfOk};
 ghost use Rattle.edit_history.specs.declared.history.Edit.TheVariants.{Add, Take};
 ghost use Rattle.cell_store.specs.Shares.{ShowsSome};
-ghost use Rattle.edit_plans.specs.declared.planner.Planner.TheVariants.{
+ghost use Rattle.edit_plans.specs.declared.plan.Planner.TheVariants.{
   Home as IsHome,
   Comes as IsComing,
   Goes as IsGoing,
 };
-ghost use Rattle.edit_plans.specs.Leaving.{IsQuiet};
 ghost use Rattle.edit_plans.specs.Plans.{HoldsHome, ShowsPlanner, PlanAnswers, LookAnswers};
 
 use crate::leaving::leave_on;
 use crate::moving::{land_on, move_home};
+use crate::plan::{Look, Plan, PlanTurn, Planner, no_change};
 use cavity::Fresh;
 use cell_store::Hold;
 use edit_history::{Edit, Reply};
 use insertion::{Arrival, ArrivalTurn};
-use point_order::{Cell, Point};
+use point_order::Point;
 use std::alloc::{AllocError, Global};
 use vertex_removal::{Refill, RefillTurn};
-
-/// What an edit changes: its reply, the cells that go, and those that come.
-#[derive(Debug, Drop)]
-pub struct Plan {
-    pub reply: Reply,
-    pub gone: Vec<Cell>,
-    pub fresh: Vec<Cell>,
-}
-
-/// The new place of a point that moves, found to be free, with what it changes: the cells that go when it comes, and
-/// those that come.
-#[derive(Debug, Drop)]
-pub struct Landed {
-    pub from: Point,
-    pub to: Point,
-    pub came: Fresh,
-}
-
-/// The search for what an edit changes: where it stands.
-#[derive(Debug, Drop)]
-pub enum Planner {
-    /// Before the bucket of the edit's point, which comes first; of a move, before those of both places.
-    Home(Edit),
-    /// The point is new, and comes.
-    Comes(Point, Arrival),
-    /// The point is there, and goes.
-    Goes(Point),
-    /// The point is there and moves to a free place: what the new place changes is looked for.
-    Lands(Point, Point, Arrival),
-    /// That is known, and the point leaves its place: the rest is looked for while the new place is there.
-    Leaves(Landed),
-}
-
-/// What a turn of a planner comes to.
-#[derive(Debug, Drop)]
-pub enum PlanTurn {
-    /// What the edit changes. Every bucket that it touches is in hand.
-    Done(Plan),
-    /// The bucket with this number is not in hand; with it the planner goes on.
-    Need(u32, Planner),
-}
-
-// What a look over the buckets in hand, as they are, comes to.
-pub(crate) enum Look {
-    Turn(PlanTurn),
-    // The rest is to be found while the new place is there.
-    Beside(Landed),
-}
 
 impl Planner {
     /// The planner for an edit.
@@ -180,16 +132,5 @@ fn go_on(alloc: Global, hold: &Hold, p: Point) -> Result<PlanTurn, AllocError>
         })),
         RefillTurn::Flat => Ok(PlanTurn::Done(no_change(alloc, Reply::Flat))),
         RefillTurn::Need(b) => Ok(PlanTurn::Need(b, Planner::Goes(p))),
-    }
-}
-
-// The plan of an edit that changes no cell.
-pub(crate) fn no_change(alloc: Global, reply: Reply) -> Plan
-    ensures { IsQuiet result reply }
-{
-    Plan {
-        reply,
-        gone: Vec::new(alloc),
-        fresh: Vec::new(alloc),
     }
 }

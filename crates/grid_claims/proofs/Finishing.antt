@@ -44,7 +44,7 @@ use Rattle.claim_rule.specs.Events.{renewed_from}
 use Rattle.claim_rule.specs.Making.{IsExchanged}
 use Rattle.claim_rule.proofs.Cited.{any_brought, renewed_at}
 use Rattle.grid_claims.specs.declared.hands.Hands.{Hands}
-use Rattle.edit_plans.specs.declared.planner.Plan.{Plan}
+use Rattle.edit_plans.specs.declared.plan.Plan.{Plan}
 use Rattle.grid_claims.specs.declared.view.Act.TheVariants.{Commit}
 use Rattle.grid_claims.specs.declared.view.View.{View}
 use Rattle.grid_claims.specs.Trails.{in_hand}

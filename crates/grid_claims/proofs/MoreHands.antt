@@ -50,8 +50,8 @@ use Rattle.grid_claims.specs.Claiming.{
 }
 use Rattle.edit_plans.specs.Plans.{HoldsHome}
 use Rattle.grid_claims.specs.Looking.{HasMore}
-use Rattle.grid_claims.specs.declared.table.Refused.{Refused}
-use Rattle.grid_claims.specs.declared.table.Refused.TheVariants.{Spent, Busy, Memory}
+use Rattle.grid_claims.specs.declared.refused.Refused.{Refused}
+use Rattle.grid_claims.specs.declared.refused.Refused.TheVariants.{Spent, Busy, Memory}
 use Rattle.cell_store.specs.Grids.{bucket_of}
 use Rattle.cell_store.specs.Meshes.{AreAmong}
 use Rattle.grid_claims.proofs.Trailed.{in_hand_snoc}

@@ -20,18 +20,18 @@ use Rattle.cell_store.specs.Shares.{Shows}
 use Rattle.cell_store.specs.Touches.{HoldNoOther, HoldTouched, IsTouched}
 use Rattle.claim_rule.specs.Boards.{in_hand_of}
 use Rattle.edit_plans.specs.Plans.{IsExact, PlanAnswers, PlanGives, ShowsPlanner, edit_of}
-use Rattle.edit_plans.specs.declared.planner.Plan.{Plan}
-use Rattle.edit_plans.specs.declared.planner.Planner.{Planner}
-use Rattle.edit_plans.specs.declared.planner.Planner.TheVariants.{Home}
-use Rattle.edit_plans.specs.declared.planner.PlanTurn.{PlanTurn}
-use Rattle.edit_plans.specs.declared.planner.PlanTurn.TheVariants.{Done, Need}
+use Rattle.edit_plans.specs.declared.plan.Plan.{Plan}
+use Rattle.edit_plans.specs.declared.plan.Planner.{Planner}
+use Rattle.edit_plans.specs.declared.plan.Planner.TheVariants.{Home}
+use Rattle.edit_plans.specs.declared.plan.PlanTurn.{PlanTurn}
+use Rattle.edit_plans.specs.declared.plan.PlanTurn.TheVariants.{Done, Need}
 use Rattle.edit_plans.proofs.Cited.{home_begins, planner_stays}
 use Rattle.insertion.specs.Searches.{IsLacking}
 use Rattle.grid_claims.specs.declared.hands.Hands.{Hands}
 use Rattle.grid_claims.specs.declared.view.View.{View}
 use Rattle.grid_claims.specs.Claiming.{AreHands, HasStopped, IsReadyPlan, ShowsOne}
-use Rattle.grid_claims.specs.declared.table.Refused.{Refused}
-use Rattle.grid_claims.specs.declared.table.Refused.TheVariants.{Memory}
+use Rattle.grid_claims.specs.declared.refused.Refused.{Refused}
+use Rattle.grid_claims.specs.declared.refused.Refused.TheVariants.{Memory}
 use Rattle.grid_claims.specs.Looking.{HasMore, IsPlanning}
 use Rattle.grid_claims.specs.Plays.{HandShows}
 use Rattle.grid_claims.proofs.MoreHands.{hands_with_room, more_none, more_then, out_of_memory, shown, stopped_then}

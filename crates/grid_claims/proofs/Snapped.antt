@@ -11,8 +11,8 @@ use Rattle.claim_rule.specs.Boards.{made_by}
 use Rattle.claim_rule.specs.Good.{StartsWith}
 use Rattle.grid_claims.specs.declared.hands.Hands.{Hands}
 use Rattle.grid_claims.specs.declared.snapshot.Snapshot.{Snapshot}
-use Rattle.grid_claims.specs.declared.table.Refused.{Refused}
-use Rattle.grid_claims.specs.declared.table.Refused.TheVariants.{Spent, Busy, Memory}
+use Rattle.grid_claims.specs.declared.refused.Refused.{Refused}
+use Rattle.grid_claims.specs.declared.refused.Refused.TheVariants.{Spent, Busy, Memory}
 use Rattle.grid_claims.specs.declared.view.Act.{Act}
 use Rattle.grid_claims.specs.declared.view.Act.TheVariants.{Claim, Miss, Look}
 use Rattle.grid_claims.specs.declared.view.View.{View}

@@ -36,8 +36,8 @@ use Rattle.cell_store.specs.Touches.{IsTouched}
 use Rattle.point_order.specs.Sets.{IsIn}
 use Rattle.grid_claims.specs.declared.hands.Hands.{Hands}
 use Rattle.edit_history.specs.declared.history.Receipt.{Receipt}
-use Rattle.grid_claims.specs.declared.table.Refused.{Refused}
-use Rattle.grid_claims.specs.declared.table.Refused.TheVariants.{Spent, Busy, Memory}
+use Rattle.grid_claims.specs.declared.refused.Refused.{Refused}
+use Rattle.grid_claims.specs.declared.refused.Refused.TheVariants.{Spent, Busy, Memory}
 use Rattle.grid_claims.specs.declared.view.Act.{Act}
 use Rattle.grid_claims.specs.declared.view.Act.TheVariants.{Claim, Miss, Commit}
 use Rattle.grid_claims.specs.declared.view.View.{View}

@@ -32,9 +32,9 @@ use Rattle.cell_store.specs.Shares.{Shows}
 use Rattle.cell_store.specs.Touches.{IsTouched}
 use Rattle.point_order.specs.Sets.{IsIn}
 use Rattle.grid_claims.specs.declared.hands.Hands.{Hands}
-use Rattle.edit_plans.specs.declared.planner.Plan.{Plan}
-use Rattle.grid_claims.specs.declared.table.Refused.{Refused}
-use Rattle.grid_claims.specs.declared.table.Refused.TheVariants.{Spent, Busy, Memory}
+use Rattle.edit_plans.specs.declared.plan.Plan.{Plan}
+use Rattle.grid_claims.specs.declared.refused.Refused.{Refused}
+use Rattle.grid_claims.specs.declared.refused.Refused.TheVariants.{Spent, Busy, Memory}
 use Rattle.grid_claims.specs.declared.view.Act.{Act}
 use Rattle.grid_claims.specs.declared.view.Act.TheVariants.{Claim, Miss, Commit, Release}
 use Rattle.grid_claims.specs.declared.view.View.{View}

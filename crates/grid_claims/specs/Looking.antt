@@ -8,7 +8,7 @@ use Rattle.cell_store.specs.Meshes.{AreAmong}
 use Rattle.cell_store.specs.Shares.{Shows}
 use Rattle.cell_store.specs.Touches.{HoldNoOther}
 use Rattle.edit_plans.specs.Plans.{IsExact, IsPlannerIn, edit_of}
-use Rattle.edit_plans.specs.declared.planner.Planner.{Planner}
+use Rattle.edit_plans.specs.declared.plan.Planner.{Planner}
 use Rattle.grid_claims.specs.declared.hands.Hands.{Hands}
 use Rattle.grid_claims.specs.Claiming.{AreHands, HasClaimed, ShowsOne}
 

@@ -31,8 +31,8 @@ use Rattle.claim_rule.specs.Boards.{made_by}
 use Rattle.claim_rule.specs.Good.{StartsWith}
 use Rattle.grid_claims.specs.declared.view.Act.{Act}
 use Rattle.grid_claims.specs.declared.view.Act.TheVariants.{Claim, Miss, Commit, Release, Look}
-use Rattle.grid_claims.specs.declared.table.Refused.{Refused}
-use Rattle.grid_claims.specs.declared.table.Refused.TheVariants.{Spent, Busy, Memory}
+use Rattle.grid_claims.specs.declared.refused.Refused.{Refused}
+use Rattle.grid_claims.specs.declared.refused.Refused.TheVariants.{Spent, Busy, Memory}
 use Rattle.cell_store.specs.Meshes.{by_number}
 use Rattle.cell_store.specs.Touches.{IsTouched}
 use Rattle.point_order.specs.Sets.{IsIn}

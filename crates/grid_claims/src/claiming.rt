@@ -8,7 +8,7 @@ ghost use Rattle.grid_claims.specs.Claiming.{AreHands, HasClaimed, HasStopped, I
 ghost use Rattle.grid_claims.specs.Looking.{HasMore};
 
 use crate::hands::{Hands, take_in};
-use crate::table::Refused;
+use crate::refused::Refused;
 use crate::view::Board;
 use edit_history::Edit;
 use edit_plans::{Plan, PlanTurn, Planner};

@@ -9,8 +9,8 @@ ghost use Rattle.grid_claims.specs.Showing.{HasClaimedAll, AreListsOf, HasLooked
 use crate::claiming::ask;
 use crate::finish::let_go;
 use crate::hands::Hands;
+use crate::refused::Refused;
 use crate::steps::show_at;
-use crate::table::Refused;
 use crate::view::Board;
 use cell_store::Hold;
 use edit_history::Entry;

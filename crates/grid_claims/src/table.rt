@@ -13,6 +13,7 @@ use crate::homing::gather;
 use crate::laying::{board_for, empty_hands};
 use crate::pass::Pass;
 use crate::plays::Together;
+use crate::refused::Refused;
 use crate::snapshot::{Snapshot, copy_all, look_and_let_go};
 use crate::steps::{look_at, part};
 use crate::view::Board;
@@ -20,32 +21,6 @@ use cell_store::{Hold, Mesh};
 use edit_history::{Edit, Receipt};
 use std::alloc::{AllocError, Global};
 use std::marker::Model;
-use thiserror::Error;
-
-/// Why a call did nothing.
-#[derive(Debug, Drop, Error)]
-pub enum Refused {
-    /// The pass may make no more edits.
-    #[error("the pass may make no more edits")]
-    Spent,
-    /// The bucket was in another pass's hands: its word was found to be this.
-    #[error("bucket {bucket} is busy: its word is {word}")]
-    Busy { bucket: u32, word: u64 },
-    /// Want of memory.
-    #[error("out of memory")]
-    Memory,
-}
-
-impl From<AllocError> for Refused {
-    ghost use Rattle.std.specs.Prelude.{◌≡◌};
-    ghost use Rattle.grid_claims.specs.declared.table.Refused.TheVariants.{Memory};
-
-    ghost from_gives = { λ _ why. why ≡ Memory };
-
-    fn from(_: AllocError) -> Refused {
-        Refused::Memory
-    }
-}
 
 /// A mesh that several threads edit, each by a pass of its own.
 #[derive(Drop)]

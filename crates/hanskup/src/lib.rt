@@ -9,7 +9,7 @@
 //! | a mesh of points | `find_four`, then `begin_cloud`, which puts them in at once |
 //! | a mesh of four points | `opening_points`, `begin`, then `apply` of `Edit::Add` for each other point |
 //! | to add, take or move a point | `apply`, which answers the reply and the number of the entry |
-//! | the cells; the points; what was done | `complex`, at the end of a mesh `into_complex`; `points`; `history` |
+//! | the cells; the points; what was done | `complex`, `points`, `history`; at the end of a mesh `into_parts` |
 //! | where a place lies; the nearest point | `locate`; `nearest(mesh.hold(), q)`, of many places `nearest_to_each` |
 //! | the cells at a point, and by them the points around it | `mesh.hold().cells_at(p)`, a vertex |
 //! | edges and triangles with their cells | `faces` of the cells; by one thread `few_faces` |
@@ -55,7 +55,7 @@ pub use mesh_files::{
 pub use mesh_handle::{Location, locate};
 pub use near_vertex::{Near, NearStart, NearTurn, NearWalk, nearest, nearest_to_each, put_near};
 pub use one_mesh::{
-    Receipt, apply, begin, begin_cloud, complex, find_four, grid_for, history, into_complex,
+    Receipt, apply, begin, begin_cloud, complex, find_four, grid_for, history, into_parts,
     opening_points, points,
 };
 pub use point_order::{Cell, Facet, OutOfRange, Pair, Point, Quad, Tri};

@@ -9,7 +9,7 @@ use Rattle.edit_history.specs.Histories.{replay}
 use Rattle.cell_store.specs.Changes.{Follows}
 use Rattle.cell_store.specs.Meshes.{MeshView, counted}
 use Rattle.edit_plans.specs.Plans.{IsPlanFor}
-use Rattle.edit_plans.specs.declared.planner.Plan.{Plan}
+use Rattle.edit_plans.specs.declared.plan.Plan.{Plan}
 use Rattle.one_mesh.specs.Applied.{edited}
 
 -- the count is the next number

@@ -7,7 +7,7 @@
 //! let cloud = begin_cloud(alloc, grid_for(points.len()), &points, find_four(&points)?)?;  // all at once
 //! let receipt = apply(alloc, &mut mesh, 4, Edit::Add(p))?;  // its number and its reply; less than 2^32 entries before
 //! let cells = complex(alloc, &mesh)?;                       // sorted
-//! let cells = into_complex(alloc, mesh)?;                   // the same, and the mesh is let go as it is read
+//! let (entries, cells) = into_parts(alloc, mesh)?;          // both, and the mesh is let go as it is read
 //! ```
 #![tactic(auto)]
 
@@ -21,5 +21,5 @@ pub use clouds::begin_cloud;
 pub use edit_history::{NotSolid, Receipt, find_four};
 pub use edits::{apply, begin};
 pub use grids::grid_for;
-pub use lists::{complex, history, into_complex, points};
+pub use lists::{complex, history, into_parts, points};
 pub use opening::opening_points;

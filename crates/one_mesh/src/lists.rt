@@ -38,18 +38,19 @@ pub fn complex(alloc: Global, mesh: &Mesh) -> Result<Vec<Cell>, AllocError>
     mesh.hold().complex(alloc)
 }
 
-/// The complex of a mesh that is given away, as `complex` gives it. Each bucket is let go once its cells are read, so
-/// it takes less memory.
+/// The history and the complex of a mesh that is given away, as `history` and `complex` give them. Each bucket is let
+/// go once it is read, so they take less memory.
 ///
 /// # Errors
 /// Want of memory.
-pub fn into_complex(alloc: Global, mesh: Mesh) -> Result<Vec<Cell>, AllocError>
-    ensures cells { IfOk result (λ cells. cells.items ≡ complex_of (replay mesh.history)) }
+pub fn into_parts(alloc: Global, mesh: Mesh) -> Result<(Vec<Entry>, Vec<Cell>), AllocError>
+    ensures history { IfOk result (λ parts. parts.0.items ≡ mesh.history) }
+    ensures cells { IfOk result (λ parts. parts.1.items ≡ complex_of (replay mesh.history)) }
     ensures ascending { IsAscending (replay mesh.history) }
     ensures solid { is_solid (replay mesh.history) ≡ true }
     ensures keys { AreKeys (replay mesh.history) }
 {
-    mesh.into_complex(alloc)
+    mesh.into_parts(alloc)
 }
 
 // The points of all buckets.

@@ -18,7 +18,7 @@ returns-clause-made c =
     c.in_ok-freed.ensures.freed c.in_ok-coming.ensures.once
     (subst (λ (l : List ℕ). AreComing b l c.args.fresh.now coming) c.deref.ensures.value c.in_ok-coming.ensures.coming)
     c.in_ok-places.ensures.order (c.in_ok-places.ensures.count ∙ c.len.ensures ∙ c.in_ok-coming.coming.ok.0)
-    (subst (λ (l : List ℕ). (i : ℕ) → IsIn i us → IsVacant c.deref-2.result.now l i) c.deref-4.ensures.value
+    (subst (λ (l : List ℕ). (i : ℕ) → IsIn i us → IsVacant c.deref-2.result.now l i) c.deref-3.ensures.value
     c.in_ok-places.ensures.vacant)
-    (c.in_ok-placed.ensures ∙ ap (λ (l : List ℕ). zip l c.deref-6.result.now) c.deref-5.ensures.value
-    ∙ ap (λ (l : List Cell). zip us l) c.deref-6.ensures.value)
+    (c.in_ok-placed.ensures ∙ ap (λ (l : List ℕ). zip l c.deref-5.result.now) c.deref-4.ensures.value
+    ∙ ap (λ (l : List Cell). zip us l) c.deref-5.ensures.value)

@@ -12,6 +12,6 @@ returns-in-Some c = (
 pub returns : goal.returns
 returns c = (
   (let h = c.in_ok-n.ensures.0 in let m = c.max.ensures in omega (arith, h, m)),
-  subst (λ (l : List (ℕ × List ℕ)). IsSpare l c.in_ok-n.n) (c.deref-3.ensures.value ∙ ap (λ v. v.stars) c.self.view_is)
+  subst (λ (l : List (ℕ × List ℕ)). IsSpare l c.in_ok-n.n) (c.deref-2.ensures.value ∙ ap (λ v. v.stars) c.self.view_is)
       c.in_ok-n.ensures.1,
 )

@@ -1,6 +1,6 @@
 use Rattle.std.proofs.Common.{subst}
 use Rattle.cell_stars.proofs.KeyLaws.{Keys, BelongsAt, with_key, key_put, taken_out}
-use Rattle.cell_stars.proofs.keys.put_key.Goals as goal
+use Rattle.cell_stars.proofs.key_lists.put_key.Goals as goal
 
 pub unreachable-requires : goal.unreachable-requires
 unreachable-requires c = taken_out c.args.keys.now.items c.drop_key.new.keys.items c.deref.result.now c.args.p

@@ -1,6 +1,6 @@
 use Rattle.std.proofs.Common.{subst, ◌≡◌, ◌<◌, length, slice_index}
 use Rattle.cell_stars.proofs.KeyLaws.{Keys, BelongsAt, vertices, without_key, no_key}
-use Rattle.cell_stars.proofs.keys.drop_key.Goals as goal
+use Rattle.cell_stars.proofs.key_lists.drop_key.Goals as goal
 
 pub returns-in-Ok-clause-order : goal.returns-in-Ok-clause-order
 returns-in-Ok-clause-order c = (without_key c.args.keys.now.items c.remove.new.self.items c.args.p c.in-Ok.i c.requires

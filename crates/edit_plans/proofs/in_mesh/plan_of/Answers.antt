@@ -5,7 +5,7 @@ use Rattle.cell_store.proofs.Cited.{shows_of}
 use Rattle.edit_plans.specs.Plans.{IsPlanFor}
 use Rattle.edit_plans.proofs.Planned.{home_begins}
 use Rattle.edit_plans.proofs.Moved.{mesh_lacks, mesh_lands, mesh_planned}
-use Rattle.edit_plans.proofs.leaving.plan_of.Goals as goal
+use Rattle.edit_plans.proofs.in_mesh.plan_of.Goals as goal
 
 pub look-requires : goal.look-requires
 look-requires c =

@@ -3,7 +3,7 @@ use Rattle.std.proofs.iter.Serving.{serving}
 use Rattle.edit_history.specs.Histories.{replay}
 use Rattle.edit_plans.specs.Leaving.{RefillAnswers}
 use Rattle.edit_plans.proofs.Moved.{can_leave, made_in}
-use Rattle.edit_plans.proofs.leaving.leave_in.Goals as goal
+use Rattle.edit_plans.proofs.in_mesh.leave_in.Goals as goal
 
 pub with_point-requires-clause-look : goal.with_point-requires-clause-look
 with_point-requires-clause-look c hold w =
