@@ -1,19 +1,12 @@
 //! What a command makes, before anything is written.
 
-ghost use Rattle.std.specs.Prelude.{◌≡◌, ◌≤◌, ◌↔◌, [], IfErr, IsTrue, OnOk};
-ghost use Rattle.std.specs.Io.KnownBytes.{Appends};
-ghost use Rattle.byte_ends.specs.Ends.{Rose};
-ghost use Rattle.delaunay_cli.specs.Ends.{IsUnput};
-ghost use Rattle.delaunay_cli.specs.Page.{IsWritable, text_of_page};
+ghost use Rattle.std.specs.Prelude.{◌≡◌, ◌↔◌, [], IsTrue};
+ghost use Rattle.delaunay_cli.specs.Page.{text_of_page};
 
-use crate::shapes::put_parts;
 use crate::stop::Stop;
-use byte_ends::{Failed, Sink, write_all};
 use edit_files::Version;
 use edit_history::{Entry, Reply};
 use point_order::{Cell, Point};
-use std::alloc::Global;
-use std::thread::Threads;
 
 /// What the report of a mesh is made of. Its shapes are made only when it is written, since they stand on these cells.
 #[derive(Drop)]
@@ -73,43 +66,4 @@ pub struct Made {
     pub page: Page,
     /// What is told of it: the run ends so where the page is written whole.
     pub after: Option<Stop>,
-}
-
-/// Writes bytes.
-///
-/// # Errors
-/// `WriteFault` where the output failed: then it has taken a front of them.
-pub fn put_text<O: Sink>(text: &[u8], out: &mut O) -> Result<(), Stop>
-    ensures whole { OnOk result (Appends (O.holds out.old) (O.holds out.new) text.now) }
-    ensures stop { IfErr result (IsUnput (Rose (O.faults out.old) (O.faults out.new)) (O.holds out.old)
-        (O.holds out.new) text.now) }
-    ensures later { O.faults out.old ≤ O.faults out.new }
-{
-    match write_all(out, text) {
-        Ok(()) => Ok(()),
-        Err(Failed) => Err(Stop::WriteFault),
-    }
-}
-
-/// Writes a page. The shapes of a report are made before anything of it is written.
-///
-/// # Errors
-/// `Memory` where there is none for the shapes: then nothing is written. `WriteFault` where the output failed: then
-/// it has taken a front of the text.
-pub fn put_page<R: Threads + Sync, O: Sink>(
-    rt: &R,
-    alloc: Global,
-    page: Page,
-    out: &mut O,
-) -> Result<(), Stop>
-    requires { IsWritable page }
-    ensures whole { OnOk result (Appends (O.holds out.old) (O.holds out.new) (text_of_page page)) }
-    ensures stop { IfErr result (IsUnput (Rose (O.faults out.old) (O.faults out.new)) (O.holds out.old)
-        (O.holds out.new) (text_of_page page)) }
-    ensures later { O.faults out.old ≤ O.faults out.new }
-{
-    match page {
-        Page::Text(text) => put_text(&text, out),
-        Page::Report(form, parts) => put_parts(rt, alloc, form, parts, out),
-    }
 }

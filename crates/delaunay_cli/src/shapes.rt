@@ -17,8 +17,9 @@ ghost use Rattle.edit_files.specs.Versions.{alpha_of};
 ghost use Rattle.delaunay_cli.specs.Report.{AreRadii};
 ghost use Rattle.delaunay_cli.specs.Page.{AreFacesFor, IsReady, report_of_parts, text_of_form};
 
-use crate::made::{Form, Parts, put_text};
+use crate::made::{Form, Parts};
 use crate::stop::Stop;
+use crate::text::put_text;
 use alpha_complex::{Shape, alphas};
 use byte_ends::{Failed, Sink};
 use edit_files::Version;

@@ -13,8 +13,9 @@ ghost use Rattle.delaunay_cli.specs.Words.{DrawsFile, ReadsSource, kind_of};
 
 use crate::checked::check_source;
 use crate::drawn::draw;
-use crate::made::{Made, put_page};
+use crate::made::Made;
 use crate::outcome::Run;
+use crate::page::put_page;
 use crate::parted::part;
 use crate::queried::query;
 use crate::reported::report;

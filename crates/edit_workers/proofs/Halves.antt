@@ -54,7 +54,16 @@ use Rattle.plain_laws.specs.Running.{Pair, AreApart}
 use Rattle.edit_workers.specs.Dealing.{AreAscending, count_of, pairs_in}
 use Rattle.edit_workers.specs.declared.lists.List as lists
 use Rattle.edit_workers.specs.declared.lists.Left.{Left}
-use Rattle.edit_workers.specs.Running.{CanRun, AscendAtPoint, ArePartly, AreWorked, AreRunBut, IsOfWorker}
+use Rattle.edit_workers.specs.Running.{
+  CanRun,
+  AscendAtPoint,
+  AreHalves,
+  AreJoined,
+  ArePartly,
+  AreRunBut,
+  AreWorked,
+  IsOfWorker,
+}
 use Rattle.edit_workers.specs.Arranging.{IsArranged, IsInPlace}
 use Rattle.edit_workers.specs.Rounds.{IsWorkedInRounds}
 use Rattle.edit_workers.proofs.Partly.{count_both, all_low, all_high, apart_low, apart_high, partly_both}
@@ -385,37 +394,36 @@ module _ (ls lows highs : List lists.List) (parts allowance : ℕ) (table : Open
       subst (λ (n : ℕ). IsSplit n (count_of (pairs_in highs)) old mid other) parts_are
       (subst (λ (n : ℕ). IsSplit parts n old mid other) all split)
 
-  -- the pass that keeps its part can run the first half
-  pub slice_low : CanRun table (pairs_in lows) mid
-  slice_low = can_low (pairs_in lows) (pairs_in highs) old mid other some_low' some_high' split_cut table can_cut
+  -- the second half has fewer lists than the pass has parts
+  fits : length (pairs_in highs) < old.parts
+  fits = let e = can_cut.parts in omega (arith, e, length-append (pairs_in lows) (pairs_in highs), some_low')
 
-  -- and the one that was split off can run the second
-  pub slice_high : CanRun table (pairs_in highs) other
-  slice_high = can_high (pairs_in lows) (pairs_in highs) old mid other some_low' some_high' split_cut table can_cut
-
-  module _ (a b : List Pair) (p q : Standing) (low : AreWorked (pairs_in lows) a mid p)
-      (high : AreWorked (pairs_in highs) b other q) where
-    -- the second half has fewer lists than the pass has parts
-    fits : length (pairs_in highs) < old.parts
-    fits = let e = can_cut.parts in omega (arith, e, length-append (pairs_in lows) (pairs_in highs), some_low')
-
-    -- both are passes of the table, and the second's parts come next
-    pub slice_tables : (p.table ≡ table) × (q.table ≡ table) × (q.first ≡ p.first + p.parts)
-    slice_tables = (
-      table_low (pairs_in lows) (pairs_in highs) old mid other some_low' some_high' split_cut a b p q fits can_cut.apart
-          low high ∙ can_cut.table_is,
-      table_high (pairs_in lows) (pairs_in highs) old mid other some_low' some_high' split_cut a b p q fits
-          can_cut.apart low high ∙ can_cut.table_is,
-      next (pairs_in lows) (pairs_in highs) old mid other some_low' some_high' split_cut a b p q fits can_cut.apart low
-          high,
-    )
-
-    -- joined, they have done the slice
-    pub slice_both : AreWorked (pairs_in ls) (a ++ b) old (joined p q)
-    slice_both =
+  -- what both halves did and left over, joined, is the work of the whole pass
+  joined_both : (a b : List Pair) (p q : Standing) → AreWorked (pairs_in lows) a mid p →
+      AreWorked (pairs_in highs) b other q → AreJoined table (pairs_in ls) old a b p q
+  joined_both a b p q low high = record {
+    low =
+        table_low (pairs_in lows) (pairs_in highs) old mid other some_low' some_high' split_cut a b p q fits
+        can_cut.apart low high ∙ can_cut.table_is;
+    high =
+        table_high (pairs_in lows) (pairs_in highs) old mid other some_low' some_high' split_cut a b p q fits
+        can_cut.apart low high ∙ can_cut.table_is;
+    next =
+        next (pairs_in lows) (pairs_in highs) old mid other some_low' some_high' split_cut a b p q fits can_cut.apart
+        low high;
+    worked =
         subst (λ (l : List (List Pair)). AreWorked l (a ++ b) old (joined p q)) (sym pairs_cut)
         (worked_both (pairs_in lows) (pairs_in highs) old mid other some_low' some_high' split_cut a b p q fits
-        can_cut.apart low high (can_cut.parts ∙ length-append (pairs_in lows) (pairs_in highs)))
+        can_cut.apart low high (can_cut.parts ∙ length-append (pairs_in lows) (pairs_in highs)));
+  }
+
+  -- the two can do the halves of the slice
+  pub slice_halves : AreHalves table (pairs_in ls) (pairs_in lows) (pairs_in highs) old mid other
+  slice_halves = record {
+    low = can_low (pairs_in lows) (pairs_in highs) old mid other some_low' some_high' split_cut table can_cut;
+    high = can_high (pairs_in lows) (pairs_in highs) old mid other some_low' some_high' split_cut table can_cut;
+    both = joined_both;
+  }
 
 -- what holds of a pass and of what it left over holds of an answer that has these two
 pub of_answer :

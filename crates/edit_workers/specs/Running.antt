@@ -23,7 +23,7 @@ use Rattle.edit_history.specs.declared.history.Entry.{Entry}
 use Rattle.edit_history.specs.Edits.{point_of}
 use Rattle.edit_history.specs.OneThread.{line_of}
 use Rattle.grid_claims.specs.Passes.{Opened, Standing}
-use Rattle.grid_claims.specs.Tries.{IsStill}
+use Rattle.grid_claims.specs.Tries.{IsStill, joined}
 use Rattle.plain_laws.specs.Running.{Pair, AreApart, IsRun}
 use Rattle.edit_workers.specs.Dealing.{AreAscending, all_of, count_of}
 
@@ -102,6 +102,22 @@ pub record AreWorked (lists : List (List Pair)) (left : List Pair) (old new : St
   pub workers : All (λ e. (old.first ≤ e.by) × (e.by < old.first + old.parts)) new.made
   pub owned : (e : Entry) → IsIn e new.made → IsOfWorker old.first lists e
   pub alone : (l : List Pair) → lists ≡ l ∷ [] → old.first ≡ 0 → old.parts ≡ old.table.parts → IsWhole l left new.made
+
+-- Two passes of the table, of which the second's parts come behind those of the first, have together done the lists of
+-- the pass that they were.
+pub record AreJoined (table : Opened) (lists : List (List Pair)) (old : Standing) (a b : List Pair) (p q : Standing) :
+    Type 0 where
+  pub low : p.table ≡ table
+  pub high : q.table ≡ table
+  pub next : q.first ≡ p.first + p.parts
+  pub worked : AreWorked lists (a ++ b) old (joined p q)
+
+-- The pass was split in two for two halves of the lists: each can do its half, and once both have they can be joined.
+pub record AreHalves (table : Opened) (lists lows highs : List (List Pair)) (old first second : Standing) : Type 0 where
+  pub low : CanRun table lows first
+  pub high : CanRun table highs second
+  pub both : (a b : List Pair) (p q : Standing) → AreWorked lows a first p → AreWorked highs b second q →
+      AreJoined table lists old a b p q
 
 -- The history k is h, gone on with a run of the lists but for the pairs left over.
 pub record AreRunBut (lists : List (List Pair)) (left : List Pair) (h k : List Entry) : Type 0 where

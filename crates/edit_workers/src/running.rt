@@ -9,6 +9,7 @@ ghost use Rattle.edit_workers.specs.Running.{
   IsSegmentRun,
   CanRun,
   AreWorked,
+  AreHalves,
   AreRunBut,
   AreApplied,
   AreByTag,
@@ -78,6 +79,25 @@ fn together(
     Ok((pass, left))
 }
 
+// Halves lists, and splits off of the pass a part for each list of the second half.
+fn halves<'a>(
+    alloc: Global,
+    table: &MeshTable,
+    pass: &mut Pass,
+    lists: &'a [List],
+) -> Result<(Pass, &'a [List], &'a [List]), AllocError>
+    requires several { 1 < length lists.now }
+    requires run { CanRun table.now (pairs_in lists.now) pass.old }
+    ensures halves { IfOk result (λ r. AreHalves table.now (pairs_in lists.now) (pairs_in r.1.now) (pairs_in r.2.now)
+        pass.old pass.new r.0) }
+    ensures fewer_low { IfOk result (λ r. length r.1.now < length lists.now) }
+    ensures fewer_high { IfOk result (λ r. length r.2.now < length lists.now) }
+{
+    let (low, high) = lists.split_at(lists.len() / 2);
+    let other = table.split(alloc, pass, high.len() as u32, pair_count(high))?;
+    Ok((other, low, high))
+}
+
 // Does the lists, each by a part of the pass, one after another. `count` tells how many parts the table has.
 fn work_in_turn<G: Gate>(
     alloc: Global,
@@ -94,8 +114,7 @@ fn work_in_turn<G: Gate>(
     if lists.len() == 1 {
         return work_alone(alloc, table, pass, lists, count, gate);
     }
-    let (low, high) = lists.split_at(lists.len() / 2);
-    let other = table.split(alloc, &mut pass, high.len() as u32, pair_count(high))?;
+    let (other, low, high) = halves(alloc, table, &mut pass, lists)?;
     let a = work_in_turn(alloc, table, pass, low, count, gate)?;
     let b = work_in_turn(alloc, table, other, high, count, gate)?;
     together(table, a, b)
@@ -120,8 +139,7 @@ fn work_all<G: Gate + Sync, R: Threads + Sync>(
     if lists.len() == 1 || threads < 2 {
         return work_in_turn(alloc, table, pass, lists, count, gate);
     }
-    let (low, high) = lists.split_at(lists.len() / 2);
-    let other = table.split(alloc, &mut pass, high.len() as u32, pair_count(high))?;
+    let (other, low, high) = halves(alloc, table, &mut pass, lists)?;
     let (a, b) = join(
         rt,
         || -> Result<(Pass, Left), AllocError>

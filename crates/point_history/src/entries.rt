@@ -55,14 +55,14 @@ fn is_picked(four: [usize; 4], of_four: bool, place: usize) -> bool
 }
 
 impl Log {
-    // No entries yet.
-    fn new(alloc: Global) -> Log
-        ensures { IsLogOf [] result }
+    // No entries yet, and room for so many.
+    fn with_room(alloc: Global, count: usize) -> Result<Log, AllocError>
+        ensures { IfOk result (IsLogOf []) }
     {
-        Log {
-            entries: Vec::new(alloc),
+        Ok(Log {
+            entries: Vec::with_capacity(alloc, count)?,
             seen: BTreeSet::new(alloc),
-        }
+        })
     }
 
     // Adds a point, whose line has this tag.
@@ -120,7 +120,7 @@ pub fn history_of_points(
     requires small { length points.now ≤ 2 ^ 32 }
     ensures { IfOk result (λ entries. entries.items ≡ one_thread points.now []) }
 {
-    let mut log = Log::new(alloc);
+    let mut log = Log::with_room(alloc, points.len())?;
     log.add_picked(points, four, true)?;
     log.add_picked(points, four, false)?;
     Ok(log.entries)

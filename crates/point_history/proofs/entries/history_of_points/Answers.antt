@@ -8,5 +8,5 @@ use Rattle.point_history.proofs.entries.history_of_points.Goals as goal
 pub returns : goal.returns
 returns c =
     let four = filter (λ line. is_picked true c.args.four line.0) (tagged_lines c.args.points.now []) in
-    (c.in_ok-add_picked-2.ensures four (c.in_ok-add_picked.ensures [] c.new-log.ensures)).0 ∙ picked_both
+    (c.in_ok-add_picked-2.ensures four (c.in_ok-add_picked.ensures [] c.in_ok-log.ensures)).0 ∙ picked_both
     c.args.points.now c.args.four c.requires.found
