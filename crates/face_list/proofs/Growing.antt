@@ -9,6 +9,7 @@ use Rattle.std.proofs.Common.{
   ℕ,
   ◌+◌,
   ◌<◌,
+  ◌≤◌,
   ◌⊎◌,
   inl,
   inr,
@@ -55,7 +56,7 @@ use Rattle.list_laws.proofs.Cited.{
 use Rattle.point_order.specs.declared.cell.Cell.{Cell}
 use Rattle.point_order.specs.Sets.{IsIn}
 use Rattle.face_list.specs.declared.around.Gathering.{Gathering}
-use Rattle.face_list.specs.Around.{AreGathered}
+use Rattle.face_list.specs.Around.{AreGathered, BeginsWithin}
 use Rattle.face_list.specs.Gather.{item_cmp, numbers_of, full_keys, is_full, items_from, AreItems, Gathers}
 use Rattle.face_list.specs.Tables.{cell_at, stretches, AreStops, IsTable}
 use Rattle.face_list.proofs.FaceLists.{items_more}
@@ -242,6 +243,33 @@ gathered_more {K} cmp o cells all W V g h items new was order sound ranged wider
       ]);
     }
 
+-- what was gathered of two, the keys of the first before those of the second
+pub gathered_both :
+    {K : Type 0} (cmp : K → K → Ordering) (o : IsTotalOrder cmp) (cells : List Cell) (all : List (K × ℕ))
+    (W V U : K → Type 0) (g h both : Gathering K) →
+    AreGathered cmp cells all W g → AreGathered cmp cells all V h → ((k : K) → W k → U k) → ((k : K) → V k → U k) →
+    ((k l : K) → W k → V l → cmp k l ≡ Less) →
+    both.table.keys.items ≡ g.table.keys.items ++ h.table.keys.items →
+    length both.table.ends.items ≡ length g.table.ends.items + length h.table.ends.items →
+    AreStops 0 (length both.table.numbers.items) both.table.ends.items →
+    stretches both.table.numbers.items 0 both.table.ends.items ≡ stretches g.table.numbers.items 0 g.table.ends.items
+    ++ stretches h.table.numbers.items 0 h.table.ends.items →
+    both.table.numbers.items ≡ g.table.numbers.items ++ h.table.numbers.items →
+    both.count ≡ g.count + h.count → AreGathered cmp cells all U both
+gathered_both {K} cmp o cells all W V U g h both first second wider_first wider_second later keys_are ends_are stops
+    lists_are numbers_are counted =
+    let e = second.ends in
+    let s = second.counted in
+    gathered_more cmp o cells all W U g both second.sorted h.table.keys.items first second.order second.sound
+    (λ i m. wider_second i.0 (second.ranged i m)) wider_first (λ k j w m. later k j.0 w (second.ranged j m))
+    second.keys_order second.keys keys_are (omega (arith, ends_are, e)) stops
+    (lists_are ∙ ap (λ (v : List (List ℕ)). stretches g.table.numbers.items 0 g.table.ends.items ++ v) second.lists)
+    (λ n m. elim (from_append n g.table.numbers.items h.table.numbers.items (subst (IsIn n) numbers_are m)) [
+      | inl i ↦ inl i
+      | inr i ↦ inr (second.numbers n i)
+    ])
+    (omega (arith, counted, s))
+
 -- numbers in order rise
 pub later_above : (xs : List ℕ) (n j : ℕ) → IsStrictlySortedBy nat_cmp xs → n < j → j < length xs →
     get_or xs n 0 < get_or xs j 0
@@ -314,3 +342,26 @@ gathered_table cmp cells all W g names a = record {
   stops = a.stops;
   numbers = all_numbers (length cells) all a.sorted g.table.numbers.items names a.sound a.numbers;
 }
+
+-- ---- ranges of points
+
+-- in a wider range
+pub begins_wider :
+    {K : Type 0} (first_of : K → ℕ) (points : List ℕ) (from to low high : ℕ) (k : K) → low ≤ from → to ≤ high →
+    BeginsWithin first_of points from to k → BeginsWithin first_of points low high k
+begins_wider first_of points from to low high k f t b =
+    let n = b.not_before in
+    let m = b.before in
+    record { index = b.index; not_before = omega (arith, f, n); before = omega (arith, t, m); is = b.is }
+
+-- what begins with an earlier point has a lesser one
+pub begins_lesser :
+    {K : Type 0} (first_of : K → ℕ) (points : List ℕ) (from middle to : ℕ) (k l : K) →
+    IsStrictlySortedBy nat_cmp points → to ≤ length points →
+    BeginsWithin first_of points from middle k → BeginsWithin first_of points middle to l → first_of k < first_of l
+begins_lesser first_of points from middle to k l s w b c =
+    let m = b.before in
+    let n = c.not_before in
+    let p = c.before in
+    let a = later_above points b.index c.index s (omega (arith, m, n)) (omega (arith, p, w)) in
+    omega (arith, a, b.is, c.is)

@@ -22,11 +22,12 @@ use Rattle.std.proofs.Common.{
   drop,
   length,
   get_or,
+  append_assoc,
   arith,
 }
-use Rattle.std.proofs.Math.Seq.{drop-append_seam}
+use Rattle.std.proofs.Math.Seq.{drop-append_seam, drop-append-add}
 use Rattle.std.specs.List.{All}
-use Rattle.std.proofs.lemmas.List.{take_all, get_or-map, length-map}
+use Rattle.std.proofs.lemmas.List.{take_all, take_more, get_or-map, length-map, map-append}
 use Rattle.std.proofs.lemmas.List.Elements.{All-take, All-drop}
 use Rattle.point_order.specs.declared.cell.Cell.{Cell}
 use Rattle.face_list.specs.declared.table.Table.{Table}
@@ -72,6 +73,70 @@ pub stops_more : (start most end : ℕ) (stops : List ℕ) → AreStops start mo
     AreStops start end (stops ++ end ∷ [])
 stops_more start most end [] s h = (omega (arith, s), refl)
 stops_more start most end (stop ∷ stops) s h = (s.0, stops_more stop most end stops s.1 h)
+
+-- ---- two lists, one behind the other
+
+-- the stops of a list that stands behind others
+stops_later : (before start most : ℕ) (stops : List ℕ) → AreStops start most stops →
+    AreStops (before + start) (before + most) (map (λ end. before + end) stops)
+stops_later before start most [] s = ap (λ (n : ℕ). before + n) s
+stops_later before start most (stop ∷ stops) s = (
+  (let h = s.0 in omega (arith, h)),
+  stops_later before stop most stops s.1,
+)
+
+-- stops up to a place, and stops from there
+stops_joined : (start middle most : ℕ) (stops more : List ℕ) → AreStops start middle stops → AreStops middle most more →
+    AreStops start most (stops ++ more)
+stops_joined start middle most [] more s m = subst (λ (v : ℕ). AreStops v most more) (sym s) m
+stops_joined start middle most (stop ∷ stops) more s m = (s.0, stops_joined stop middle most stops more s.1 m)
+
+-- the stops of both
+pub stops_both : (count more : ℕ) (stops ends : List ℕ) → AreStops 0 count stops → AreStops 0 more ends →
+    AreStops 0 (count + more) (stops ++ map (λ end. count + end) ends)
+stops_both count more stops ends s m =
+    let e : count + 0 ≡ count = omega arith in
+    stops_joined 0 count (count + more) stops (map (λ end. count + end) ends) s
+    (subst (λ (v : ℕ). AreStops v (count + more) (map (λ end. count + end) ends)) e (stops_later count 0 more ends m))
+
+-- the ends of the second, with one more
+pub ends_more : (before : ℕ) (old now new more : List ℕ) (n place : ℕ) → n < length more →
+    place ≡ before + get_or more n 0 → now ≡ old ++ map (λ end. before + end) (take n more) → new ≡ now ++ place ∷ [] →
+    new ≡ old ++ map (λ end. before + end) (take (n + 1) more)
+ends_more before old now new more n place l p e f =
+    let later : ℕ → ℕ = λ end. before + end in
+    f ∙ ap (λ (v : List ℕ). v ++ place ∷ []) e ∙ append_assoc old (map later (take n more)) (place ∷ [])
+    ∙ ap (λ (v : List ℕ). old ++ v) (sym (ap (map later) (take_more more n 0 l)
+    ∙ map-append later (take n more) (get_or more n 0 ∷ [])
+    ∙ ap (λ (v : ℕ). map later (take n more) ++ v ∷ []) (sym p)))
+
+-- the stretches of the second
+stretches_later : (numbers more : List ℕ) (start : ℕ) (stops : List ℕ) →
+    stretches (numbers ++ more) (length numbers + start) (map (λ end. length numbers + end) stops)
+    ≡ stretches more start stops
+stretches_later numbers more start [] = refl
+stretches_later numbers more start (stop ∷ stops) =
+    let n : (length numbers + stop) - (length numbers + start) ≡ stop - start = omega arith in
+    let others = stretches (numbers ++ more) (length numbers + stop) (map (λ end. length numbers + end) stops) in
+    ap (λ (l : List ℕ). l ∷ others) (ap (λ (k : ℕ). take k (drop (length numbers + start) (numbers ++ more))) n
+    ∙ ap (λ (l : List ℕ). take (stop - start) l) (drop-append-add numbers more start))
+    ∙ ap (λ (l : List (List ℕ)). take (stop - start) (drop start more) ∷ l) (stretches_later numbers more stop stops)
+
+-- the stretches of both
+pub stretches_both : (numbers more : List ℕ) (start : ℕ) (stops ends : List ℕ) → AreStops start (length numbers) stops →
+    stretches (numbers ++ more) start (stops ++ map (λ end. length numbers + end) ends) ≡ stretches numbers start stops
+    ++ stretches more 0 ends
+stretches_both numbers more start [] ends s =
+    let e : start ≡ length numbers + 0 = omega (arith, s) in
+    ap (λ (k : ℕ). stretches (numbers ++ more) k (map (λ end. length numbers + end) ends)) e
+    ∙ stretches_later numbers more 0 ends
+stretches_both numbers more start (stop ∷ stops) ends s =
+    let h = stops_below stop (length numbers) stops s.1 in
+    let g = s.0 in
+    ap (λ (l : List ℕ). l ∷ stretches (numbers ++ more) stop (stops ++ map (λ end. length numbers + end) ends))
+    (same_part numbers more start (stop - start) (omega arith))
+    ∙ ap (λ (l : List (List ℕ)). take (stop - start) (drop start numbers) ∷ l)
+    (stretches_both numbers more stop stops ends s.1)
 
 -- ---- a stretch by its index
 

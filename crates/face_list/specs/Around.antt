@@ -1,11 +1,12 @@
 -- Tables gathered point by point.
-use Rattle.std.specs.Prelude.{◌≡◌, ℕ, ◌⊎◌, ◌↔◌, List, map, length, slice_index_or}
+use Rattle.std.specs.Prelude.{◌≡◌, ℕ, ◌≤◌, ◌<◌, ◌⊎◌, ◌↔◌, List, map, length, slice_index_or}
 use Rattle.std.specs.List.Sorted.{IsStrictlySortedBy}
 use Rattle.std.specs.declared.cmp.Ordering.{Ordering}
 use Rattle.point_order.specs.declared.cell.Cell.{Cell}
 use Rattle.point_order.specs.Sets.{IsIn}
 use Rattle.face_list.specs.declared.around.Gathering.{Gathering}
-use Rattle.face_list.specs.Gather.{item_cmp, full_keys, numbers_of}
+use Rattle.face_list.specs.declared.table.Table.{Table}
+use Rattle.face_list.specs.Gather.{item_cmp, full_keys, items_from, numbers_of}
 use Rattle.face_list.specs.Tables.{AreStops, stretches}
 
 -- the first point of a part
@@ -32,3 +33,16 @@ pub record AreGathered {K : Type 0} (cmp : K → K → Ordering) (cells : List C
   pub stops : AreStops 0 (length g.table.numbers.items) g.table.ends.items
   pub lists : stretches g.table.numbers.items 0 g.table.ends.items ≡ map (numbers_of cmp sorted) g.table.keys.items
   pub numbers : (n : ℕ) → IsIn n g.table.numbers.items → IsIn n (map (λ i. i.1) sorted)
+
+-- a part begins with one of the points from one index to another
+pub record BeginsWithin {K : Type 0} (first_of : K → ℕ) (points : List ℕ) (from to : ℕ) (part : K) : Type 0 where
+  pub index : ℕ
+  pub not_before : from ≤ index
+  pub before : index < to
+  pub is : first_of part ≡ slice_index_or points index 0
+
+-- gathered are items of cells, whose parts begin with the points of a table from one index to another
+abbrev pub GathersPoints : {K : Type 0} → (K → K → Ordering) → (Cell → List K) → (K → ℕ) → List Cell → Table ℕ → ℕ →
+    ℕ → Gathering K → Type 0
+GathersPoints cmp parts_of first_of cells points from to g =
+    AreGathered cmp cells (items_from 0 parts_of cells) (BeginsWithin first_of points.keys.items from to) g

@@ -48,8 +48,8 @@ fn point_table(alloc: Global, cells: &[Cell]) -> Result<Table<Point>, AllocError
     gather(alloc, cells, items)
 }
 
-/// The pairs inside Full cells, with the cells that have both points.
-pub fn pair_table(
+// The pairs inside Full cells, with the cells that have both points.
+fn pair_table(
     alloc: Global,
     cells: &[Cell],
     points: &Table<Point>,
@@ -70,8 +70,8 @@ pub fn pair_table(
     }
 }
 
-/// The triples inside Full cells, with the cells that have all three points.
-pub fn triple_table(
+// The triples inside Full cells, with the cells that have all three points.
+fn triple_table(
     alloc: Global,
     cells: &[Cell],
     points: &Table<Point>,

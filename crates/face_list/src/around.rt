@@ -4,11 +4,12 @@ ghost use Rattle.std.specs.Prelude.{
   ◌≡◌,
   ◌<◌,
   ◌≤◌,
+  ◌+◌,
   ◌^◌,
   ℕ,
   List,
   length,
-  ⊤,
+  slice_index_or,
   IfOk,
   IfSome,
   OnOk,
@@ -21,7 +22,7 @@ ghost use Rattle.point_order.specs.declared.cell.Cell.{Cell};
 ghost use Rattle.point_order.specs.Facets.{points_of};
 ghost use Rattle.point_order.specs.Sets.{IsIn};
 ghost use Rattle.point_order.specs.Subsets.{subsets};
-ghost use Rattle.face_list.specs.Around.{AreGathered, ArePut, first_point};
+ghost use Rattle.face_list.specs.Around.{AreGathered, ArePut, GathersPoints, first_point};
 ghost use Rattle.face_list.specs.Gather.{Gathers, items_from};
 ghost use Rattle.face_list.specs.Order.{before_by_first};
 ghost use Rattle.face_list.specs.Tables.{IsTable, cell_at};
@@ -200,22 +201,25 @@ fn items_around<K: Part>(
     Ok(items)
 }
 
-// Adds the items of a point, which comes behind the first points of all others.
+// Adds the items of the point of an index, behind those of the points from another index on.
 fn add<K: Part>(
     alloc: Global,
     cells: &[Cell],
     so_far: &mut Gathering<K>,
     items: Vec<(K, u32)>,
-    first: Point,
+    points: &Table<Point>,
+    from: usize,
+    index: usize,
 ) -> Result<(), AllocError>
     requires exact { CmpEqualImpliesEq K.cmp }
-    requires so_far { AreGathered K.cmp cells.now (items_from 0 K.parts_of cells.now) (λ k. K.first_of k < first)
-        so_far.old }
+    requires order { IsStrictlySortedBy nat_cmp points.now.keys.items }
+    requires range { from ≤ index }
+    requires within { index < length points.now.keys.items }
+    requires so_far { GathersPoints K.cmp K.parts_of K.first_of cells.now points.now from index so_far.old }
     requires items { (i : K × ℕ) → IsIn i items.items →
-        IsIn i (items_from 0 K.parts_of cells.now) × (K.first_of i.0 ≡ first) }
-    ensures { OnOk result (AreGathered K.cmp cells.now (items_from 0 K.parts_of cells.now)
-        (λ k. K.first_of k ≤ first)
-        so_far.new) }
+        IsIn i (items_from 0 K.parts_of cells.now)
+        × (K.first_of i.0 ≡ slice_index_or points.now.keys.items index 0) }
+    ensures { OnOk result (GathersPoints K.cmp K.parts_of K.first_of cells.now points.now from (index + 1) so_far.new) }
 {
     let items = sorted(items);
     let keys = keys_of_full(alloc, cells, &items)?;
@@ -230,40 +234,71 @@ fn add<K: Part>(
     Ok(())
 }
 
+/// How many keys and numbers a table is to have room for.
+#[derive(Clone, Copy)]
+pub struct Room {
+    pub keys: usize,
+    pub numbers: usize,
+}
+
 // Nothing yet, with room for so many keys and numbers.
-fn nothing<K: Part>(alloc: Global, room: usize, total: usize) -> Result<Gathering<K>, AllocError>
+fn nothing<K: Part>(alloc: Global, room: Room) -> Result<Gathering<K>, AllocError>
     ensures { IfOk result (λ g. (cells : List Cell) (all : List (K × ℕ)) →
         AreGathered K.cmp cells all (λ k. ⊥) g) }
 {
     Ok(Gathering {
         table: Table {
-            keys: Vec::with_capacity(alloc, room)?,
-            ends: Vec::with_capacity(alloc, room)?,
-            numbers: Vec::with_capacity(alloc, total)?,
+            keys: Vec::with_capacity(alloc, room.keys)?,
+            ends: Vec::with_capacity(alloc, room.keys)?,
+            numbers: Vec::with_capacity(alloc, room.numbers)?,
         },
         count: 0,
     })
 }
 
-// Adds the items of all points.
-fn add_all<K: Part>(
+/// The items of the points from one index to another, gathered.
+pub fn gather_around<K: Part>(
     alloc: Global,
     cells: &[Cell],
-    so_far: &mut Gathering<K>,
     points: &Table<Point>,
-) -> Result<(), AllocError>
+    from: usize,
+    to: usize,
+    room: Room,
+) -> Result<Gathering<K>, AllocError>
     requires exact { CmpEqualImpliesEq K.cmp }
-    requires so_far { AreGathered K.cmp cells.now (items_from 0 K.parts_of cells.now) (λ k. ⊥) so_far.old }
     requires points { IsTable (length cells.now) points.now }
     requires order { IsStrictlySortedBy nat_cmp points.now.keys.items }
-    ensures { OnOk result (AreGathered K.cmp cells.now (items_from 0 K.parts_of cells.now) (λ k. ⊤) so_far.new) }
+    requires range { from ≤ to }
+    requires within { to ≤ length points.now.keys.items }
+    ensures { IfOk result (GathersPoints K.cmp K.parts_of K.first_of cells.now points.now from to) }
 {
-    for index in 0..points.keys.len() {
+    let mut so_far = nothing(alloc, room)?;
+    for index in from..to {
         let (first, around) = points.face(index);
         let items = items_around(alloc, cells, around, first)?;
-        add(alloc, cells, so_far, items, first)?;
+        add(alloc, cells, &mut so_far, items, points, from, index)?;
     }
-    Ok(())
+    Ok(so_far)
+}
+
+/// The room for all items, and how many there are.
+pub fn room_for<K: Part>(cells: &[Cell], points: &Table<Point>) -> Result<Room, AllocError>
+    ensures { IfOk result (λ room. room.numbers ≡ length (items_from 0 K.parts_of cells.now)) }
+{
+    let numbers = part_count::<K>(cells)?;
+    let keys = K::room(numbers, points.keys.len());
+    Ok(Room { keys, numbers })
+}
+
+/// The table of what was gathered, where it is of so many items.
+pub fn whole<K: Part>(so_far: Gathering<K>, total: usize) -> Option<Table<K>>
+    ensures { IfSome result (λ t. (t ≡ so_far.table) × (so_far.count ≡ total)) }
+{
+    if so_far.count == total {
+        Some(so_far.table)
+    } else {
+        None
+    }
 }
 
 /// Each key of a Full cell, in order, with the numbers of its cells, in order: gathered by the points of Full cells,
@@ -282,13 +317,7 @@ pub fn table_around<K: Part>(
     ensures gathers { IfOk result (λ o. IfSome o (λ t. Gathers K.cmp cells.now (items_from 0 K.parts_of cells.now) t)) }
     ensures table { IfOk result (λ o. IfSome o (λ t. IsTable (length cells.now) t)) }
 {
-    let total = part_count::<K>(cells)?;
-    let room = K::room(total, points.keys.len());
-    let mut so_far = nothing(alloc, room, total)?;
-    add_all(alloc, cells, &mut so_far, points)?;
-    if so_far.count == total {
-        Ok(Some(so_far.table))
-    } else {
-        Ok(None)
-    }
+    let room = room_for::<K>(cells, points)?;
+    let all = gather_around(alloc, cells, points, 0, points.keys.len(), room)?;
+    Ok(whole(all, room.numbers))
 }

@@ -146,8 +146,8 @@ fn put_numbers<'a, K: Ord + Copy>(
     Ok(rest)
 }
 
-// Puts where the numbers end.
-fn put_end(ends: &mut Vec<u32>, count: usize) -> Result<(), AllocError>
+/// Puts where the numbers end.
+pub fn put_end(ends: &mut Vec<u32>, count: usize) -> Result<(), AllocError>
     ensures { OnOk result (ends.new.items ≡ ends.old.items ++ count ∷ []) }
 {
     let end = number_of(count)?;

@@ -20,6 +20,7 @@ ghost use Rattle.face_list.specs.Faces.{points_in, parts_in, points_with_cells, 
 
 mod alone;
 mod around;
+mod beside;
 mod counts;
 pub mod face;
 mod gather;
@@ -43,8 +44,8 @@ use std::thread::Threads;
 /// definitions come to: the lists of faces are strictly sorted and have exactly the parts of Full cells, and
 /// the points of a complex are all points of its set.
 ///
-/// The cells are gathered under their points by sorting, by as many threads as there are processors, and under their
-/// pairs and triples point by point, each by a thread of its own; the faces are those that one thread would give.
+/// The cells are gathered under their points by sorting, and under their pairs and triples point by point, each by as
+/// many threads as there are processors; the faces are those that one thread would give.
 ///
 /// # Errors
 /// Want of memory. Where 32 bits do not count the cells around all faces, there is none.

@@ -3,17 +3,18 @@
 ghost use Rattle.std.specs.Prelude.{◌≡◌, ◌<◌, ◌^◌, length, IfOk, OnOk};
 ghost use Rattle.std.specs.List.Sorted.{IsStrictlySortedBy};
 ghost use Rattle.std.specs.Ordering.{nat_cmp};
+ghost use Rattle.std.specs.Thread.{IsSync};
 ghost use Rattle.face_list.specs.Faces.{points_in, parts_in, points_with_cells, with_cells};
 ghost use Rattle.face_list.specs.Gather.{AreAscending};
 ghost use Rattle.face_list.specs.Tables.{IsTable, table_seen};
 
-use crate::alone::{pair_table, triple_table};
+use crate::beside::table_beside;
 use crate::gather::gather;
-use crate::parts::point_items;
+use crate::parts::{pair_items, point_items, triple_items};
 use crate::table::Table;
 use point_order::{Cell, Pair, Point, Tri};
 use std::alloc::{AllocError, Global};
-use std::thread::{Threads, join};
+use std::thread::{Threads, available_parallelism, join};
 
 /// The points of Full cells, with the cells that have them. The points of each cell ascend.
 pub fn point_table<R: Threads + Sync>(
@@ -31,8 +32,64 @@ pub fn point_table<R: Threads + Sync>(
     gather(rt, alloc, cells, items)
 }
 
-/// The pairs and the triples inside Full cells, with their cells, each kind by a thread of its own where one can be
-/// made.
+// The pairs inside Full cells, with the cells that have both points, by so many threads.
+fn pair_table<R: Threads + Sync>(
+    rt: &R,
+    alloc: Global,
+    cells: &[Cell],
+    points: &Table<Point>,
+    threads: usize,
+) -> Result<Table<Pair>, AllocError>
+    requires few { length cells.now < 2 ^ 32 }
+    requires ascending { AreAscending cells.now }
+    requires points { IsTable (length cells.now) points.now }
+    requires order { IsStrictlySortedBy nat_cmp points.now.keys.items }
+    ensures faces { IfOk result (λ t. table_seen cells.now t ≡ with_cells (parts_in 2 cells.now) cells.now) }
+    ensures table { IfOk result (λ t. IsTable (length cells.now) t) }
+{
+    match table_beside(rt, alloc, cells, points, threads)? {
+        Some(table) => Ok(table),
+        None => {
+            let items = pair_items(alloc, cells)?;
+            gather(rt, alloc, cells, items)
+        }
+    }
+}
+
+// The triples inside Full cells, with the cells that have all three points, by so many threads.
+fn triple_table<R: Threads + Sync>(
+    rt: &R,
+    alloc: Global,
+    cells: &[Cell],
+    points: &Table<Point>,
+    threads: usize,
+) -> Result<Table<Tri>, AllocError>
+    requires few { length cells.now < 2 ^ 32 }
+    requires ascending { AreAscending cells.now }
+    requires points { IsTable (length cells.now) points.now }
+    requires order { IsStrictlySortedBy nat_cmp points.now.keys.items }
+    ensures faces { IfOk result (λ t. table_seen cells.now t ≡ with_cells (parts_in 3 cells.now) cells.now) }
+    ensures table { IfOk result (λ t. IsTable (length cells.now) t) }
+{
+    match table_beside(rt, alloc, cells, points, threads)? {
+        Some(table) => Ok(table),
+        None => {
+            let items = triple_items(alloc, cells)?;
+            gather(rt, alloc, cells, items)
+        }
+    }
+}
+
+// How many threads gather the faces of a kind: as many as there are processors.
+fn thread_count<R: Threads>(rt: &R) -> usize {
+    match available_parallelism(rt) {
+        Ok(count) => count.get(),
+        Err(_) => 1,
+    }
+}
+
+/// The pairs and the triples inside Full cells, with their cells, both kinds at once, and each by as many threads as
+/// there are processors.
 pub fn pair_and_triple_tables<R: Threads + Sync>(
     rt: &R,
     alloc: Global,
@@ -48,9 +105,11 @@ pub fn pair_and_triple_tables<R: Threads + Sync>(
     ensures pair_table { IfOk result (λ both. IsTable (length cells.now) both.0) }
     ensures triple_table { IfOk result (λ both. IsTable (length cells.now) both.1) }
 {
+    let threads = thread_count(rt);
     let (pairs, triples) = join(
         rt,
         || -> Result<Table<Pair>, AllocError>
+            requires sync { IsSync R.row }
             requires few { length cells.now < 2 ^ 32 }
             requires ascending { AreAscending cells.now }
             requires points { IsTable (length cells.now) points.now }
@@ -58,8 +117,9 @@ pub fn pair_and_triple_tables<R: Threads + Sync>(
             ensures faces { IfOk result (λ t. table_seen cells.entry.now t
                 ≡ with_cells (parts_in 2 cells.entry.now) cells.entry.now) }
             ensures table { IfOk result (λ t. IsTable (length cells.entry.now) t) }
-        { pair_table(alloc, cells, points) },
+        { pair_table(rt, alloc, cells, points, threads) },
         || -> Result<Table<Tri>, AllocError>
+            requires sync { IsSync R.row }
             requires few { length cells.now < 2 ^ 32 }
             requires ascending { AreAscending cells.now }
             requires points { IsTable (length cells.now) points.now }
@@ -67,7 +127,7 @@ pub fn pair_and_triple_tables<R: Threads + Sync>(
             ensures faces { IfOk result (λ t. table_seen cells.entry.now t
                 ≡ with_cells (parts_in 3 cells.entry.now) cells.entry.now) }
             ensures table { IfOk result (λ t. IsTable (length cells.entry.now) t) }
-        { triple_table(alloc, cells, points) },
+        { triple_table(rt, alloc, cells, points, threads) },
     );
     Ok((pairs?, triples?))
 }

@@ -1,7 +1,8 @@
-use Rattle.std.proofs.Common.{ℕ, ◌<◌, ◌≤◌, ◌+◌, ◌++◌, ap, subst, ◌∙◌, length, List, arith}
+use Rattle.std.proofs.Common.{ℕ, ◌+◌, ◌++◌, ap, subst, ◌∙◌, length, List, arith}
 use Rattle.point_order.specs.Sets.{IsIn}
+use Rattle.face_list.specs.Around.{BeginsWithin}
 use Rattle.face_list.proofs.FaceLists.{items_name}
-use Rattle.face_list.proofs.Growing.{gathered_more}
+use Rattle.face_list.proofs.Growing.{begins_lesser, begins_wider, gathered_more}
 use Rattle.face_list.proofs.around.add.Goals as goal
 
 pub keys_of_full-requires-clause-numbers : goal.keys_of_full-requires-clause-numbers
@@ -9,19 +10,28 @@ keys_of_full-requires-clause-numbers g c i m =
     items_name g.K.Part.parts_of c.args.cells.now i (c.requires.items i
     ((c.sorted-items.ensures.same i).0 (subst (IsIn i) c.deref.ensures.value m))).0
 
+pub put_lists-requires-clause-stops : goal.put_lists-requires-clause-stops
+put_lists-requires-clause-stops g c = c.requires.so_far.stops
+
 pub returns : goal.returns
 returns g c =
-    let first = c.args.first in
+    let points = c.args.points.now.keys.items in
+    let from = c.args.from in
+    let n = c.args.index in
+    let within = c.requires.within in
+    let range = c.requires.range in
     let first_of = g.K.First.first_of in
     let items = c.sorted-items.result.items in
     let told = λ (i : g.row.K.Denot × ℕ) (m : IsIn i items). c.requires.items i ((c.sorted-items.ensures.same i).0 m) in
+    let here : (i : g.row.K.Denot × ℕ) → IsIn i items → BeginsWithin first_of points n (n + 1) i.0 =
+    λ i m. record { index = n; not_before = omega arith; before = omega arith; is = (told i m).1 } in
     gathered_more
     g.K.Ord.cmp
     g.met.K.Ord.total
     c.args.cells.now
     _
-    (λ k. first_of k < first)
-    (λ k. first_of k ≤ first)
+    (BeginsWithin first_of points from n)
+    (BeginsWithin first_of points from (n + 1))
     c.args.so_far.now
     _
     items
@@ -29,9 +39,10 @@ returns g c =
     c.requires.so_far
     c.sorted-items.ensures.order
     (λ i m. (told i m).0)
-    (λ i m. (let e = (told i m).1 in omega (arith, e)))
-    (λ k h. omega (arith, h))
-    (λ k j h m. g.met.K.Part.begins k j.0 (let e = (told j m).1 in omega (arith, h, e)))
+    (λ i m. begins_wider first_of points n (n + 1) from (n + 1) i.0 range (omega arith) (here i m))
+    (λ k b. begins_wider first_of points from n from (n + 1) k (omega arith) (omega arith) b)
+    (λ k j b m. g.met.K.Part.begins k j.0 (begins_lesser first_of points from n (n + 1) k j.0 c.requires.order
+    (omega (arith, within)) b (here j m)))
     c.in_ok-keys.ensures.order
     (λ k. rw (← c.deref.ensures.value) (c.in_ok-keys.ensures.keys k))
     (c.in_ok-extend_from_slice.ensures.items ∙ ap (λ (v : List g.row.K.Denot). c.args.so_far.now.table.keys.items ++ v)

@@ -1,14 +1,22 @@
-use Rattle.std.proofs.Common.{◌∙◌}
+use Rattle.std.proofs.Common.{◌∙◌, sym, subst, length}
+use Rattle.std.proofs.lemmas.Option.{IfSome_then}
+use Rattle.face_list.specs.Gather.{Gathers, items_from}
+use Rattle.face_list.specs.Tables.{IsTable}
 use Rattle.face_list.proofs.FaceLists.{items_name}
 use Rattle.face_list.proofs.Growing.{gathered_all, gathered_table}
 use Rattle.face_list.proofs.around.table_around.Goals as goal
 
-pub returns-then-so_far-total-clause-gathers : goal.returns-then-so_far-total-clause-gathers
-returns-then-so_far-total-clause-gathers g c =
-    gathered_all g.K.Ord.cmp g.met.K.Ord.total c.requires.exact c.args.cells.now _ _ _ c.in_ok-add_all.ensures
-    (c.if-so_far-total.true ∙ c.in_ok-total.ensures)
+pub returns-clause-gathers : goal.returns-clause-gathers
+returns-clause-gathers g c =
+    let cells = c.args.cells.now in
+    IfSome_then c.whole.result c.whole.ensures
+    (λ t w. subst (Gathers g.K.Ord.cmp cells (items_from 0 g.K.Part.parts_of cells)) (sym w.0)
+    (gathered_all g.K.Ord.cmp g.met.K.Ord.total c.requires.exact cells _ _ c.in_ok-all.all c.in_ok-all.ensures
+    (w.1 ∙ c.in_ok-room.ensures)))
 
-pub returns-then-so_far-total-clause-table : goal.returns-then-so_far-total-clause-table
-returns-then-so_far-total-clause-table g c =
-    gathered_table g.K.Ord.cmp c.args.cells.now _ _ _ (items_name g.K.Part.parts_of c.args.cells.now)
-    c.in_ok-add_all.ensures
+pub returns-clause-table : goal.returns-clause-table
+returns-clause-table g c =
+    let cells = c.args.cells.now in
+    IfSome_then c.whole.result c.whole.ensures
+    (λ t w. subst (IsTable (length cells)) (sym w.0)
+    (gathered_table g.K.Ord.cmp cells _ _ c.in_ok-all.all (items_name g.K.Part.parts_of cells) c.in_ok-all.ensures))

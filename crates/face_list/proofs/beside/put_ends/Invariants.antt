@@ -1,0 +1,6 @@
+-- the ends so far, each later by the numbers before
+use Rattle.std.proofs.Common.{◌≡◌, ◌+◌, ◌++◌, map, take}
+use Rattle.face_list.proofs.beside.put_ends.Given as goal
+
+abbrev pub invariant-loop-end : goal.invariant-loop-end
+invariant-loop-end l = l.ends.items ≡ l.fn.ends.items ++ map (λ end. l.before + end) (take l.end-index l.more)

@@ -1,0 +1,30 @@
+use Rattle.std.proofs.Common.{subst, sym, ℕ, List}
+use Rattle.std.specs.Ordering.{nat_cmp}
+use Rattle.std.specs.Cmp.Lexicographic.{slice_cmp}
+use Rattle.point_order.specs.Subsets.{subsets}
+use Rattle.std.proofs.lemmas.Map.Lookups.{exact_bytes}
+use Rattle.std.proofs.lemmas.Result.{IfOk-weaker}
+use Rattle.point_order.specs.Facets.{points_of}
+use Rattle.face_list.specs.Gather.{AreItems, Gathers}
+use Rattle.face_list.proofs.FaceLists.{items_name, parts_gathered}
+use Rattle.face_list.proofs.lists.triple_table.Goals as goal
+
+pub gather-requires-clause-exact : goal.gather-requires-clause-exact
+gather-requires-clause-exact g c κs l = exact_bytes
+
+pub gather-requires-clause-numbers : goal.gather-requires-clause-numbers
+gather-requires-clause-numbers g c κs l = subst (AreItems _) (sym c.in_ok-items-in-None.ensures)
+    (items_name (λ c. subsets 3 (points_of c)) c.args.cells.now)
+
+pub table_beside-requires-clause-exact : goal.table_beside-requires-clause-exact
+table_beside-requires-clause-exact g c κs l = exact_bytes
+
+pub returns-in-Some-clause-faces : goal.returns-in-Some-clause-faces
+returns-in-Some-clause-faces g c = parts_gathered 3 c.args.cells.now c.in-Some.table c.requires.ascending
+    (rw c.in-Some.is at c.in_ok-table.ensures.gathers)
+
+pub returns-in_ok-items-in-None-clause-faces : goal.returns-in_ok-items-in-None-clause-faces
+returns-in_ok-items-in-None-clause-faces g c = IfOk-weaker c.gather.result _ _
+    (λ t g. parts_gathered 3 c.args.cells.now t c.requires.ascending
+    (subst (λ (l : List (List ℕ × ℕ)). Gathers (slice_cmp nat_cmp) c.args.cells.now l t) c.in_ok-items-in-None.ensures
+    g)) c.gather.ensures.gathers
