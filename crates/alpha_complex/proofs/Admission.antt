@@ -75,7 +75,7 @@ use Rattle.alpha_complex.specs.Judged.{
   is_listed_around,
   covers,
   is_small_by,
-  small_among,
+  admitted_triples,
   is_admitted_triple,
   is_admitted_pair,
   kinds_by,
@@ -89,7 +89,7 @@ use Rattle.alpha_complex.proofs.Parts.{
   whole_only,
   same_face,
 }
-use Rattle.alpha_complex.proofs.SmallFaces.{listed_from, listed_true, all_same, any_same, small_are}
+use Rattle.alpha_complex.proofs.SmallFaces.{listed_from, listed_true, all_same, any_same, admitted_are}
 
 -- ---- Full cells of a complex
 
@@ -262,10 +262,6 @@ cell_admits s alpha p q a i c t = (
 abbrev pub triples_of : List ℕ → List (List ℕ × List Cell)
 triples_of s = with_cells (parts_in 3 (complex s)) (complex s)
 
--- the triples that are Gabriel and within alpha
-abbrev pub small_triples : List ℕ → ℕ → List (List ℕ)
-small_triples s alpha = small_among alpha (triples_of s)
-
 -- a cell around a face that is within alpha admits the face
 marked_cell_admits : (s : List ℕ) (alpha : ℕ) (p : List ℕ) (c : Cell) → IsAscending s →
     IsIn c (cells_with p (complex s)) → is_small_cell alpha c ≡ true → is_admitted s alpha p ≡ true
@@ -297,30 +293,12 @@ pub record Linked (s : List ℕ) (alpha : ℕ) : Type 0 where
   pub small : (k : ℕ) (p : List ℕ) → IsIn p (parts_in k (complex s)) →
       is_small_by alpha (p, cells_with p (complex s)) ≡ is_small s alpha p
 
--- a triple that is told to be small is one, and small
+-- a triple of the complex that is Gabriel and within alpha
 record SmallTriple (s : List ℕ) (alpha : ℕ) (t : List ℕ) : Type 0 where
   listed : IsIn t (parts_in 3 (complex s))
   small : is_small s alpha t ≡ true
 
--- a triple that is listed as small is one, and small
-small_triple_from : (s : List ℕ) (alpha : ℕ) (t : List ℕ) → Linked s alpha →
-    is_listed (small_triples s alpha) t ≡ true → SmallTriple s alpha t
-small_triple_from s alpha t l e = (
-    let i = subst (λ (v : List (List ℕ)). IsIn t v) (small_are alpha (parts_in 3 (complex s)) (complex s))
-    (listed_from (small_triples s alpha) t e) in
-    let k = filtered_from (λ p. is_small_by alpha (p, cells_with p (complex s))) (parts_in 3 (complex s)) t i in
-    record { listed = k.0; small = sym (l.small 3 t k.0) ∙ k.1 })
-
--- and back
-small_triple_true : (s : List ℕ) (alpha : ℕ) (t : List ℕ) → Linked s alpha → SmallTriple s alpha t →
-    is_listed (small_triples s alpha) t ≡ true
-small_triple_true s alpha t l h = (
-    let i = filtered_true (λ p. is_small_by alpha (p, cells_with p (complex s))) (parts_in 3 (complex s)) t h.listed
-    (l.small 3 t h.listed ∙ h.small) in
-    listed_true (small_triples s alpha) t (subst (λ (v : List (List ℕ)). IsIn t v)
-    (sym (small_are alpha (parts_in 3 (complex s)) (complex s))) i))
-
--- a small triple admits what it contains
+-- admits what it contains
 triple_admits : (s : List ℕ) (alpha : ℕ) (p t : List ℕ) → SmallTriple s alpha t → contains t p ≡ true →
     is_admitted s alpha p ≡ true
 triple_admits s alpha p t h c = (
@@ -399,24 +377,60 @@ triple_facet (a ∷ b ∷ c ∷ d ∷ []) t e i = elim i [
 ]
 triple_facet (a ∷ b ∷ c ∷ d ∷ e ∷ q) t f i = absurd (omega arith)
 
--- cells and small triples tell which pairs are admitted
+-- the triples that are told to be admitted
+abbrev pub told_triples : List ℕ → ℕ → List (List ℕ)
+told_triples s alpha = admitted_triples alpha (triples_of s)
+
+-- they are
+told_from : (s : List ℕ) (alpha : ℕ) (t : List ℕ) → Linked s alpha → is_listed (told_triples s alpha) t ≡ true →
+    is_admitted s alpha t ≡ true
+told_from s alpha t l e = (
+    let i = subst (λ (v : List (List ℕ)). IsIn t v) (admitted_are alpha (parts_in 3 (complex s)) (complex s))
+    (listed_from (told_triples s alpha) t e) in
+    let k = filtered_from (λ p. is_admitted_triple alpha (p, cells_with p (complex s))) (parts_in 3 (complex s)) t i in
+    sym (admitted_triple_is s alpha t l k.0) ∙ k.1)
+
+-- and a small one is among them
+told_true : (s : List ℕ) (alpha : ℕ) (t : List ℕ) → Linked s alpha → SmallTriple s alpha t →
+    is_listed (told_triples s alpha) t ≡ true
+told_true s alpha t l h = (
+    let i = filtered_true (λ p. is_admitted_triple alpha (p, cells_with p (complex s))) (parts_in 3 (complex s)) t
+    h.listed (admitted_triple_is s alpha t l h.listed ∙ triple_admits s alpha t t h (contains_itself t)) in
+    listed_true (told_triples s alpha) t (subst (λ (v : List (List ℕ)). IsIn t v)
+    (sym (admitted_are alpha (parts_in 3 (complex s)) (complex s))) i))
+
+-- what admits a face admits what this contains
+admitted_through : (s : List ℕ) (alpha : ℕ) (p t : List ℕ) → is_admitted s alpha t ≡ true → contains t p ≡ true →
+    is_admitted s alpha p ≡ true
+admitted_through s alpha p t e c = (
+    let b = admitted_from s alpha t e in
+    admitted_true s alpha p (record {
+      cell = b.cell;
+      listed = b.listed;
+      face = b.face;
+      inside = b.inside;
+      has = contains_through b.face t p b.has c;
+      small = b.small;
+    }))
+
+-- cells and admitted triples tell which pairs are admitted
 pub admitted_pair_is : (s : List ℕ) (alpha : ℕ) (p : List ℕ) → Linked s alpha → IsIn p (parts_in 2 (complex s)) →
     is_admitted_pair (triples_of s) alpha (p, cells_with p (complex s)) ≡ is_admitted s alpha p
 admitted_pair_is s alpha p l i = same_test (is_admitted_pair (triples_of s) alpha (p, cells_with p (complex s)))
     (is_admitted s alpha p) there back
   where
     -- a facet that covers it
-    by_facet : (f : Facet) → is_listed_around (small_triples s alpha) p f ≡ true → is_admitted s alpha p ≡ true
+    by_facet : (f : Facet) → is_listed_around (told_triples s alpha) p f ≡ true → is_admitted s alpha p ≡ true
     by_facet (Two q) e = cc
-    by_facet (Three t) e = triple_admits s alpha p t
-        (small_triple_from s alpha t l (second_true (contains t p) (is_listed (small_triples s alpha) t) e))
-        (first_true (contains t p) (is_listed (small_triples s alpha) t) e)
+    by_facet (Three t) e = admitted_through s alpha p t
+        (told_from s alpha t l (second_true (contains t p) (is_listed (told_triples s alpha) t) e))
+        (first_true (contains t p) (is_listed (told_triples s alpha) t) e)
 
     -- by itself, or by a triple around it
-    by_less : (is_small_by alpha (p, cells_with p (complex s)) || list_any (covers (small_triples s alpha) p)
+    by_less : (is_small_by alpha (p, cells_with p (complex s)) || list_any (covers (told_triples s alpha) p)
         (cells_with p (complex s))) ≡ true → is_admitted s alpha p ≡ true
     by_less t = elim (one_true (is_small_by alpha (p, cells_with p (complex s)))
-        (list_any (covers (small_triples s alpha) p) (cells_with p (complex s))) t) [
+        (list_any (covers (told_triples s alpha) p) (cells_with p (complex s))) t) [
           | inl e ↦ (
               let k = listed_is_part 2 (complex s) p i in
               admitted_true s alpha p (record {
@@ -429,38 +443,38 @@ admitted_pair_is s alpha p l i = same_test (is_admitted_pair (triples_of s) alph
                 small = sym (l.small 2 p i) ∙ e;
               }))
           | inr e ↦ (
-              let k = any_from (covers (small_triples s alpha) p) (cells_with p (complex s)) e in
-              let m = any_from (is_listed_around (small_triples s alpha) p) (facets_of k.0) k.2 in
+              let k = any_from (covers (told_triples s alpha) p) (cells_with p (complex s)) e in
+              let m = any_from (is_listed_around (told_triples s alpha) p) (facets_of k.0) k.2 in
               by_facet m.0 m.2)
         ]
 
     -- or by a cell
     there : is_admitted_pair (triples_of s) alpha (p, cells_with p (complex s)) ≡ true → is_admitted s alpha p ≡ true
     there t = elim (one_true (list_any (is_small_cell alpha) (cells_with p (complex s)))
-        (is_small_by alpha (p, cells_with p (complex s)) || list_any (covers (small_triples s alpha) p)
+        (is_small_by alpha (p, cells_with p (complex s)) || list_any (covers (told_triples s alpha) p)
         (cells_with p (complex s))) t) [ inl e ↦ around_admits s alpha p l.ascending e | inr e ↦ by_less e ]
 
     -- a small triple of a Full cell that contains it
     by_triple : (b : AdmittedBy s alpha p) → IsFour b.cell → IsIn b.face (subsets 3 b.cell) →
         is_admitted_pair (triples_of s) alpha (p, cells_with p (complex s)) ≡ true
     by_triple b f j = (
-        let e = small_triple_true s alpha b.face l
+        let e = told_true s alpha b.face l
         (record {
           listed = part_is_listed 3 (complex s) b.face (record { q = b.cell; listed = b.listed; part = j });
           small = b.small;
         }) in
         let has : contains b.cell p ≡ true = contains_through b.cell b.face p
         (contained_true b.cell b.face (part_inside 3 b.cell b.face j)) b.has in
-        let t : is_listed_around (small_triples s alpha) p (Three b.face) ≡ true =
-        both_true (contains b.face p) (is_listed (small_triples s alpha) b.face) b.has e in
+        let t : is_listed_around (told_triples s alpha) p (Three b.face) ≡ true =
+        both_true (contains b.face p) (is_listed (told_triples s alpha) b.face) b.has e in
         right_true (list_any (is_small_cell alpha) (cells_with p (complex s)))
-        (is_small_by alpha (p, cells_with p (complex s)) || list_any (covers (small_triples s alpha) p)
+        (is_small_by alpha (p, cells_with p (complex s)) || list_any (covers (told_triples s alpha) p)
         (cells_with p (complex s)))
         (right_true (is_small_by alpha (p, cells_with p (complex s)))
-        (list_any (covers (small_triples s alpha) p) (cells_with p (complex s)))
-        (any_true (covers (small_triples s alpha) p) (cells_with p (complex s)) (Full b.cell)
+        (list_any (covers (told_triples s alpha) p) (cells_with p (complex s)))
+        (any_true (covers (told_triples s alpha) p) (cells_with p (complex s)) (Full b.cell)
         (filtered_true (λ c. contains (points_of c) p) (complex s) (Full b.cell) b.listed has)
-        (any_true (is_listed_around (small_triples s alpha) p) (facets_of (Full b.cell)) (Three b.face)
+        (any_true (is_listed_around (told_triples s alpha) p) (facets_of (Full b.cell)) (Three b.face)
         (triple_facet b.cell b.face f.four j) t))))
 
     -- and so by what admits it
@@ -468,15 +482,15 @@ admitted_pair_is s alpha p l i = same_test (is_admitted_pair (triples_of s) alph
         is_admitted_pair (triples_of s) alpha (p, cells_with p (complex s)) ≡ true
     by_face a e b f (one j) = absurd (too_few 1 2 b.cell b.face p (omega arith) f.ascending j a e b.has)
     by_face a e b f (two j) = right_true (list_any (is_small_cell alpha) (cells_with p (complex s)))
-        (is_small_by alpha (p, cells_with p (complex s)) || list_any (covers (small_triples s alpha) p)
+        (is_small_by alpha (p, cells_with p (complex s)) || list_any (covers (told_triples s alpha) p)
         (cells_with p (complex s)))
         (left_true (is_small_by alpha (p, cells_with p (complex s)))
-        (list_any (covers (small_triples s alpha) p) (cells_with p (complex s)))
+        (list_any (covers (told_triples s alpha) p) (cells_with p (complex s)))
         (l.small 2 p i ∙ subst (λ v. is_small s alpha v ≡ true) (as_many 2 b.cell b.face p f.ascending j a e b.has)
         b.small))
     by_face a e b f (three j) = by_triple b f j
     by_face a e b f (four j) = left_true (list_any (is_small_cell alpha) (cells_with p (complex s)))
-        (is_small_by alpha (p, cells_with p (complex s)) || list_any (covers (small_triples s alpha) p)
+        (is_small_by alpha (p, cells_with p (complex s)) || list_any (covers (told_triples s alpha) p)
         (cells_with p (complex s))) (around_of s alpha p l.ascending b j)
 
     -- whatever it is

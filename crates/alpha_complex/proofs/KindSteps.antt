@@ -1,7 +1,28 @@
 -- The kinds that numbers of faces tell, and what slots of these kinds hold.
-use Rattle.std.proofs.Common.{◌≡◌, refl, ap, ◌∙◌, ℕ, ◌<◌, ◌^◌, inl, inr, Bool, true, false, List, [], ◌∷◌, map, nat_le}
+use Rattle.std.proofs.Common.{
+  ◌≡◌,
+  refl,
+  ap,
+  ◌∙◌,
+  ℕ,
+  ◌<◌,
+  ◌≤◌,
+  ◌^◌,
+  arith,
+  inl,
+  inr,
+  Bool,
+  true,
+  false,
+  List,
+  [],
+  ◌∷◌,
+  map,
+  nat_le,
+}
 use Rattle.std.specs.Prelude.{zip}
 use Rattle.std.specs.List.{filter, list_all, list_any}
+use Rattle.std.proofs.lemmas.Bool.Decides.{nat_tests}
 use Rattle.point_order.specs.declared.cell.Cell.{Cell}
 use Rattle.point_order.specs.declared.cell.Cell.TheVariants.{Full, Open}
 use Rattle.list_laws.proofs.Cited.{true_or_false}
@@ -10,8 +31,17 @@ use Rattle.alpha_complex.specs.declared.shape.Kind.{Kind}
 use Rattle.alpha_complex.specs.declared.numbers.FaceAlphas.{FaceAlphas}
 use Rattle.alpha_complex.specs.Admitted.{is_within, kind_by}
 use Rattle.alpha_complex.specs.Judged.{is_small_cell, kinds_by}
-use Rattle.alpha_complex.specs.Leasts.{AreAlphas, AreAlphasOf, AreLeastOf, kind_at, kind_where}
+use Rattle.alpha_complex.specs.Leasts.{AreAlphasOf, AreLeastOf, kind_at}
+use Rattle.alpha_complex.specs.Kinds.{kind_if, kind_of}
 use Rattle.alpha_complex.specs.Slots.{held, slots_of, cell_slots_of}
+
+-- a number that is at most another
+pub le_true : (m n : ℕ) → m ≤ n → nat_le m n ≡ true
+le_true m n l = grind (arith, nat_tests)
+
+-- and one that is greater
+pub le_false : (m n : ℕ) → n < m → nat_le m n ≡ false
+le_false m n l = grind (arith, nat_tests)
 
 -- the numbers of a face tell its kind
 pub kind_told : {X : Type 0} (admits : ℕ → X × List Cell → Bool) (f : X × List Cell) (a : FaceAlphas) (alpha : ℕ) →
@@ -22,38 +52,22 @@ kind_told admits f a alpha l h =
     rw (p, q) refl
 
 -- all faces with their kinds
-pub all_told :
-    {X : Type 0} (admits : ℕ → X × List Cell → Bool) (alpha : ℕ) (faces : List (X × List Cell))
-    (alphas : List FaceAlphas) → alpha < 2 ^ 34 → AreAlphas admits faces alphas →
-    zip (map (λ f. f.0) faces) (map (λ a. kind_at a alpha) alphas) ≡ kinds_by alpha faces
-all_told admits alpha [] alphas l z = refl
-all_told admits alpha (f ∷ faces) [] l z = absurd z
-all_told {X} admits alpha (f ∷ faces) (a ∷ alphas) l z =
-    ap (λ (k : Kind). (f.0, k) ∷ zip (map (λ f. f.0) faces) (map (λ a. kind_at a alpha) alphas))
-    (kind_told admits f a alpha l z.0)
-    ∙ ap (λ (v : List (X × Kind)). (f.0, kind_by (is_small_cell alpha) f.1) ∷ v)
-    (all_told admits alpha faces alphas l z.1)
+pub all_told : {X : Type 0} (alpha : ℕ) (faces : List (X × List Cell)) →
+    zip (map (λ f. f.0) faces) (map (kind_of alpha) faces) ≡ kinds_by alpha faces
+all_told alpha [] = refl
+all_told {X} alpha (f ∷ faces) =
+    ap (λ (v : List (X × Kind)). (f.0, kind_by (is_small_cell alpha) f.1) ∷ v) (all_told alpha faces)
 
--- those that are admitted
-pub admitted_told :
-    {X : Type 0} (admits : ℕ → X × List Cell → Bool) (alpha : ℕ) (faces : List (X × List Cell))
-    (alphas : List FaceAlphas) → alpha < 2 ^ 34 → AreAlphas admits faces alphas →
-    held (slots_of (map (λ f. f.0) faces) (map (λ a. kind_where a alpha) alphas)) ≡ kinds_by alpha
-    (filter (admits alpha) faces)
-admitted_told admits alpha [] alphas l z = refl
-admitted_told admits alpha (f ∷ faces) [] l z = absurd z
-admitted_told {X} admits alpha (f ∷ faces) (a ∷ alphas) l z =
-    let more = admitted_told admits alpha faces alphas l z.1 in
-    let k = kind_told admits f a alpha l z.0 in
-    elim (true_or_false (nat_le a.admitted alpha)) [
-      | inl t ↦ (
-          let p : admits alpha f ≡ true = z.0.admitted alpha l ∙ t in
-          rw (t, p) (ap (λ (v : Kind). (f.0, v) ∷ held
-          (slots_of (map (λ f. f.0) faces) (map (λ a. kind_where a alpha) alphas))) k
-          ∙ ap (λ (v : List (X × Kind)). (f.0, kind_by (is_small_cell alpha) f.1) ∷ v) more))
-      | inr t ↦ (
-          let p : admits alpha f ≡ false = z.0.admitted alpha l ∙ t in
-          rw (t, p) more)
+-- those that pass a test
+pub admitted_told : {X : Type 0} (test : ℕ → X × List Cell → Bool) (alpha : ℕ) (faces : List (X × List Cell)) →
+    held (slots_of (map (λ f. f.0) faces) (map (kind_if test alpha) faces)) ≡ kinds_by alpha
+    (filter (test alpha) faces)
+admitted_told test alpha [] = refl
+admitted_told {X} test alpha (f ∷ faces) =
+    let more = admitted_told test alpha faces in
+    elim (true_or_false (test alpha f)) [
+      | inl t ↦ rw t (ap (λ (v : List (X × Kind)). (f.0, kind_by (is_small_cell alpha) f.1) ∷ v) more)
+      | inr t ↦ rw t more
     ]
 
 -- the Full cells that are within alpha

@@ -44,19 +44,7 @@ use Rattle.point_order.specs.Sets.{is_among}
 use Rattle.gabriel_faces.specs.Gabriel.{is_gabriel}
 use Rattle.gabriel_faces.specs.Links.{link_of}
 use Rattle.small_spheres.specs.Inside.{is_inside_edge, is_inside_triangle}
-use Rattle.face_list.specs.Seen.{FaceLists}
-use Rattle.alpha_complex.specs.declared.least.Part.{Part}
-use Rattle.alpha_complex.specs.declared.least.Part.TheVariants.{Points, Pairs, Triples}
-use Rattle.alpha_complex.specs.declared.numbers.FaceAlphas.{FaceAlphas}
-use Rattle.alpha_complex.specs.Judged.{is_admitted_pair, is_admitted_triple}
-use Rattle.alpha_complex.specs.Leasts.{
-  AreAlphasAt,
-  AreAlphasOf,
-  AreAlphasOfFaces,
-  IsLeastOf,
-  face_count,
-  is_admitted_point,
-}
+use Rattle.alpha_complex.specs.Leasts.{IsLeastOf}
 
 -- ---- two numbers
 
@@ -236,12 +224,3 @@ gabriel_none (a ∷ b ∷ c ∷ d ∷ face) = refl
 pub link_more : (face : List ℕ) (c : Cell) (cells : List Cell) →
     link_of face (c ∷ cells) ≡ filter (λ p. not (is_among p face)) (points_of c) ++ link_of face cells
 link_more face c cells = filter-append (λ p. not (is_among p face)) (points_of c) (flat_map points_of cells)
-
--- and so of the faces of a kind
-pub faces_written : (part : Part) (faces : FaceLists) (e : FaceAlphas) (n : ℕ) (slice before ys : List FaceAlphas)
-    → slice ≡ before → length slice ≡ n → n ≡ face_count part faces → length ys ≡ length slice
-    → ((i : ℕ) → i < length slice → AreAlphasAt part faces i (get_or ys i e)) →
-    AreAlphasOfFaces part faces (take n (ys ++ drop (length ys) before))
-faces_written Points faces e = zip_written (AreAlphasOf is_admitted_point) (0, []) e faces.points
-faces_written Pairs faces e = zip_written (AreAlphasOf (is_admitted_pair faces.triples)) ([], []) e faces.pairs
-faces_written Triples faces e = zip_written (AreAlphasOf is_admitted_triple) ([], []) e faces.triples

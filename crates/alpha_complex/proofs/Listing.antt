@@ -29,7 +29,7 @@ use Rattle.std.proofs.lemmas.Map.Text.{is_eq-slice_cmp}
 use Rattle.std.proofs.lemmas.Slice.Eq.{bytes_eq-Decides}
 use Rattle.point_order.specs.declared.cell.Cell.{Cell}
 use Rattle.point_order.specs.Sets.{IsIn}
-use Rattle.alpha_complex.specs.Judged.{is_listed, is_small_by, small_among}
+use Rattle.alpha_complex.specs.Judged.{admitted_triples, is_admitted_triple, is_listed}
 use Rattle.alpha_complex.specs.Leasts.{AreOrdered}
 use Rattle.std.proofs.lemmas.List.{get_or-map, length-map}
 use Rattle.list_laws.proofs.Cited.{
@@ -68,13 +68,14 @@ same_points (x ∷ faces) f g s i j e = elim i [
         (each_by (λ z. slice_cmp nat_cmp x.0 z ≡ Less) (map (λ (v : List ℕ × List Cell). v.0) faces) s.0 h.0
         (mapped_true (λ (v : List ℕ × List Cell). v.0) h faces m)))
 
--- what is listed among the small faces is a small one of the faces
-listed_small : (a : ℕ) (faces : List (List ℕ × List Cell)) (t : List ℕ) → is_listed (small_among a faces) t ≡ true →
-    (f : List ℕ × List Cell) × IsIn f faces × (f.0 ≡ t) × (is_small_by a f ≡ true)
-listed_small a faces t e = (
-    let k = mapped_from (λ (v : List ℕ × List Cell). v.0) t (filter (is_small_by a) faces)
-    (listed_from (small_among a faces) t e) in
-    let m = filtered_from (is_small_by a) faces k.0 k.1 in
+-- what is listed among the admitted triples is an admitted one of the triples
+listed_admitted : (a : ℕ) (faces : List (List ℕ × List Cell)) (t : List ℕ) →
+    is_listed (admitted_triples a faces) t ≡ true →
+    (f : List ℕ × List Cell) × IsIn f faces × (f.0 ≡ t) × (is_admitted_triple a f ≡ true)
+listed_admitted a faces t e = (
+    let k = mapped_from (λ (v : List ℕ × List Cell). v.0) t (filter (is_admitted_triple a) faces)
+    (listed_from (admitted_triples a faces) t e) in
+    let m = filtered_from (is_admitted_triple a) faces k.0 k.1 in
     (k.0, m.0, k.2, m.1))
 
 -- the face that a search finds
@@ -92,30 +93,30 @@ found_at faces keys t i e h c = (
 -- the face that has the points tells whether they are listed
 pub listed_found : (a : ℕ) (faces : List (List ℕ × List Cell)) (t : List ℕ) (i : ℕ) (d : List ℕ × List Cell) →
     AreOrdered faces → i < length faces → (get_or faces i d).0 ≡ t →
-    is_listed (small_among a faces) t ≡ is_small_by a (get_or faces i d)
-listed_found a faces t i d s h e = same_test (is_listed (small_among a faces) t) (is_small_by a (get_or faces i d))
-    there back
+    is_listed (admitted_triples a faces) t ≡ is_admitted_triple a (get_or faces i d)
+listed_found a faces t i d s h e = same_test (is_listed (admitted_triples a faces) t)
+    (is_admitted_triple a (get_or faces i d)) there back
   where
-    there : is_listed (small_among a faces) t ≡ true → is_small_by a (get_or faces i d) ≡ true
+    there : is_listed (admitted_triples a faces) t ≡ true → is_admitted_triple a (get_or faces i d) ≡ true
     there q = (
-        let k = listed_small a faces t q in
+        let k = listed_admitted a faces t q in
         let same : k.0 ≡ get_or faces i d = same_points faces k.0 (get_or faces i d) s k.1 (at_in faces i d h)
         (k.2 ∙ sym e) in
-        subst (λ (v : List ℕ × List Cell). is_small_by a v ≡ true) same k.3)
+        subst (λ (v : List ℕ × List Cell). is_admitted_triple a v ≡ true) same k.3)
 
-    back : is_small_by a (get_or faces i d) ≡ true → is_listed (small_among a faces) t ≡ true
-    back q = listed_true (small_among a faces) t
-        (subst (λ v. IsIn v (small_among a faces)) e
-        (mapped_true (λ (v : List ℕ × List Cell). v.0) (get_or faces i d) (filter (is_small_by a) faces)
-        (filtered_true (is_small_by a) faces (get_or faces i d) (at_in faces i d h) q)))
+    back : is_admitted_triple a (get_or faces i d) ≡ true → is_listed (admitted_triples a faces) t ≡ true
+    back q = listed_true (admitted_triples a faces) t
+        (subst (λ v. IsIn v (admitted_triples a faces)) e
+        (mapped_true (λ (v : List ℕ × List Cell). v.0) (get_or faces i d) (filter (is_admitted_triple a) faces)
+        (filtered_true (is_admitted_triple a) faces (get_or faces i d) (at_in faces i d h) q)))
 
 -- where no face has them they are not
 pub listed_none : (a : ℕ) (faces : List (List ℕ × List Cell)) (t : List ℕ) →
     list_any (λ y. is_eq (slice_cmp nat_cmp y t)) (map (λ f. f.0) faces) ≡ false →
-    is_listed (small_among a faces) t ≡ false
-listed_none a faces t e = elim (true_or_false (is_listed (small_among a faces) t)) [
+    is_listed (admitted_triples a faces) t ≡ false
+listed_none a faces t e = elim (true_or_false (is_listed (admitted_triples a faces) t)) [
   | inl q ↦ (
-      let k = listed_small a faces t q in
+      let k = listed_admitted a faces t q in
       let m : list_any (λ y. is_eq (slice_cmp nat_cmp y t)) (map (λ (f : List ℕ × List Cell). f.0) faces) ≡ true =
       any_true (λ y. is_eq (slice_cmp nat_cmp y t)) (map (λ (f : List ℕ × List Cell). f.0) faces) k.0.0
       (mapped_true (λ (v : List ℕ × List Cell). v.0) k.0 faces k.1)

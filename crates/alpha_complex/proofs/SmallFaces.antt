@@ -15,7 +15,7 @@ use Rattle.face_list.specs.Faces.{parts_in, cells_with, with_cells}
 use Rattle.gabriel_faces.specs.Links.{link_of}
 use Rattle.gabriel_faces.proofs.Cited.{judged_by_link, link_is_link, listed_is_face}
 use Rattle.alpha_complex.specs.Admitted.{is_within, is_small}
-use Rattle.alpha_complex.specs.Judged.{is_listed, is_small_by, small_among}
+use Rattle.alpha_complex.specs.Judged.{admitted_triples, is_admitted_triple, is_listed, is_small_by}
 
 -- ---- lists
 
@@ -66,10 +66,11 @@ listed_true list p i = any_true (λ q. is_eq (slice_cmp nat_cmp q p)) list p i
 
 -- ---- faces beside their cells
 
--- the small ones among faces beside their cells
-pub small_are : (alpha : ℕ) (faces : List (List ℕ)) (cells : List Cell) →
-    small_among alpha (with_cells faces cells) ≡ filter (λ p. is_small_by alpha (p, cells_with p cells)) faces
-small_are alpha faces cells = firsts_kept (is_small_by alpha) (λ p. cells_with p cells) faces
+-- the admitted ones among triples beside their cells
+pub admitted_are : (alpha : ℕ) (faces : List (List ℕ)) (cells : List Cell) →
+    admitted_triples alpha (with_cells faces cells) ≡ filter (λ p. is_admitted_triple alpha (p, cells_with p cells))
+    faces
+admitted_are alpha faces cells = firsts_kept (is_admitted_triple alpha) (λ p. cells_with p cells) faces
 
 -- faces beside their cells are in order where the faces are
 pub firsts_are : (faces : List (List ℕ)) (cells : List Cell) → map (λ f. f.0) (with_cells faces cells) ≡ faces

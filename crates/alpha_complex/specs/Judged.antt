@@ -22,9 +22,13 @@ abbrev pub is_small_cell : ℕ → Cell → Bool
 is_small_cell alpha (Full q) = is_within alpha q
 is_small_cell alpha (Open t) = false
 
--- those of the faces that are Gabriel in their links and within alpha
-abbrev pub small_among : ℕ → List (List ℕ × List Cell) → List (List ℕ)
-small_among alpha faces = map (λ f. f.0) (filter (is_small_by alpha) faces)
+-- some cell within alpha contains the triple, or it is itself Gabriel and within alpha
+abbrev pub is_admitted_triple : ℕ → List ℕ × List Cell → Bool
+is_admitted_triple alpha face = list_any (is_small_cell alpha) face.1 || is_small_by alpha face
+
+-- those of the triples that are admitted so
+abbrev pub admitted_triples : ℕ → List (List ℕ × List Cell) → List (List ℕ)
+admitted_triples alpha triples = map (λ f. f.0) (filter (is_admitted_triple alpha) triples)
 
 -- the points are one of the list
 abbrev pub is_listed : List (List ℕ) → List ℕ → Bool
@@ -43,12 +47,8 @@ covers triples pair cell = list_any (is_listed_around triples pair) (facets_of c
 abbrev pub kinds_by : {X : Type 0} → ℕ → List (X × List Cell) → List (X × Kind)
 kinds_by alpha faces = map (λ f. (f.0, kind_by (is_small_cell alpha) f.1)) faces
 
--- some cell within alpha contains the triple, or it is itself Gabriel and within alpha
-abbrev pub is_admitted_triple : ℕ → List ℕ × List Cell → Bool
-is_admitted_triple alpha face = list_any (is_small_cell alpha) face.1 || is_small_by alpha face
-
--- some cell within alpha contains the pair, or it is itself Gabriel and within alpha, or a triple that is contains it
+-- some cell within alpha contains the pair, or it is itself Gabriel and within alpha, or an admitted triple contains it
 abbrev pub is_admitted_pair : List (List ℕ × List Cell) → ℕ → List ℕ × List Cell → Bool
 is_admitted_pair triples alpha face =
     list_any (is_small_cell alpha) face.1 || (is_small_by alpha face
-    || list_any (covers (small_among alpha triples) face.0) face.1)
+    || list_any (covers (admitted_triples alpha triples) face.0) face.1)

@@ -5,5 +5,6 @@ pub mod Shapes
 pub mod Condition
 pub mod Judged
 pub mod Leasts
+pub mod Kinds
 pub mod Laws
 pub mod Told

@@ -1,21 +1,19 @@
 -- What the least alphas of a complex tell of it.
-use Rattle.std.specs.Prelude.{◌≡◌, ℕ, ◌<◌, ◌^◌, List, [], ◌∷◌}
-use Rattle.std.specs.List.{AllZip}
+use Rattle.std.specs.Prelude.{◌≡◌, ℕ, ◌<◌, ◌^◌, List}
 use Rattle.point_order.specs.Complex.{complex}
 use Rattle.face_list.specs.Faces.{parts_in}
 use Rattle.alpha_complex.specs.declared.numbers.FaceAlphas.{FaceAlphas}
 use Rattle.alpha_complex.specs.declared.numbers.Alphas.{Alphas}
 use Rattle.alpha_complex.specs.Admitted.{is_admitted, is_admitted_cell, kind}
-use Rattle.alpha_complex.specs.Leasts.{IsLeastOf, kind_at}
+use Rattle.alpha_complex.specs.Leasts.{AreLeastOf, IsLeastOf, kind_at}
 
 -- The face of the complex of s is admitted exactly at the alphas from its number on, and its numbers tell its kind.
 pub record TellsFace (s face : List ℕ) (a : FaceAlphas) : Type 0 where
   pub admitted : IsLeastOf (λ alpha. is_admitted s alpha face) a.admitted
   pub kind : (alpha : ℕ) → alpha < 2 ^ 34 → kind_at a alpha ≡ kind s alpha face
 
--- The numbers tell so of all faces of the complex of s, and of its cells from which alpha on each is admitted.
+-- The numbers tell from which alpha on each pair, triple and cell of the complex of s is admitted.
 pub record TellsFaces (s : List ℕ) (known : Alphas) : Type 0 where
-  pub points : AllZip (λ p a. TellsFace s (p ∷ []) a) s known.points.items
-  pub pairs : AllZip (TellsFace s) (parts_in 2 (complex s)) known.pairs.items
-  pub triples : AllZip (TellsFace s) (parts_in 3 (complex s)) known.triples.items
-  pub cells : AllZip (λ c n. IsLeastOf (λ alpha. is_admitted_cell s alpha c) n) (complex s) known.cells.items
+  pub pairs : AreLeastOf (is_admitted s) (parts_in 2 (complex s)) known.pairs.items
+  pub triples : AreLeastOf (is_admitted s) (parts_in 3 (complex s)) known.triples.items
+  pub cells : AreLeastOf (is_admitted_cell s) (complex s) known.cells.items

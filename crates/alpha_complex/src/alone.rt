@@ -3,21 +3,13 @@
 ghost use Rattle.std.specs.Prelude.{◌≡◌, ◌<◌, ℕ, length, slice_index_or, IfOk};
 ghost use Rattle.std.specs.Fork.{AcceptsAt, AcceptsEach, ChangesAt, ChangesEach};
 ghost use Rattle.face_list.specs.Tables.{cell_at};
-ghost use Rattle.alpha_complex.specs.declared.least.Part.TheVariants.{Points, Pairs, Triples};
-ghost use Rattle.alpha_complex.specs.Judged.{is_small_by, is_small_cell};
-ghost use Rattle.alpha_complex.specs.Leasts.{
-  AreAlphasAt,
-  AreAlphasOfFaces,
-  AreLeastOf,
-  AreOwn,
-  IsLeastOf,
-  face_at,
-  face_count,
-};
+ghost use Rattle.alpha_complex.specs.Judged.{is_small_cell, is_admitted_triple, is_admitted_pair};
+ghost use Rattle.alpha_complex.specs.Leasts.{AreLeastOf, AreOrdered, AreHigher, IsLeastOf, face_at};
 
-use crate::least::{NONE, OwnAlphas, Part, alphas_of_face, count_of, own_of_triple};
-use crate::numbers::FaceAlphas;
+use crate::higher::HigherAlphas;
+use crate::least::{pair_least, triple_least};
 use crate::owns::{BEYOND, cell_least_of};
+use crate::places::places_of;
 use face_list::Faces;
 use point_order::Cell;
 use std::alloc::{AllocError, Global};
@@ -30,8 +22,8 @@ fn at_one<T, F: Fn(usize, &mut T)>(f: &F, i: usize, it: &mut T)
     f(i, it);
 }
 
-// Calls `f(i, &mut s[i])` at each place, in order.
-fn each_in_turn<T, F: Fn(usize, &mut T)>(s: &mut [T], f: F)
+/// Calls `f(i, &mut s[i])` at each place, in order.
+pub fn each_in_turn<T, F: Fn(usize, &mut T)>(s: &mut [T], f: F)
     requires { AcceptsEach F.Fn f s.old }
     ensures { ChangesEach F.Fn f s.old s.new }
 {
@@ -41,7 +33,7 @@ fn each_in_turn<T, F: Fn(usize, &mut T)>(s: &mut [T], f: F)
 }
 
 /// The least alpha of each cell.
-pub fn own_of_cells(alloc: Global, cells: &[Cell]) -> Result<Vec<u64>, AllocError>
+pub fn leasts_of_cells(alloc: Global, cells: &[Cell]) -> Result<Vec<u64>, AllocError>
     ensures { IfOk result (λ v. AreLeastOf is_small_cell cells.now v.items) }
 {
     let mut leasts = vec![in alloc; BEYOND; cells.len()]?;
@@ -57,58 +49,66 @@ pub fn own_of_cells(alloc: Global, cells: &[Cell]) -> Result<Vec<u64>, AllocErro
     Ok(leasts)
 }
 
-/// That of each triple.
-pub fn own_of_triples(alloc: Global, faces: &Faces) -> Result<Vec<u64>, AllocError>
-    ensures { IfOk result (λ v. AreLeastOf is_small_by faces.now.triples v.items) }
+/// The least alpha at which each triple is admitted, by the numbers of the cells.
+pub fn leasts_of_triples(
+    alloc: Global,
+    faces: &Faces,
+    cells: &[u64],
+) -> Result<Vec<u64>, AllocError>
+    requires { AreLeastOf is_small_cell faces.now.cells cells.now }
+    ensures { IfOk result (λ v. AreLeastOf is_admitted_triple faces.now.triples v.items) }
 {
     let mut leasts = vec![in alloc; BEYOND; faces.triples().len()]?;
     each_in_turn(
         &mut leasts,
         |index: usize, least: &mut u64|
-            requires { index < length faces.now.triples }
-            ensures { IsLeastOf (λ alpha. is_small_by alpha (face_at faces.entry.now.triples index)) least.new }
+            requires { AreLeastOf is_small_cell faces.now.cells cells.now × (index < length faces.now.triples) }
+            ensures { IsLeastOf (λ alpha. is_admitted_triple alpha (face_at faces.entry.now.triples index)) least.new }
         {
-            *least = own_of_triple(faces, index);
+            *least = triple_least(faces, cells, index);
         },
     );
     Ok(leasts)
 }
 
-// The numbers of all faces of a kind.
-fn alphas_of_faces(
-    alloc: Global,
-    own: &OwnAlphas,
-    part: Part,
-) -> Result<Vec<FaceAlphas>, AllocError>
-    requires { AreOwn own.now }
-    ensures { IfOk result (λ v. AreAlphasOfFaces part own.now.faces.now v.items) }
+// The least alpha at which each pair is admitted.
+fn leasts_by_higher(alloc: Global, higher: &HigherAlphas) -> Result<Vec<u64>, AllocError>
+    requires { AreHigher higher.now }
+    ensures { IfOk result (λ v. AreLeastOf (is_admitted_pair higher.now.faces.now.triples) higher.now.faces.now.pairs
+        v.items) }
 {
-    let mut alphas = vec![in alloc; NONE; count_of(own.faces, part)]?;
+    let mut leasts = vec![in alloc; BEYOND; higher.faces.pairs().len()]?;
     each_in_turn(
-        &mut alphas,
-        |index: usize, alphas: &mut FaceAlphas|
-            requires { AreOwn own.now × (index < face_count part own.now.faces.now) }
-            ensures { AreAlphasAt part own.entry.now.faces.now index alphas.new }
+        &mut leasts,
+        |index: usize, least: &mut u64|
+            requires { AreHigher higher.now × (index < length higher.now.faces.now.pairs) }
+            ensures { IsLeastOf (λ alpha. is_admitted_pair higher.entry.now.faces.now.triples alpha
+                (face_at higher.entry.now.faces.now.pairs index)) least.new }
         {
-            *alphas = alphas_of_face(own, part, index);
+            *least = pair_least(higher, index);
         },
     );
-    Ok(alphas)
+    Ok(leasts)
 }
 
-/// The numbers of the points, of the pairs and of the triples.
-pub fn alphas_of_all(
+/// The least alpha at which each pair is admitted, by the numbers of the cells and of the triples.
+pub fn leasts_of_pairs(
     alloc: Global,
-    own: &OwnAlphas,
-) -> Result<(Vec<FaceAlphas>, Vec<FaceAlphas>, Vec<FaceAlphas>), AllocError>
-    requires { AreOwn own.now }
-    ensures points { IfOk result (λ all. AreAlphasOfFaces Points own.now.faces.now all.0.items) }
-    ensures pairs { IfOk result (λ all. AreAlphasOfFaces Pairs own.now.faces.now all.1.items) }
-    ensures triples { IfOk result (λ all. AreAlphasOfFaces Triples own.now.faces.now all.2.items) }
+    faces: &Faces,
+    cells: &[u64],
+    triples: &[u64],
+) -> Result<Vec<u64>, AllocError>
+    requires order { AreOrdered faces.now.triples }
+    requires cells { AreLeastOf is_small_cell faces.now.cells cells.now }
+    requires triples { AreLeastOf is_admitted_triple faces.now.triples triples.now }
+    ensures { IfOk result (λ v. AreLeastOf (is_admitted_pair faces.now.triples) faces.now.pairs v.items) }
 {
-    Ok((
-        alphas_of_faces(alloc, own, Part::Points)?,
-        alphas_of_faces(alloc, own, Part::Pairs)?,
-        alphas_of_faces(alloc, own, Part::Triples)?,
-    ))
+    let places = places_of(alloc, faces)?;
+    let higher = HigherAlphas {
+        faces,
+        cells,
+        triples,
+        places: &places,
+    };
+    leasts_by_higher(alloc, &higher)
 }

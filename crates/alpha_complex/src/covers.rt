@@ -1,4 +1,4 @@
-//! The least alphas at which the triples around a pair are themselves Gabriel and within alpha.
+//! The least alphas at which the triples around a pair are admitted.
 
 ghost use Rattle.std.specs.Prelude.{◌≡◌, ◌<◌, All, IsTrue, length, slice_index_or};
 ghost use Rattle.std.specs.List.{list_any};
@@ -7,10 +7,10 @@ ghost use Rattle.std.specs.Cmp.Lexicographic.{slice_cmp};
 ghost use Rattle.std.specs.declared.cmp.Ordering.TheVariants.{Equal};
 ghost use Rattle.face_list.specs.Tables.{cell_at, numbered};
 ghost use Rattle.alpha_complex.specs.Admitted.{contains as contains_all};
-ghost use Rattle.alpha_complex.specs.Judged.{covers, is_listed, is_listed_around, small_among};
-ghost use Rattle.alpha_complex.specs.Leasts.{AreOwn, IsLeastOf};
+ghost use Rattle.alpha_complex.specs.Judged.{covers, is_listed, is_listed_around, admitted_triples};
+ghost use Rattle.alpha_complex.specs.Leasts.{AreHigher, IsLeastOf};
 
-use crate::least::OwnAlphas;
+use crate::higher::HigherAlphas;
 use crate::owns::{BEYOND, is_one_of, number_at};
 use crate::places::places_at;
 use point_order::{Facet, Pair, Tri};
@@ -32,39 +32,39 @@ fn is_at(triples: &[Tri], place: usize, tri: &Tri) -> bool
     place < triples.len() && matches!(triples[place].cmp(tri), Ordering::Equal)
 }
 
-// The least alpha at which a triple that is listed is itself Gabriel and within alpha, by a search.
-fn searched_least(own: &OwnAlphas, tri: &Tri) -> u64
-    requires own { AreOwn own.now }
-    ensures { IsLeastOf (λ alpha. is_listed (small_among alpha own.now.faces.now.triples) tri.now) result }
+// The least alpha at which a triple that is listed is admitted, by a search.
+fn searched_least(higher: &HigherAlphas, tri: &Tri) -> u64
+    requires higher { AreHigher higher.now }
+    ensures { IsLeastOf (λ alpha. is_listed (admitted_triples alpha higher.now.faces.now.triples) tri.now) result }
 {
-    match own.faces.triples().binary_search(tri) {
-        Ok(index) => number_at(own.triples, index),
+    match higher.faces.triples().binary_search(tri) {
+        Ok(index) => number_at(higher.triples, index),
         Err(_) => BEYOND,
     }
 }
 
 // The same, by a look at the place where the triple may stand.
-fn listed_least(own: &OwnAlphas, tri: &Tri, place: usize) -> u64
-    requires own { AreOwn own.now }
-    ensures { IsLeastOf (λ alpha. is_listed (small_among alpha own.now.faces.now.triples) tri.now) result }
+fn listed_least(higher: &HigherAlphas, tri: &Tri, place: usize) -> u64
+    requires higher { AreHigher higher.now }
+    ensures { IsLeastOf (λ alpha. is_listed (admitted_triples alpha higher.now.faces.now.triples) tri.now) result }
 {
-    if is_at(own.faces.triples(), place, tri) {
-        number_at(own.triples, place)
+    if is_at(higher.faces.triples(), place, tri) {
+        number_at(higher.triples, place)
     } else {
-        searched_least(own, tri)
+        searched_least(higher, tri)
     }
 }
 
 // That of a facet, where it contains the pair. It may stand at the place.
-fn facet_least(own: &OwnAlphas, pair: &Pair, facet: &Facet, place: u32) -> u64
-    requires own { AreOwn own.now }
-    ensures { IsLeastOf (λ alpha. is_listed_around (small_among alpha own.now.faces.now.triples) pair.now facet.now)
-        result }
+fn facet_least(higher: &HigherAlphas, pair: &Pair, facet: &Facet, place: u32) -> u64
+    requires higher { AreHigher higher.now }
+    ensures { IsLeastOf (λ alpha. is_listed_around (admitted_triples alpha higher.now.faces.now.triples) pair.now
+        facet.now) result }
 {
     match facet {
         Facet::Three(tri) => {
             if contains(tri, pair) {
-                listed_least(own, tri, place as usize)
+                listed_least(higher, tri, place as usize)
             } else {
                 BEYOND
             }
@@ -74,32 +74,32 @@ fn facet_least(own: &OwnAlphas, pair: &Pair, facet: &Facet, place: u32) -> u64
 }
 
 // The least of those of the facets of the cell of a number.
-fn cell_cover_least(own: &OwnAlphas, pair: &Pair, number: u32) -> u64
-    requires own { AreOwn own.now }
-    requires number { number < length own.now.faces.now.cells }
-    ensures { IsLeastOf (λ alpha. covers (small_among alpha own.now.faces.now.triples) pair.now
-        (cell_at own.now.faces.now.cells number)) result }
+fn cell_cover_least(higher: &HigherAlphas, pair: &Pair, number: u32) -> u64
+    requires higher { AreHigher higher.now }
+    requires number { number < length higher.now.faces.now.cells }
+    ensures { IsLeastOf (λ alpha. covers (admitted_triples alpha higher.now.faces.now.triples) pair.now
+        (cell_at higher.now.faces.now.cells number)) result }
 {
-    let facets = own.faces.cells()[number as usize].facets();
-    let [a, b, c, d] = places_at(own.places, number as usize);
-    let first = facet_least(own, pair, &facets[0], a);
-    let second = facet_least(own, pair, &facets[1], b);
-    let third = facet_least(own, pair, &facets[2], c);
-    let fourth = facet_least(own, pair, &facets[3], d);
+    let facets = higher.faces.cells()[number as usize].facets();
+    let [a, b, c, d] = places_at(higher.places, number as usize);
+    let first = facet_least(higher, pair, &facets[0], a);
+    let second = facet_least(higher, pair, &facets[1], b);
+    let third = facet_least(higher, pair, &facets[2], c);
+    let fourth = facet_least(higher, pair, &facets[3], d);
     first.min(second.min(third.min(fourth)))
 }
 
 /// The least alpha at which some triple that contains the pair and is a facet of one of the cells of some numbers is
-/// itself Gabriel and within alpha.
-pub fn cover_least(own: &OwnAlphas, pair: &Pair, around: &[u32]) -> u64
-    requires own { AreOwn own.now }
-    requires numbers { All (λ n. n < length own.now.faces.now.cells) around.now }
-    ensures { IsLeastOf (λ alpha. list_any (covers (small_among alpha own.now.faces.now.triples) pair.now)
-        (numbered own.now.faces.now.cells around.now)) result }
+/// admitted.
+pub fn cover_least(higher: &HigherAlphas, pair: &Pair, around: &[u32]) -> u64
+    requires higher { AreHigher higher.now }
+    requires numbers { All (λ n. n < length higher.now.faces.now.cells) around.now }
+    ensures { IsLeastOf (λ alpha. list_any (covers (admitted_triples alpha higher.now.faces.now.triples) pair.now)
+        (numbered higher.now.faces.now.cells around.now)) result }
 {
     let mut least = BEYOND;
     for number in around {
-        least = least.min(cell_cover_least(own, pair, *number));
+        least = least.min(cell_cover_least(higher, pair, *number));
     }
     least
 }

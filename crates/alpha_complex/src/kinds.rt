@@ -1,37 +1,142 @@
-//! The kinds of faces for one alpha.
+//! The kinds of faces for one alpha, by the cells around them.
 
-ghost use Rattle.std.specs.Prelude.{◌≡◌, ◌<◌, length, map, nat_le, slice_index, IfOk};
-ghost use Rattle.alpha_complex.specs.Leasts.{kind_at, kind_where, numbers_at as numbers_at_place};
+ghost use Rattle.std.specs.Prelude.{◌≡◌, ◌<◌, All, length, map, nat_le, slice_index, IfOk};
+ghost use Rattle.face_list.specs.Tables.{numbered};
+ghost use Rattle.alpha_complex.specs.Admitted.{kind_by};
+ghost use Rattle.alpha_complex.specs.Judged.{is_small_cell};
+ghost use Rattle.alpha_complex.specs.Kinds.{AreLeastOfPart, IsLevel, kind_of, part_kind, part_of};
+ghost use Rattle.alpha_complex.specs.Leasts.{face_at, point_at};
 
-use crate::numbers::FaceAlphas;
+use crate::alone::each_in_turn;
+use crate::owns::number_at;
+use crate::rounds::{all_least, some_least};
 use crate::shape::Kind;
+use face_list::Faces;
 use rayon::prelude::*;
 use std::alloc::{AllocError, Global};
 use std::thread::Threads;
 
-/// The kinds of faces that are all admitted, as points are.
-pub fn kinds_of_all(
-    alloc: Global,
-    alphas: &[FaceAlphas],
-    alpha: u64,
-) -> Result<Vec<Kind>, AllocError>
-    ensures { IfOk result (λ v. v.items ≡ map (λ a. kind_at a alpha) alphas.now) }
-{
-    alphas.iter().map(|face| face.kind(alpha)).collect(alloc)
+/// The faces of a complex, the least alphas of its cells, and an alpha.
+#[derive(Clone, Copy)]
+pub struct Level<'a, 'b> {
+    pub faces: &'a Faces<'b>,
+    pub cells: &'a [u64],
+    pub alpha: u64,
 }
 
-/// The kinds of the faces that are admitted, and none at the others.
-pub fn kinds_of_admitted(
-    alloc: Global,
-    alphas: &[FaceAlphas],
-    alpha: u64,
-) -> Result<Vec<Option<Kind>>, AllocError>
-    ensures { IfOk result (λ v. v.items ≡ map (λ a. kind_where a alpha) alphas.now) }
+/// The pairs or the triples.
+#[derive(Clone, Copy)]
+pub enum Part {
+    Pairs,
+    Triples,
+}
+
+// How many faces of a part there are.
+fn count_of(faces: &Faces, part: Part) -> usize
+    ensures { result ≡ length (part_of part faces.now) }
 {
-    alphas
-        .iter()
-        .map(|face| face.kind_where_admitted(alpha))
-        .collect(alloc)
+    match part {
+        Part::Pairs => faces.pairs().len(),
+        Part::Triples => faces.triples().len(),
+    }
+}
+
+// The kind of a face, by the numbers of the cells around it.
+fn kind_around(level: &Level, around: &[u32]) -> Kind
+    requires level { IsLevel level.now }
+    requires numbers { All (λ n. n < length level.now.faces.now.cells) around.now }
+    ensures { result ≡ kind_by (is_small_cell level.now.alpha) (numbered level.now.faces.now.cells around.now) }
+{
+    if all_least(level.faces, level.cells, around) <= level.alpha {
+        Kind::Interior
+    } else if some_least(level.faces, level.cells, around) <= level.alpha {
+        Kind::Regular
+    } else {
+        Kind::Singular
+    }
+}
+
+// The kind of the point of an index.
+fn kind_of_point(level: &Level, index: usize) -> Kind
+    requires level { IsLevel level.now }
+    requires index { index < length level.now.faces.now.points }
+    ensures { result ≡ kind_of level.now.alpha (point_at level.now.faces.now.points index) }
+{
+    let (_, around) = level.faces.point(index);
+    kind_around(level, around)
+}
+
+// The kind of the face of an index.
+fn kind_of_face(level: &Level, part: Part, index: usize) -> Kind
+    requires level { IsLevel level.now }
+    requires index { index < length (part_of part level.now.faces.now) }
+    ensures { result ≡ kind_of level.now.alpha (face_at (part_of part level.now.faces.now) index) }
+{
+    let around = match part {
+        Part::Pairs => level.faces.pair(index).1,
+        Part::Triples => level.faces.triple(index).1,
+    };
+    kind_around(level, around)
+}
+
+// The same, where the face is admitted.
+fn kind_where_admitted(level: &Level, part: Part, leasts: &[u64], index: usize) -> Option<Kind>
+    requires level { IsLevel level.now }
+    requires leasts { AreLeastOfPart part level.now.faces.now leasts.now }
+    requires index { index < length (part_of part level.now.faces.now) }
+    ensures { result ≡ part_kind part level.now.faces.now level.now.alpha
+        (face_at (part_of part level.now.faces.now) index) }
+{
+    if number_at(leasts, index) <= level.alpha {
+        Some(kind_of_face(level, part, index))
+    } else {
+        None
+    }
+}
+
+/// The kinds of the points, which are all admitted.
+pub fn kinds_of_points(alloc: Global, level: &Level) -> Result<Vec<Kind>, AllocError>
+    requires { IsLevel level.now }
+    ensures { IfOk result (λ v. v.items ≡ map (kind_of level.now.alpha) level.now.faces.now.points) }
+{
+    let mut kinds = vec![in alloc; Kind::Singular; level.faces.points().len()]?;
+    each_in_turn(
+        &mut kinds,
+        |index: usize, kind: &mut Kind|
+            requires { IsLevel level.now × (index < length level.now.faces.now.points) }
+            ensures { kind.new ≡ kind_of level.entry.now.alpha (point_at level.entry.now.faces.now.points index) }
+        {
+            *kind = kind_of_point(level, index);
+        },
+    );
+    Ok(kinds)
+}
+
+/// The kinds of the faces of a part that are admitted, and none at the others.
+pub fn kinds_of_part(
+    alloc: Global,
+    level: &Level,
+    part: Part,
+    leasts: &[u64],
+) -> Result<Vec<Option<Kind>>, AllocError>
+    requires level { IsLevel level.now }
+    requires leasts { AreLeastOfPart part level.now.faces.now leasts.now }
+    ensures { IfOk result (λ v. v.items
+        ≡ map (part_kind part level.now.faces.now level.now.alpha) (part_of part level.now.faces.now)) }
+{
+    let mut kinds = vec![in alloc; None; count_of(level.faces, part)]?;
+    each_in_turn(
+        &mut kinds,
+        |index: usize, kind: &mut Option<Kind>|
+            requires { IsLevel level.now × AreLeastOfPart part level.now.faces.now leasts.now
+                × (index < length (part_of part level.now.faces.now)) }
+            ensures { kind.new ≡ part_kind part level.entry.now.faces.now level.entry.now.alpha
+                (face_at (part_of part level.entry.now.faces.now) index) }
+        {
+            *kind = kind_where_admitted(level, part, leasts, index);
+        },
+    );
+    Ok(kinds)
 }
 
 /// Which of the numbers are at most alpha.
@@ -41,55 +146,53 @@ pub fn marks(alloc: Global, leasts: &[u64], alpha: u64) -> Result<Vec<bool>, All
     leasts.iter().map(|least| *least <= alpha).collect(alloc)
 }
 
-// The numbers of a place.
-fn numbers_at(alphas: &[FaceAlphas], place: usize) -> FaceAlphas
-    requires { place < length alphas.now }
-    ensures { result ≡ numbers_at_place alphas.now place }
-{
-    alphas[place]
-}
-
-/// What `kinds_of_all` gives, made by several threads.
-pub fn all_by_threads<R: Threads + Sync>(
+/// What `kinds_of_points` gives, made by several threads.
+pub fn points_by_threads<R: Threads + Sync>(
     rt: &R,
     alloc: Global,
-    alphas: &[FaceAlphas],
-    alpha: u64,
+    level: &Level,
 ) -> Result<Vec<Kind>, AllocError>
-    ensures { IfOk result (λ v. v.items ≡ map (λ a. kind_at a alpha) alphas.now) }
+    requires { IsLevel level.now }
+    ensures { IfOk result (λ v. v.items ≡ map (kind_of level.now.alpha) level.now.faces.now.points) }
 {
-    let mut kinds = vec![in alloc; Kind::Singular; alphas.len()]?;
+    let mut kinds = vec![in alloc; Kind::Singular; level.faces.points().len()]?;
     par_for_each_mut(
         rt,
         &mut kinds,
-        |place: usize, kind: &mut Kind|
-            requires { place < length alphas.now }
-            ensures { kind.new ≡ kind_at (numbers_at_place alphas.entry.now place) alpha }
+        |index: usize, kind: &mut Kind|
+            requires { IsLevel level.now × (index < length level.now.faces.now.points) }
+            ensures { kind.new ≡ kind_of level.entry.now.alpha (point_at level.entry.now.faces.now.points index) }
         {
-            *kind = numbers_at(alphas, place).kind(alpha);
+            *kind = kind_of_point(level, index);
         },
     );
     Ok(kinds)
 }
 
-/// What `kinds_of_admitted` gives, made by several threads.
-pub fn admitted_by_threads<R: Threads + Sync>(
+/// What `kinds_of_part` gives, made by several threads.
+pub fn part_by_threads<R: Threads + Sync>(
     rt: &R,
     alloc: Global,
-    alphas: &[FaceAlphas],
-    alpha: u64,
+    level: &Level,
+    part: Part,
+    leasts: &[u64],
 ) -> Result<Vec<Option<Kind>>, AllocError>
-    ensures { IfOk result (λ v. v.items ≡ map (λ a. kind_where a alpha) alphas.now) }
+    requires level { IsLevel level.now }
+    requires leasts { AreLeastOfPart part level.now.faces.now leasts.now }
+    ensures { IfOk result (λ v. v.items
+        ≡ map (part_kind part level.now.faces.now level.now.alpha) (part_of part level.now.faces.now)) }
 {
-    let mut kinds = vec![in alloc; None; alphas.len()]?;
+    let mut kinds = vec![in alloc; None; count_of(level.faces, part)]?;
     par_for_each_mut(
         rt,
         &mut kinds,
-        |place: usize, kind: &mut Option<Kind>|
-            requires { place < length alphas.now }
-            ensures { kind.new ≡ kind_where (numbers_at_place alphas.entry.now place) alpha }
+        |index: usize, kind: &mut Option<Kind>|
+            requires { IsLevel level.now × AreLeastOfPart part level.now.faces.now leasts.now
+                × (index < length (part_of part level.now.faces.now)) }
+            ensures { kind.new ≡ part_kind part level.entry.now.faces.now level.entry.now.alpha
+                (face_at (part_of part level.entry.now.faces.now) index) }
         {
-            *kind = numbers_at(alphas, place).kind_where_admitted(alpha);
+            *kind = kind_where_admitted(level, part, leasts, index);
         },
     );
     Ok(kinds)

@@ -30,6 +30,7 @@ ghost use Rattle.alpha_complex.specs.Told.{TellsFaces};
 
 mod alone;
 mod covers;
+mod higher;
 mod kinds;
 pub mod laws;
 mod least;
@@ -38,17 +39,15 @@ mod owns;
 mod places;
 mod rounds;
 pub mod shape;
+mod threads;
 
 use face_list::Faces;
-use least::{OwnAlphas, alphas_of_all, own_of_cells, own_of_triples};
 pub use numbers::{Alphas, FaceAlphas};
-use places::places_of;
 pub use shape::{Kind, Shape};
 use std::alloc::{AllocError, Global};
 use std::thread::Threads;
 
-/// The least alphas of all faces of a complex, made once for any number of alphas: at which a face is admitted, and
-/// some and all of the cells that contain it are.
+/// The least alphas at which the faces of a complex are admitted, made once for any number of alphas.
 ///
 /// The faces are what `face_list::faces` gives of the complex of a solid set, its cells in order. Each Gabriel test
 /// is made once, and each squared radius is taken once, by several threads, as many as there are processors; the
@@ -66,19 +65,11 @@ pub fn alphas<'a, 'b, R: Threads + Sync>(
     ensures known { IfOk result (λ known. AreKnown known) }
     ensures told { IfOk result (λ known. (s : List ℕ) → AreFacesOf s faces.now → TellsFaces s known) }
 {
-    let cells = own_of_cells(rt, alloc, faces.cells())?;
-    let own_triples = own_of_triples(rt, alloc, faces)?;
-    let places = places_of(alloc, faces)?;
-    let own = OwnAlphas {
-        faces,
-        cells: &cells,
-        triples: &own_triples,
-        places: &places,
-    };
-    let (points, pairs, triples) = alphas_of_all(rt, alloc, &own)?;
+    let cells = threads::leasts_of_cells(rt, alloc, faces.cells())?;
+    let triples = threads::leasts_of_triples(rt, alloc, faces, &cells)?;
+    let pairs = threads::leasts_of_pairs(rt, alloc, faces, &cells, &triples)?;
     Ok(Alphas {
         faces,
-        points,
         pairs,
         triples,
         cells,
@@ -98,19 +89,11 @@ pub fn alphas_alone<'a, 'b>(
     ensures known { IfOk result (λ known. AreKnown known) }
     ensures told { IfOk result (λ known. (s : List ℕ) → AreFacesOf s faces.now → TellsFaces s known) }
 {
-    let cells = alone::own_of_cells(alloc, faces.cells())?;
-    let own_triples = alone::own_of_triples(alloc, faces)?;
-    let places = places_of(alloc, faces)?;
-    let own = OwnAlphas {
-        faces,
-        cells: &cells,
-        triples: &own_triples,
-        places: &places,
-    };
-    let (points, pairs, triples) = alone::alphas_of_all(alloc, &own)?;
+    let cells = alone::leasts_of_cells(alloc, faces.cells())?;
+    let triples = alone::leasts_of_triples(alloc, faces, &cells)?;
+    let pairs = alone::leasts_of_pairs(alloc, faces, &cells, &triples)?;
     Ok(Alphas {
         faces,
-        points,
         pairs,
         triples,
         cells,

@@ -1,13 +1,34 @@
 //! The least alphas of faces.
 
-ghost use Rattle.std.specs.Prelude.{◌≡◌, ◌<◌, ◌^◌, ℕ, List, map, nat_le, IfOk};
+ghost use Rattle.std.specs.Prelude.{◌≡◌, ◌<◌, ◌^◌, ◌∷◌, [], ℕ, All, List, length, map, nat_le, slice_index_or, IfOk};
+ghost use Rattle.std.specs.List.{list_all, list_any};
+ghost use Rattle.point_order.specs.Complex.{complex};
+ghost use Rattle.face_list.specs.Faces.{parts_in};
+ghost use Rattle.face_list.specs.Tables.{numbered};
 ghost use Rattle.alpha_complex.specs.Condition.{AreFacesOf};
-ghost use Rattle.alpha_complex.specs.Leasts.{AreKnown, kind_at, kind_where};
+ghost use Rattle.alpha_complex.specs.Judged.{is_admitted_pair, is_admitted_triple, is_small_cell};
+ghost use Rattle.alpha_complex.specs.declared.kinds.Part.TheVariants.{Pairs, Triples};
+ghost use Rattle.alpha_complex.specs.Kinds.{kind_of, part_kind};
+ghost use Rattle.alpha_complex.specs.Leasts.{
+  AreAlphasOf,
+  AreKnown,
+  AreLeastOf,
+  IsLeastOf,
+  face_at,
+  is_admitted_point,
+  kind_at,
+  kind_where,
+  point_at,
+};
 ghost use Rattle.alpha_complex.specs.Shapes.{shape_of, shape_seen};
+ghost use Rattle.alpha_complex.specs.Told.{TellsFace};
 
 use crate::kinds::{
-    admitted_by_threads, all_by_threads, kinds_of_admitted, kinds_of_all, marks, marks_by_threads,
+    Level, Part, kinds_of_part, kinds_of_points, marks, marks_by_threads, part_by_threads,
+    points_by_threads,
 };
+use crate::owns::number_at;
+use crate::rounds::{all_least, some_least};
 use crate::shape::{Kind, Shape};
 use face_list::Faces;
 use std::alloc::{AllocError, Global};
@@ -60,24 +81,77 @@ impl FaceAlphas {
 }
 
 /// The least alphas of the faces of a complex, each list in the order of the faces: a face is admitted at an alpha
-/// exactly where its number is at most it.
+/// exactly where its number is at most it. A point is admitted at every alpha.
 #[derive(Drop)]
 pub struct Alphas<'a, 'b> {
     /// The faces.
     pub faces: &'a Faces<'b>,
-    /// The numbers of the points.
-    pub points: Vec<FaceAlphas>,
-    /// The numbers of the pairs.
-    pub pairs: Vec<FaceAlphas>,
-    /// The numbers of the triples.
-    pub triples: Vec<FaceAlphas>,
+    /// The least alpha at which each pair is admitted.
+    pub pairs: Vec<u64>,
+    /// The least alpha at which each triple is admitted.
+    pub triples: Vec<u64>,
     /// The least alpha at which each cell is Full and within alpha.
     pub cells: Vec<u64>,
 }
 
 impl<'a, 'b> Alphas<'a, 'b> {
+    // The numbers of a face, of which that of its admission is known, by the cells around it.
+    fn with_cells_of(&self, admitted: u64, around: &[u32]) -> FaceAlphas
+        requires cells { AreLeastOf is_small_cell self.now.faces.now.cells self.now.cells.items }
+        requires numbers { All (λ n. n < length self.now.faces.now.cells) around.now }
+        ensures admitted { result.admitted ≡ admitted }
+        ensures regular { IsLeastOf
+            (λ alpha. list_any (is_small_cell alpha) (numbered self.now.faces.now.cells around.now)) result.regular }
+        ensures interior { IsLeastOf
+            (λ alpha. list_all (is_small_cell alpha) (numbered self.now.faces.now.cells around.now)) result.interior }
+    {
+        FaceAlphas {
+            admitted,
+            regular: some_least(self.faces, &self.cells, around),
+            interior: all_least(self.faces, &self.cells, around),
+        }
+    }
+
+    /// The numbers of the point of an index, which is admitted at every alpha.
+    pub fn point(&self, index: usize) -> FaceAlphas
+        requires known { AreKnown self.now }
+        requires index { index < length self.now.faces.now.points }
+        ensures numbers { AreAlphasOf is_admitted_point (point_at self.now.faces.now.points index) result }
+        ensures told { (s : List ℕ) → AreFacesOf s self.now.faces.now →
+            TellsFace s (slice_index_or s index 0 ∷ []) result }
+    {
+        let (_, around) = self.faces.point(index);
+        self.with_cells_of(0, around)
+    }
+
+    /// The numbers of the pair of an index.
+    pub fn pair(&self, index: usize) -> FaceAlphas
+        requires known { AreKnown self.now }
+        requires index { index < length self.now.faces.now.pairs }
+        ensures numbers { AreAlphasOf (is_admitted_pair self.now.faces.now.triples)
+            (face_at self.now.faces.now.pairs index) result }
+        ensures told { (s : List ℕ) → AreFacesOf s self.now.faces.now →
+            TellsFace s (slice_index_or (parts_in 2 (complex s)) index []) result }
+    {
+        let (_, around) = self.faces.pair(index);
+        self.with_cells_of(number_at(&self.pairs, index), around)
+    }
+
+    /// The numbers of the triple of an index.
+    pub fn triple(&self, index: usize) -> FaceAlphas
+        requires known { AreKnown self.now }
+        requires index { index < length self.now.faces.now.triples }
+        ensures numbers { AreAlphasOf is_admitted_triple (face_at self.now.faces.now.triples index) result }
+        ensures told { (s : List ℕ) → AreFacesOf s self.now.faces.now →
+            TellsFace s (slice_index_or (parts_in 3 (complex s)) index []) result }
+    {
+        let (_, around) = self.faces.triple(index);
+        self.with_cells_of(number_at(&self.triples, index), around)
+    }
+
     /// The alpha complex for one alpha, a squared radius in sixteenths, below 2^34, as `alpha` gives it: a comparison
-    /// for each face, and two for the kind of each that is admitted. It borrows the faces, and not these numbers.
+    /// for each face, and a look at the cells around each that is admitted. It borrows the faces, and not these
+    /// numbers.
     ///
     /// # Errors
     /// Want of memory.
@@ -93,9 +167,14 @@ impl<'a, 'b> Alphas<'a, 'b> {
         ensures cells { IfOk result (λ shape. (s : List ℕ) → AreFacesOf s self.now.faces.now →
             (shape_seen shape).cells ≡ (shape_of s alpha).cells) }
     {
-        let points = kinds_of_all(alloc, &self.points, alpha)?;
-        let pairs = kinds_of_admitted(alloc, &self.pairs, alpha)?;
-        let triples = kinds_of_admitted(alloc, &self.triples, alpha)?;
+        let level = Level {
+            faces: self.faces,
+            cells: &self.cells,
+            alpha,
+        };
+        let points = kinds_of_points(alloc, &level)?;
+        let pairs = kinds_of_part(alloc, &level, Part::Pairs, &self.pairs)?;
+        let triples = kinds_of_part(alloc, &level, Part::Triples, &self.triples)?;
         let cells = marks(alloc, &self.cells, alpha)?;
         Ok(self.with_kinds(alpha, points, pairs, triples, cells))
     }
@@ -121,9 +200,14 @@ impl<'a, 'b> Alphas<'a, 'b> {
         ensures cells { IfOk result (λ shape. (s : List ℕ) → AreFacesOf s self.now.faces.now →
             (shape_seen shape).cells ≡ (shape_of s alpha).cells) }
     {
-        let points = all_by_threads(rt, alloc, &self.points, alpha)?;
-        let pairs = admitted_by_threads(rt, alloc, &self.pairs, alpha)?;
-        let triples = admitted_by_threads(rt, alloc, &self.triples, alpha)?;
+        let level = Level {
+            faces: self.faces,
+            cells: &self.cells,
+            alpha,
+        };
+        let points = points_by_threads(rt, alloc, &level)?;
+        let pairs = part_by_threads(rt, alloc, &level, Part::Pairs, &self.pairs)?;
+        let triples = part_by_threads(rt, alloc, &level, Part::Triples, &self.triples)?;
         let cells = marks_by_threads(rt, alloc, &self.cells, alpha)?;
         Ok(self.with_kinds(alpha, points, pairs, triples, cells))
     }
@@ -139,9 +223,9 @@ impl<'a, 'b> Alphas<'a, 'b> {
     ) -> Shape<'a, 'b>
         requires known { AreKnown self.now }
         requires alpha { alpha < 2 ^ 34 }
-        requires points { points.items ≡ map (λ a. kind_at a alpha) self.now.points.items }
-        requires pairs { pairs.items ≡ map (λ a. kind_where a alpha) self.now.pairs.items }
-        requires triples { triples.items ≡ map (λ a. kind_where a alpha) self.now.triples.items }
+        requires points { points.items ≡ map (kind_of alpha) self.now.faces.now.points }
+        requires pairs { pairs.items ≡ map (part_kind Pairs self.now.faces.now alpha) self.now.faces.now.pairs }
+        requires triples { triples.items ≡ map (part_kind Triples self.now.faces.now alpha) self.now.faces.now.triples }
         requires cells { cells.items ≡ map (λ n. nat_le n alpha) self.now.cells.items }
         ensures points { (s : List ℕ) → AreFacesOf s self.now.faces.now →
             (shape_seen result).points ≡ (shape_of s alpha).points }

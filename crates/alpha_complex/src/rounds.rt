@@ -4,29 +4,29 @@ ghost use Rattle.std.specs.Prelude.{◌≡◌, ◌<◌, All, length, max};
 ghost use Rattle.std.specs.List.{list_all, list_any};
 ghost use Rattle.face_list.specs.Tables.{cell_at, numbered};
 ghost use Rattle.alpha_complex.specs.Judged.{is_small_cell};
-ghost use Rattle.alpha_complex.specs.Leasts.{AreOwn, IsLeastOf};
+ghost use Rattle.alpha_complex.specs.Leasts.{AreLeastOf, IsLeastOf};
 
-use crate::least::OwnAlphas;
 use crate::owns::{BEYOND, number_at};
+use face_list::Faces;
 
 // The least alpha of the cell of a number.
-fn least_at(own: &OwnAlphas, number: u32) -> u64
-    requires own { AreOwn own.now }
-    requires number { number < length own.now.faces.now.cells }
-    ensures { IsLeastOf (λ alpha. is_small_cell alpha (cell_at own.now.faces.now.cells number)) result }
+fn least_at(faces: &Faces, cells: &[u64], number: u32) -> u64
+    requires cells { AreLeastOf is_small_cell faces.now.cells cells.now }
+    requires number { number < length faces.now.cells }
+    ensures { IsLeastOf (λ alpha. is_small_cell alpha (cell_at faces.now.cells number)) result }
 {
-    number_at(own.cells, number as usize)
+    number_at(cells, number as usize)
 }
 
 /// The least alpha at which some of the cells of some numbers is Full and within alpha.
-pub fn some_least(own: &OwnAlphas, around: &[u32]) -> u64
-    requires own { AreOwn own.now }
-    requires numbers { All (λ n. n < length own.now.faces.now.cells) around.now }
-    ensures { IsLeastOf (λ alpha. list_any (is_small_cell alpha) (numbered own.now.faces.now.cells around.now)) result }
+pub fn some_least(faces: &Faces, cells: &[u64], around: &[u32]) -> u64
+    requires cells { AreLeastOf is_small_cell faces.now.cells cells.now }
+    requires numbers { All (λ n. n < length faces.now.cells) around.now }
+    ensures { IsLeastOf (λ alpha. list_any (is_small_cell alpha) (numbered faces.now.cells around.now)) result }
 {
     let mut least = BEYOND;
     for number in around {
-        least = least.min(least_at(own, *number));
+        least = least.min(least_at(faces, cells, *number));
     }
     least
 }
@@ -39,14 +39,14 @@ fn greater(m: u64, n: u64) -> u64
 }
 
 /// The least alpha at which all of the cells of some numbers are Full and within alpha.
-pub fn all_least(own: &OwnAlphas, around: &[u32]) -> u64
-    requires own { AreOwn own.now }
-    requires numbers { All (λ n. n < length own.now.faces.now.cells) around.now }
-    ensures { IsLeastOf (λ alpha. list_all (is_small_cell alpha) (numbered own.now.faces.now.cells around.now)) result }
+pub fn all_least(faces: &Faces, cells: &[u64], around: &[u32]) -> u64
+    requires cells { AreLeastOf is_small_cell faces.now.cells cells.now }
+    requires numbers { All (λ n. n < length faces.now.cells) around.now }
+    ensures { IsLeastOf (λ alpha. list_all (is_small_cell alpha) (numbered faces.now.cells around.now)) result }
 {
     let mut least = 0;
     for number in around {
-        least = greater(least, least_at(own, *number));
+        least = greater(least, least_at(faces, cells, *number));
     }
     least
 }

@@ -6,14 +6,14 @@ use Rattle.point_order.specs.declared.cell.Cell.TheVariants.{Full}
 use Rattle.point_order.specs.declared.cell.Facet.{Facet}
 use Rattle.point_order.specs.Facets.{facets_of}
 use Rattle.face_list.specs.Tables.{cell_at}
-use Rattle.alpha_complex.specs.Judged.{is_listed_around, small_among}
+use Rattle.alpha_complex.specs.Judged.{is_listed_around, admitted_triples}
 use Rattle.alpha_complex.proofs.Leasts.{facets_least}
 use Rattle.alpha_complex.proofs.covers.cell_cover_least.Goals as goal
 
 pub returns : goal.returns
 returns c a l =
-    let faces = c.args.own.now.faces.now in
-    let t = λ (x : ℕ) (f : Facet). is_listed_around (small_among x faces.triples) c.args.pair.now f in
+    let faces = c.args.higher.now.faces.now in
+    let t = λ (x : ℕ) (f : Facet). is_listed_around (admitted_triples x faces.triples) c.args.pair.now f in
     let cell = c.index-cells-number.result in
     let same : cell ≡ cell_at faces.cells c.args.number =
     c.index-cells-number.is ∙ ap (λ (v : List Cell). get_or v c.args.number cell) c.cells.ensures

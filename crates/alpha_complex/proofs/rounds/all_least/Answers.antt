@@ -5,6 +5,6 @@ use Rattle.alpha_complex.proofs.rounds.all_least.Goals as goal
 
 pub loop-number-preserved : goal.loop-number-preserved
 loop-number-preserved c =
-    all_step is_small_cell (cell_at c.args.own.now.faces.now.cells) c.args.around.now c.loop-number.number-index _
+    all_step is_small_cell (cell_at c.args.faces.now.cells) c.args.around.now c.loop-number.number-index _
     c.loop-number.least c.least_at.result _ c.loop-number-test.true c.least_at.ensures c.greater-least.ensures
     c.loop-number.invariant

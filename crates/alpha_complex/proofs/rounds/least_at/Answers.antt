@@ -7,13 +7,13 @@ use Rattle.alpha_complex.proofs.rounds.least_at.Goals as goal
 
 pub number_at-requires : goal.number_at-requires
 number_at-requires c =
-    let e = length_zip (λ x n. IsLeastOf (λ a. is_small_cell a x) n) c.args.own.now.faces.now.cells
-    c.args.own.now.cells.now c.requires.own.cells in
+    let e = length_zip (λ x n. IsLeastOf (λ a. is_small_cell a x) n) c.args.faces.now.cells
+    c.args.cells.now c.requires.cells in
     let h = c.requires.number in
     omega (arith, e, h)
 
 pub returns : goal.returns
 returns c a l =
-    let z = zip_at (λ x n. IsLeastOf (λ a. is_small_cell a x) n) c.args.own.now.faces.now.cells c.args.own.now.cells.now
-    c.args.number _ 0 c.requires.own.cells c.requires.number in
+    let z = zip_at (λ x n. IsLeastOf (λ a. is_small_cell a x) n) c.args.faces.now.cells c.args.cells.now
+    c.args.number _ 0 c.requires.cells c.requires.number in
     z a l ∙ ap (λ n. nat_le n a) (sym c.number_at.ensures)

@@ -5,4 +5,4 @@ use Rattle.alpha_complex.proofs.Leasts.{AnyLeft}
 use Rattle.alpha_complex.proofs.rounds.some_least.Given as goal
 
 abbrev pub invariant-loop-number : goal.invariant-loop-number
-invariant-loop-number l = AnyLeft is_small_cell (cell_at l.own.faces.now.cells) l.around l.number-index l.least
+invariant-loop-number l = AnyLeft is_small_cell (cell_at l.faces.cells) l.around l.number-index l.least

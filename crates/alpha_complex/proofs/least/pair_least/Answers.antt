@@ -1,24 +1,24 @@
 use Rattle.std.proofs.Common.{ℕ, List, [], sym, subst, ap, ◌∙◌, min}
 use Rattle.std.specs.Prelude.{◌||◌}
-use Rattle.std.specs.List.{list_any, list_all}
+use Rattle.std.specs.List.{list_any}
 use Rattle.std.proofs.lemmas.List.{get_or_default}
 use Rattle.point_order.specs.declared.cell.Cell.{Cell}
 use Rattle.face_list.specs.Tables.{numbered}
-use Rattle.alpha_complex.specs.Judged.{covers, is_admitted_pair, is_small_by, is_small_cell, small_among}
+use Rattle.alpha_complex.specs.Judged.{admitted_triples, covers, is_admitted_pair, is_small_by, is_small_cell}
 use Rattle.alpha_complex.specs.Leasts.{IsLeastOf}
 use Rattle.alpha_complex.proofs.Leasts.{either_least}
-use Rattle.alpha_complex.proofs.least.alphas_of_pair.Goals as goal
+use Rattle.alpha_complex.proofs.least.pair_least.Goals as goal
 
--- the three numbers of the pair, from the triples and cells around it
+-- from the cells around the pair, by itself, or from the triples around it
 pub returns : goal.returns
 returns c =
-    let own = c.args.own.now in
-    let faces = own.faces.now in
+    let higher = c.args.higher.now in
+    let faces = higher.faces.now in
     let g : List ℕ × List Cell = (c.pair-pair.result.0, numbered faces.cells c.pair-pair.result.1.now) in
     let f = c.pair-pair.ensures.face ∙ get_or_default faces.pairs c.args.index g ([], []) c.requires.index in
     let small = λ (a : ℕ). list_any (is_small_cell a) g.1 in
     let itself = λ (a : ℕ). is_small_by a g in
-    let cover = λ (a : ℕ). list_any (covers (small_among a faces.triples) g.0) g.1 in
+    let cover = λ (a : ℕ). list_any (covers (admitted_triples a faces.triples) g.0) g.1 in
     let around = c.pair-pair.result.1.now in
     let told : IsLeastOf (λ a. is_small_by a (c.points.result.now, numbered c.cells.result.now around))
     c.own_least-itself.result = c.own_least-itself.ensures in
@@ -32,11 +32,4 @@ returns c =
     (min c.own_least-itself.result c.cover_least-cover.result) c.some_least-regular.ensures rest in
     let sum = c.min-2.ensures ∙ ap (λ n. min c.some_least-regular.result n) c.min.ensures in
     let whole = subst (λ n. IsLeastOf (λ a. small a || (itself a || cover a)) n) (sym sum) all in
-    record {
-      admitted = subst (λ (v : List ℕ × List Cell). IsLeastOf (λ a. is_admitted_pair faces.triples a v) c.min-2.result)
-          f whole;
-      regular = subst (λ (v : List ℕ × List Cell). IsLeastOf (λ a. list_any (is_small_cell a) v.1)
-          c.some_least-regular.result) f c.some_least-regular.ensures;
-      interior = subst (λ (v : List ℕ × List Cell). IsLeastOf (λ a. list_all (is_small_cell a) v.1) c.all_least.result)
-          f c.all_least.ensures;
-    }
+    subst (λ (v : List ℕ × List Cell). IsLeastOf (λ a. is_admitted_pair faces.triples a v) c.min-2.result) f whole

@@ -4,7 +4,7 @@ use Rattle.face_list.specs.Tables.{cell_at}
 use Rattle.alpha_complex.specs.Judged.{is_small_cell}
 use Rattle.alpha_complex.specs.Leasts.{IsLeastOf}
 use Rattle.alpha_complex.proofs.Leasts.{zip_written}
-use Rattle.alpha_complex.proofs.alone.own_of_cells.Goals as goal
+use Rattle.alpha_complex.proofs.alone.leasts_of_cells.Goals as goal
 
 pub returns : goal.returns
 returns c =
