@@ -39,12 +39,11 @@ use Rattle.point_order.specs.Sets.{IsIn}
 use Rattle.face_list.specs.Faces.{full_cells, parts_in, points_in, points_with_cells, with_cells}
 use Rattle.face_list.specs.Seen.{FaceLists}
 use Rattle.face_list.proofs.Cited.{points_of_complex}
-use Rattle.alpha_complex.specs.declared.numbers.FaceAlphas.{FaceAlphas}
 use Rattle.alpha_complex.specs.declared.numbers.Alphas.{Alphas}
 use Rattle.alpha_complex.specs.Admitted.{is_admitted, is_admitted_cell}
 use Rattle.alpha_complex.specs.Condition.{AreFacesOf}
-use Rattle.alpha_complex.specs.Leasts.{IsLeastOf}
-use Rattle.alpha_complex.specs.Told.{TellsFace, TellsFaces}
+use Rattle.alpha_complex.specs.Leasts.{AreLeastOf, IsLeastOf}
+use Rattle.alpha_complex.specs.Told.{TellsFaces}
 use Rattle.text_sheets.specs.Lines.{held}
 use Rattle.alpha_steps.specs.declared.threshold.Threshold.{Threshold}
 use Rattle.alpha_steps.specs.declared.threshold.Threshold.TheVariants.{At, Never}
@@ -152,18 +151,14 @@ step_from s face n h = elim (cases_lt n (2 ^ 34)) [
     above : (alpha : ℕ) → alpha < n → nat_le n alpha ≡ false
     above alpha k = grind (arith, nat_tests)
 
--- the number at which a face is admitted
-abbrev pub admitted_at : FaceAlphas → ℕ
-admitted_at a = a.admitted
-
 -- of faces
-steps_told : (s : List ℕ) (faces : List (List ℕ)) (alphas : List FaceAlphas) → AllZip (TellsFace s) faces alphas →
-    (f : List ℕ × Threshold) → IsIn f (steps_of faces (map admitted_at alphas)) → IsStep s f.0 f.1
-steps_told s [] alphas z f i = absurd i
+steps_told : (s : List ℕ) (faces : List (List ℕ)) (ns : List ℕ) → AreLeastOf (is_admitted s) faces ns →
+    (f : List ℕ × Threshold) → IsIn f (steps_of faces ns) → IsStep s f.0 f.1
+steps_told s [] ns z f i = absurd i
 steps_told s (p ∷ faces) [] z f i = absurd i
-steps_told s (p ∷ faces) (a ∷ alphas) z f (inl e) = subst (λ (v : List ℕ × Threshold). IsStep s v.0 v.1) e
-    (step_from s p a.admitted z.0.admitted)
-steps_told s (p ∷ faces) (a ∷ alphas) z f (inr i) = steps_told s faces alphas z.1 f i
+steps_told s (p ∷ faces) (n ∷ ns) z f (inl e) = subst (λ (v : List ℕ × Threshold). IsStep s v.0 v.1) e
+    (step_from s p n z.0)
+steps_told s (p ∷ faces) (n ∷ ns) z f (inr i) = steps_told s faces ns z.1 f i
 
 -- of cells
 cell_steps_told :
@@ -190,9 +185,8 @@ points_are (p ∷ points) cells = ap (λ l. p ∷ l) (points_are points cells)
 -- the thresholds of the complex of a set
 pub thresholds_are :
     (s : List ℕ) (faces : FaceLists) (known : Alphas) (t : Inside) → AreFacesOf s faces → t.faces.now ≡ faces →
-    TellsFaces s known → t.pairs.items ≡ map admitted_at known.pairs.items →
-    t.triples.items ≡ map admitted_at known.triples.items → t.cells.items ≡ known.cells.items →
-    AreThresholds s (steps_seen t)
+    TellsFaces s known → t.pairs.items ≡ known.pairs.items → t.triples.items ≡ known.triples.items →
+    t.cells.items ≡ known.cells.items → AreThresholds s (steps_seen t)
 thresholds_are s faces known t h e told pe te ce =
     let pairs : map (λ f. f.0) t.faces.now.pairs ≡ parts 2 = ap (λ (v : FaceLists). map (λ f. f.0) v.pairs) e ∙ ap
     (λ (v : List (List ℕ × List Cell)). map (λ f. f.0) v) h.pairs ∙ faces_are (parts 2) (complex s) in
@@ -200,10 +194,10 @@ thresholds_are s faces known t h e told pe te ce =
     ap (λ (v : FaceLists). map (λ f. f.0) v.triples) e ∙ ap (λ (v : List (List ℕ × List Cell)). map (λ f. f.0) v)
     h.triples ∙ faces_are (parts 3) (complex s) in
     let cells : t.faces.now.cells ≡ complex s = ap (λ (v : FaceLists). v.cells) e ∙ h.cells in
-    let pair_count = ap length pe ∙ length-map known.pairs.items admitted_at ∙ sym
-    (length_zip (TellsFace s) (parts 2) known.pairs.items told.pairs) in
-    let triple_count = ap length te ∙ length-map known.triples.items admitted_at ∙ sym
-    (length_zip (TellsFace s) (parts 3) known.triples.items told.triples) in
+    let pair_count = ap length pe ∙ sym
+    (length_zip (λ p n. IsLeastOf (λ alpha. is_admitted s alpha p) n) (parts 2) known.pairs.items told.pairs) in
+    let triple_count = ap length te ∙ sym
+    (length_zip (λ p n. IsLeastOf (λ alpha. is_admitted s alpha p) n) (parts 3) known.triples.items told.triples) in
     let cell_count = ap length ce ∙ sym
     (length_zip (λ c n. IsLeastOf (λ alpha. is_admitted_cell s alpha c) n) (complex s) known.cells.items told.cells) in
     record {

@@ -13,7 +13,7 @@
 //! ```
 #![tactic(auto)]
 
-ghost use Rattle.std.specs.Prelude.{◌≡◌, ℕ, List, map, IfOk};
+ghost use Rattle.std.specs.Prelude.{ℕ, List, IfOk};
 ghost use Rattle.alpha_complex.specs.Condition.{AreFaces, AreFacesOf};
 ghost use Rattle.alpha_steps.specs.Thresholds.{AreThresholds};
 
@@ -21,20 +21,13 @@ pub mod steps;
 mod texts;
 pub mod threshold;
 
-use alpha_complex::{Alphas, FaceAlphas, alphas};
+use alpha_complex::{Alphas, alphas};
 use face_list::Faces;
 use std::alloc::{AllocError, Global};
 use std::thread::Threads;
 pub use steps::Thresholds;
 pub use texts::{put_steps, text_room};
 pub use threshold::Threshold;
-
-// The least alphas at which some faces are admitted.
-fn admitted(alloc: Global, alphas: &[FaceAlphas]) -> Result<Vec<u64>, AllocError>
-    ensures { IfOk result (λ v. v.items ≡ map (λ a. a.admitted) alphas.now) }
-{
-    alphas.iter().map(|face| face.admitted).collect(alloc)
-}
 
 /// The thresholds of the faces of a complex, which are what `face_list::faces` gives of the complex of a solid set, its
 /// cells in order.
@@ -50,13 +43,10 @@ pub fn thresholds<'a, 'b, R: Threads + Sync>(
     ensures { IfOk result (λ list. (s : List ℕ) → AreFacesOf s faces.now → AreThresholds s list) }
 {
     let known = alphas(rt, alloc, faces)?;
-    let pairs = admitted(alloc, &known.pairs)?;
-    let triples = admitted(alloc, &known.triples)?;
     let Alphas {
         faces,
-        points: _,
-        pairs: _,
-        triples: _,
+        pairs,
+        triples,
         cells,
     } = known;
     Ok(Thresholds {
