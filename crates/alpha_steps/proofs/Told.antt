@@ -49,7 +49,7 @@ use Rattle.alpha_steps.specs.declared.threshold.Threshold.{Threshold}
 use Rattle.alpha_steps.specs.declared.threshold.Threshold.TheVariants.{At, Never}
 use Rattle.alpha_steps.specs.declared.steps.Thresholds.TheInside.{Inside}
 use Rattle.alpha_steps.specs.Seen.{
-  AreCounted,
+  AreAsMany,
   StepSlots,
   cell_steps_of,
   step_of_cell,
@@ -227,7 +227,7 @@ thresholds_are s faces known t h e told pe te ce =
 -- ---- as they are seen
 
 -- there are as many numbers as pairs that are seen
-pub pairs_as_seen : (t : Inside) (v : StepSlots) → AreCounted t → steps_seen t ≡ v →
+pub pairs_as_seen : (t : Inside) (v : StepSlots) → AreAsMany t → steps_seen t ≡ v →
     length t.pairs.items ≡ length v.pairs
 pairs_as_seen t v h e =
     step_count (map (λ f. f.0) t.faces.now.pairs) t.pairs.items
@@ -235,7 +235,7 @@ pairs_as_seen t v h e =
     ∙ ap (λ (w : StepSlots). length w.pairs) e
 
 -- as many as triples
-pub triples_as_seen : (t : Inside) (v : StepSlots) → AreCounted t → steps_seen t ≡ v →
+pub triples_as_seen : (t : Inside) (v : StepSlots) → AreAsMany t → steps_seen t ≡ v →
     length t.triples.items ≡ length v.triples
 triples_as_seen t v h e =
     step_count (map (λ f. f.0) t.faces.now.triples) t.triples.items
@@ -243,13 +243,13 @@ triples_as_seen t v h e =
     ∙ ap (λ (w : StepSlots). length w.triples) e
 
 -- as many as slots of cells
-pub cells_as_seen : (t : Inside) (v : StepSlots) → AreCounted t → steps_seen t ≡ v →
+pub cells_as_seen : (t : Inside) (v : StepSlots) → AreAsMany t → steps_seen t ≡ v →
     length t.cells.items ≡ length v.cells
 cells_as_seen t v h e = cell_step_count t.faces.now.cells t.cells.items h.cells ∙ ap
     (λ (w : StepSlots). length w.cells) e
 
 -- and as many Full cells as slots that hold one
-pub cells_held : (t : Inside) (v : StepSlots) → AreCounted t → steps_seen t ≡ v →
+pub cells_held : (t : Inside) (v : StepSlots) → AreAsMany t → steps_seen t ≡ v →
     length (full_cells t.faces.now.cells) ≡ length (held v.cells)
 cells_held t v h e = cell_held t.faces.now.cells t.cells.items h.cells ∙ ap
     (λ (w : StepSlots). length (held w.cells)) e

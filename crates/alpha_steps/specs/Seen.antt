@@ -41,7 +41,7 @@ steps_seen t =
     }
 
 -- As many numbers as faces.
-pub record AreCounted (t : Inside) : Type 0 where
+pub record AreAsMany (t : Inside) : Type 0 where
   pub pairs : length t.pairs.items ≡ length t.faces.now.pairs
   pub triples : length t.triples.items ≡ length t.faces.now.triples
   pub cells : length t.cells.items ≡ length t.faces.now.cells

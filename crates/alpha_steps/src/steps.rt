@@ -26,11 +26,11 @@ impl<'a, 'b> Model for Thresholds<'a, 'b> {
 
     ghost Value = { StepSlots };
 
-    ghost use Rattle.alpha_steps.specs.Seen.{AreCounted, steps_seen};
+    ghost use Rattle.alpha_steps.specs.Seen.{AreAsMany, steps_seen};
 
     ghost view = { steps_seen };
 
-    ghost invariant = { AreCounted };
+    ghost invariant = { AreAsMany };
 }
 
 // A face of an index with the threshold of its number.

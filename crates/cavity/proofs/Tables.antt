@@ -41,7 +41,7 @@ use Rattle.point_order.specs.declared.cell.Cell.{Cell}
 use Rattle.point_order.specs.Sets.{IsIn}
 use Rattle.cavity.specs.declared.cell_table.Mark.{Mark}
 use Rattle.cavity.specs.declared.cell_table.Mark.TheVariants.{Free, Gone}
-use Rattle.cavity.specs.Tables.{IsReached, IsFreeFrom, KeepsReached, IsMarked, cell_home}
+use Rattle.cavity.specs.Tables.{IsReachedFrom, IsFreeFrom, KeepsReached, IsMarked, cell_home}
 
 -- ---- places of lists
 
@@ -116,7 +116,7 @@ reached_still old new same home i r = record {
 -- and the one that was put
 reached_now : (old new : List Mark) → ((k : ℕ) → slice_index_or old k Free ≢ Free →
     slice_index_or new k Free ≡ slice_index_or old k Free) → (home at : ℕ) (mark : Mark) → IsFreeFrom old home at →
-    slice_index_or new at Free ≡ mark → IsReached new home mark
+    slice_index_or new at Free ≡ mark → IsReachedFrom new home mark
 reached_now old new same home at mark f e = record {
   place = at;
   from = f.from;
@@ -130,7 +130,7 @@ module _ (marks : List Mark) (home at : ℕ) (mark : Mark) (f : IsFreeFrom marks
   set_kept = reached_still marks (slice_set marks at mark) (λ k. kept_set marks at k mark f.free)
 
   -- it is reached from its home
-  pub set_reached : at < length marks → IsReached (slice_set marks at mark) home mark
+  pub set_reached : at < length marks → IsReachedFrom (slice_set marks at mark) home mark
   set_reached h = reached_now marks (slice_set marks at mark) (λ k. kept_set marks at k mark f.free) home at mark f
       (get_or-set_at marks at at mark Free refl h)
 
@@ -140,9 +140,9 @@ module _ (marks : List Mark) (home at : ℕ) (mark : Mark) (f : IsFreeFrom marks
       (reached_still marks (marks ++ mark ∷ []) (λ k. kept_push marks k mark))
 
   -- so it is where it is put behind the last
-  pub push_reached : (new : List Mark) → new ≡ marks ++ mark ∷ [] → length marks ≤ at → IsReached new home mark
+  pub push_reached : (new : List Mark) → new ≡ marks ++ mark ∷ [] → length marks ≤ at → IsReachedFrom new home mark
   push_reached new e h =
-      subst (λ (l : List Mark). IsReached l home mark) (sym e)
+      subst (λ (l : List Mark). IsReachedFrom l home mark) (sym e)
       (reached_now marks (marks ++ mark ∷ []) (λ k. kept_push marks k mark) home at mark f
       (get_or_push marks mark Free at (omega (arith, f.below, h))))
 
@@ -165,23 +165,23 @@ goes_pushed now goes room pushed c e r p = p ∙ ap (λ l. l ++ c ∷ []) (r ∙
 
 -- a table in which the mark of one more cell is put
 pub marked_more : (mask : ℕ) (old new : List Mark) (goes : List Cell) (c : Cell) → IsMarked mask old goes →
-    KeepsReached old new → length old ≤ length new → IsReached new (cell_home mask c) (Gone (length goes)) →
+    KeepsReached old new → length old ≤ length new → IsReachedFrom new (cell_home mask c) (Gone (length goes)) →
     IsMarked mask new (goes ++ c ∷ [])
 marked_more mask old new goes c t k h r = record {
   homes = omega (arith, t.homes);
-  reached = λ i q e. at_pushed goes c i q e (λ j x. IsReached new (cell_home mask x) (Gone j))
+  reached = λ i q e. at_pushed goes c i q e (λ j x. IsReachedFrom new (cell_home mask x) (Gone j))
       (λ j x d. k (cell_home mask x) j (t.reached j x d)) r;
 }
 
 -- a table in which the marks of the first cells stand, and of the next
 pub marked_next : (mask : ℕ) (old new : List Mark) (goes : List Cell) (i : ℕ) (c : Cell) → i < length goes →
     c ≡ slice_index_or goes i c → IsMarked mask old (take i goes) → KeepsReached old new → length old ≤ length new →
-    IsReached new (cell_home mask c) (Gone i) → IsMarked mask new (take (i + 1) goes)
+    IsReachedFrom new (cell_home mask c) (Gone i) → IsMarked mask new (take (i + 1) goes)
 marked_next mask old new goes i c h e t k longer r =
     let n : length (take i goes) ≡ i = length-take-le i goes (omega (arith, h)) in
     subst (IsMarked mask new) (sym (take_next goes i c h e))
     (marked_more mask old new (take i goes) c t k longer
-    (subst (λ (j : ℕ). IsReached new (cell_home mask c) (Gone j)) (sym n) r))
+    (subst (λ (j : ℕ). IsReachedFrom new (cell_home mask c) (Gone j)) (sym n) r))
 
 -- one in which the marks of all cells stand
 pub marked_all : (mask : ℕ) (marks : List Mark) (goes : List Cell) (i : ℕ) → length goes ≤ i →
@@ -214,7 +214,7 @@ ArePassed marks home goes q n = (k : ℕ) → home ≤ k → k < n → IsPassed 
 -- where a free place follows, the cell is none of those that go
 pub none_goes : (marks : List Mark) (home : ℕ) (goes : List Cell) (q : Cell) (n : ℕ) → ArePassed marks home goes q n →
     home ≤ n → slice_index_or marks n Free ≡ Free →
-    ((i : ℕ) → slice_get goes i ≡ Some q → IsReached marks home (Gone i)) → ¬ (IsIn q goes)
+    ((i : ℕ) → slice_get goes i ≡ Some q → IsReachedFrom marks home (Gone i)) → ¬ (IsIn q goes)
 none_goes marks home goes q n passed h free reached m =
     let p = at_some goes q m in
     let r = reached p.0 p.1 in

@@ -52,7 +52,7 @@ abbrev pub cell_home : ℕ → Cell → ℕ
 cell_home mask q = home_under mask (cell_number q)
 
 -- the mark stands in the table at a place from which back to the home none is free
-pub record IsReached (marks : List Mark) (home : ℕ) (mark : Mark) : Type 0 where
+pub record IsReachedFrom (marks : List Mark) (home : ℕ) (mark : Mark) : Type 0 where
   pub place : ℕ
   pub from : home ≤ place
   pub at : slice_index_or marks place Free ≡ mark
@@ -67,12 +67,12 @@ pub record IsFreeFrom (marks : List Mark) (home at : ℕ) : Type 0 where
 
 -- every mark of a cell that goes is reached still
 abbrev pub KeepsReached : List Mark → List Mark → Type 0
-KeepsReached old new = (home i : ℕ) → IsReached old home (Gone i) → IsReached new home (Gone i)
+KeepsReached old new = (home i : ℕ) → IsReachedFrom old home (Gone i) → IsReachedFrom new home (Gone i)
 
 -- every home lies in the table, and every cell that goes is reached from its home
 pub record IsMarked (mask : ℕ) (marks : List Mark) (goes : List Cell) : Type 0 where
   pub homes : mask < length marks
-  pub reached : (i : ℕ) (q : Cell) → slice_get goes i ≡ Some q → IsReached marks (cell_home mask q) (Gone i)
+  pub reached : (i : ℕ) (q : Cell) → slice_get goes i ≡ Some q → IsReachedFrom marks (cell_home mask q) (Gone i)
 
 -- another cell that goes than this one is on the facet
 pub record IsBeside (goes : List Cell) (cell : Cell) (facet : Facet) : Type 0 where

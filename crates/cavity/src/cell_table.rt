@@ -8,7 +8,7 @@ ghost use Rattle.cavity.specs.Tables.{
   mixed_all,
   cell_number,
   home_under,
-  IsReached,
+  IsReachedFrom,
   KeepsReached,
   IsFreeFrom,
   IsMarked,
@@ -81,7 +81,7 @@ fn is_at(cells: &[Spot], i: usize, cell: &Cell) -> bool
 // Whether the cell, whose home it is, is one of those that go. Each place of it in their list is to be reached from
 // there.
 pub(crate) fn is_marked(marks: &[Mark], home: usize, goes: &[Spot], cell: &Cell) -> bool
-    requires { (i : ℕ) → slice_get goes.now i ≡ Some cell.now → IsReached marks.now home (Mark.Gone i) }
+    requires { (i : ℕ) → slice_get goes.now i ≡ Some cell.now → IsReachedFrom marks.now home (Mark.Gone i) }
     ensures { IsTrue result ↔ IsIn cell.now goes.now }
 {
     for at in home..marks.len() {
@@ -114,7 +114,7 @@ fn free_from(marks: &[Mark], home: usize) -> usize
 pub(crate) fn put(marks: &mut Vec<Mark>, home: usize, mark: Mark) -> Result<(), AllocError>
     requires home { home ≤ length marks.old.items }
     requires mark { mark ≢ Mark.Free }
-    ensures reached { OnOk result (IsReached marks.new.items home mark) }
+    ensures reached { OnOk result (IsReachedFrom marks.new.items home mark) }
     ensures kept { KeepsReached marks.old.items marks.new.items }
     ensures longer { length marks.old.items ≤ length marks.new.items }
 {

@@ -51,7 +51,7 @@ use Rattle.cell_stars.specs.Places.{Placed, IsStarred, lies_in}
 use Rattle.cell_stars.specs.Adding.{
   AddsPlaces,
   AreStarsHere,
-  HasMore,
+  HasMorePlaces,
   HasStarAt,
   IsOneMore,
   IsStaying,
@@ -165,7 +165,7 @@ adds_one place p i at old new a h o = rw o.is (record { heads = heads_set old at
     one : o.star.1.0 ≡ p
     one = ap (λ (y : Numbered). y.1.0) (one_at old at o.star h.star h.within o.was h.is) ∙ h.vertex
 
-    here : HasMore (λ q j. (p ≡ q) × (i ≡ j)) old more
+    here : HasMorePlaces (λ q j. (p ≡ q) × (i ≡ j)) old more
     here = record {
       before = o.star;
       was = at_place old at o.star o.star h.within o.was;
@@ -180,9 +180,9 @@ adds_one place p i at old new a h o = rw o.is (record { heads = heads_set old at
       );
     }
 
-    each : (w : Numbered) → IsIn w (slice_set old at more) → HasMore (λ q j. (p ≡ q) × (i ≡ j)) old w
+    each : (w : Numbered) → IsIn w (slice_set old at more) → HasMorePlaces (λ q j. (p ≡ q) × (i ≡ j)) old w
     each w m = elim (in_set old at more o.star a.order h.within o.was w m) [
-      | inl e ↦ subst (HasMore (λ q j. (p ≡ q) × (i ≡ j)) old) e here
+      | inl e ↦ subst (HasMorePlaces (λ q j. (p ≡ q) × (i ≡ j)) old) e here
       | inr r ↦ record {
         before = w;
         was = r.0;

@@ -53,9 +53,9 @@ use Rattle.cell_stars.specs.Places.{
   cells_of,
   lies_in,
   is_after,
-  IsOneOf,
+  IsOneBehind,
   HaveNone,
-  IsLeastOf,
+  IsLeastBehind,
 }
 use Rattle.cell_stars.proofs.CellLaws.{in_withs, withs_new, withs_sorted}
 
@@ -104,13 +104,13 @@ at_named slots (j ∷ is) c m = by (at slots j) refl m (λ k. at_named slots is 
 
 -- a cell of the star behind the bound is one of the list of these, in order
 one_member : (slots : List (Option Cell)) (star : List ℕ) (bound : Option Cell) (c : Cell) →
-    IsOneOf slots star bound c → IsIn c (filter (is_after bound) (with_cells (named slots star) []))
+    IsOneBehind slots star bound c → IsIn c (filter (is_after bound) (with_cells (named slots star) []))
 one_member slots star bound c o = filtered_true (is_after bound) (with_cells (named slots star) []) c
     (withs_new (named slots star) [] c (named_at slots star o.place c o.listed o.there)) o.behind
 
 -- and each of that list is
 member_one : (slots : List (Option Cell)) (star : List ℕ) (bound : Option Cell) (c : Cell) →
-    IsIn c (filter (is_after bound) (with_cells (named slots star) [])) → IsOneOf slots star bound c
+    IsIn c (filter (is_after bound) (with_cells (named slots star) [])) → IsOneBehind slots star bound c
 member_one slots star bound c m =
     let f = filtered_from (is_after bound) (with_cells (named slots star) []) c m in
     elim (in_withs (named slots star) [] c f.0) [
@@ -153,7 +153,7 @@ after_more (Some b) c d e f = ap is_lt (cell_before b c d (is_less (cell_cmp b c
 
 -- the least one is the first, and the others are those behind it
 pub least_first : (slots : List (Option Cell)) (star : List ℕ) (bound : Option Cell) (c : Cell) →
-    IsLeastOf slots star bound c → behind slots star bound ≡ c ∷ behind slots star (Some c)
+    IsLeastBehind slots star bound c → behind slots star bound ≡ c ∷ behind slots star (Some c)
 unfolding IsStrictlySortedBy
 least_first slots star bound c l =
     same_members (behind slots star bound) (c ∷ behind slots star (Some c)) (behind_sorted slots star bound) (
@@ -171,7 +171,7 @@ least_first slots star bound c l =
     there : (d : Cell) → IsIn d (behind slots star bound) → IsIn d (c ∷ behind slots star (Some c))
     there d m = by (cell_cmp c d) refl
       where
-        one : IsOneOf slots star bound d
+        one : IsOneBehind slots star bound d
         one = member_one slots star bound d m
 
         by : (o : Ordering) → cell_cmp c d ≡ o → IsIn d (c ∷ behind slots star (Some c))
@@ -199,11 +199,11 @@ one_cell c d e = cc e
 
 -- what was found so far, each found thing being seen as a cell
 abbrev pub Found : {X : Type 0} → (X → Cell) → List (Option Cell) → List ℕ → Option Cell → Option X → Type 0
-Found f slots star bound o = MatchOption o (HaveNone slots star bound) (λ x. IsLeastOf slots star bound (f x))
+Found f slots star bound o = MatchOption o (HaveNone slots star bound) (λ x. IsLeastBehind slots star bound (f x))
 
 -- a cell at one of the first i places is at one of the first i + 1
 widened : (slots : List (Option Cell)) (star : List ℕ) (bound : Option Cell) (i : ℕ) (c : Cell) →
-    IsOneOf slots (take i star) bound c → IsOneOf slots (take (suc i) star) bound c
+    IsOneBehind slots (take i star) bound c → IsOneBehind slots (take (suc i) star) bound c
 widened slots star bound i c o = record {
   place = o.place;
   listed = more_one star i o.place o.listed;
@@ -219,7 +219,7 @@ pub passed : {X : Type 0} (f : X → Cell) (slots : List (Option Cell)) (star : 
     Found f slots (take (suc i) star) bound o
 passed {X} f slots star bound i x o h e none_so found = by o found
   where
-    narrowed : (d : Cell) → IsOneOf slots (take (suc i) star) bound d → IsOneOf slots (take i star) bound d
+    narrowed : (d : Cell) → IsOneBehind slots (take (suc i) star) bound d → IsOneBehind slots (take i star) bound d
     narrowed d k = elim (in_more star i x 0 k.place h e k.listed) [
       | inl m ↦ record { place = k.place; listed = m; there = k.there; behind = k.behind }
       | inr q ↦ absurd (none_so d (ap (at slots) q ∙ k.there) k.behind)
@@ -232,10 +232,10 @@ passed {X} f slots star bound i x o h e none_so found = by o found
 -- a cell that is not less than the least so far
 pub not_less : (slots : List (Option Cell)) (star : List ℕ) (bound : Option Cell) (i x : ℕ) (c cell : Cell) →
     i < length star → x ≡ slice_index_or star i 0 → at slots x ≡ Some cell → cell_cmp c cell ≡ Less →
-    IsLeastOf slots (take i star) bound c → IsLeastOf slots (take (suc i) star) bound c
+    IsLeastBehind slots (take i star) bound c → IsLeastBehind slots (take (suc i) star) bound c
 not_less slots star bound i x c cell h e a lt l = record { one = widened slots star bound i c l.one; least = least }
   where
-    least : (d : Cell) → IsOneOf slots (take (suc i) star) bound d → cell_cmp d c ≡ Less → ⊥
+    least : (d : Cell) → IsOneBehind slots (take (suc i) star) bound d → cell_cmp d c ≡ Less → ⊥
     least d k m = elim (in_more star i x 0 k.place h e k.listed) [
       | inl n ↦ l.least d (record { place = k.place; listed = n; there = k.there; behind = k.behind }) m
       | inr q ↦ (let same : cell ≡ d = one_cell cell d (sym a ∙ ap (at slots) q ∙ k.there) in
@@ -247,12 +247,12 @@ not_less slots star bound i x c cell h e a lt l = record { one = widened slots s
 pub lesser : {X : Type 0} (f : X → Cell) (slots : List (Option Cell)) (star : List ℕ) (bound : Option Cell) (i x : ℕ)
     (o : Option X) (cell : Cell) → i < length star → x ≡ slice_index_or star i 0 → at slots x ≡ Some cell →
     is_after bound cell ≡ true → ((c : X) → o ≡ Some c → cell_cmp (f c) cell ≡ Less → ⊥) →
-    Found f slots (take i star) bound o → IsLeastOf slots (take (suc i) star) bound cell
+    Found f slots (take i star) bound o → IsLeastBehind slots (take (suc i) star) bound cell
 lesser {X} f slots star bound i x o cell h e a b none_so found =
     record { one = record { place = x; listed = last_one star i x 0 h e; there = a; behind = b }; least = least }
   where
     older : (o : Option X) → ((c : X) → o ≡ Some c → cell_cmp (f c) cell ≡ Less → ⊥) →
-        Found f slots (take i star) bound o → (d : Cell) → IsOneOf slots (take i star) bound d →
+        Found f slots (take i star) bound o → (d : Cell) → IsOneBehind slots (take i star) bound d →
         cell_cmp d cell ≡ Less → ⊥
     older None w n d k m = n d k
     older (Some c) w l d k m = by (cell_cmp (f c) cell) refl
@@ -262,7 +262,7 @@ lesser {X} f slots star bound i x o cell h e a b none_so found =
         by Equal q = l.least d k (subst (λ y. cell_cmp d y ≡ Less) (sym (cell_same (f c) cell q)) m)
         by Greater q = l.least d k (cell_before d cell (f c) m (cell_after (f c) cell q))
 
-    least : (d : Cell) → IsOneOf slots (take (suc i) star) bound d → cell_cmp d cell ≡ Less → ⊥
+    least : (d : Cell) → IsOneBehind slots (take (suc i) star) bound d → cell_cmp d cell ≡ Less → ⊥
     least d k m = elim (in_more star i x 0 k.place h e k.listed) [
       | inl n ↦ older o none_so found d (record { place = k.place; listed = n; there = k.there; behind = k.behind }) m
       | inr q ↦ (let same : cell ≡ d = one_cell cell d (sym a ∙ ap (at slots) q ∙ k.there) in
@@ -315,7 +315,7 @@ passed_one f slots star bound i x o h e n found = rw add-one (passed f slots sta
 pub lesser_one : {X : Type 0} (f : X → Cell) (slots : List (Option Cell)) (star : List ℕ) (bound : Option Cell)
     (i x : ℕ) (o : Option X) (cell : Cell) → i < length star → x ≡ slice_index_or star i 0 → at slots x ≡ Some cell →
     is_after bound cell ≡ true → ((c : X) → o ≡ Some c → cell_cmp (f c) cell ≡ Less → ⊥) →
-    Found f slots (take i star) bound o → IsLeastOf slots (take (i + 1) star) bound cell
+    Found f slots (take i star) bound o → IsLeastBehind slots (take (i + 1) star) bound cell
 lesser_one f slots star bound i x o cell h e a b n found =
     rw add-one (lesser f slots star bound i x o cell h e a b n found)
 

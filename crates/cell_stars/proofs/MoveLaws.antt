@@ -53,7 +53,17 @@ use Rattle.point_order.specs.declared.cell.Cell.{Cell}
 use Rattle.point_order.specs.Facets.{points_of}
 use Rattle.point_order.specs.Sets.{IsIn, IsAscending}
 use Rattle.cell_stars.specs.Places.{Placed, AreStars, IsStarred, at, cells_of, lies_in, touches_in}
-use Rattle.cell_stars.specs.Moves.{IsStarFor, AreFreed, IsFreed, AreComing, AreNew, IsComing, Stays, IsVacant, IsClear}
+use Rattle.cell_stars.specs.Moves.{
+  IsStarFor,
+  AreFreed,
+  IsFreed,
+  AreComing,
+  AreNew,
+  IsComing,
+  StandsYet,
+  IsVacant,
+  IsClear,
+}
 use Rattle.point_order.specs.Sets.{is_among}
 use Rattle.cell_stars.specs.Grids.{bucket_of}
 use Rattle.cell_stars.specs.Plans.{AreFor}
@@ -118,7 +128,7 @@ untouched place c f t = (let v = touched_vertex place c t in f v.0 v.1 v.2)
 
 -- a cell stays where its place is not freed
 pub stays_is : (b : Placed) (freed : List ℕ) (c : Cell) (i : ℕ) (r : Bool) → AreStars b → at b.slots i ≡ Some c →
-    r ≡ is_among i freed → MatchBool (not r) (Stays b freed c) (touches_in b.place c ≡ true → (j : ℕ) →
+    r ≡ is_among i freed → MatchBool (not r) (StandsYet b freed c) (touches_in b.place c ≡ true → (j : ℕ) →
     at b.slots j ≡ Some c → IsIn j freed)
 stays_is b freed c i true a e f = λ t j g. subst (λ k. IsIn k freed) (a.once i j c e g) (among_from i freed (sym f))
 stays_is b freed c i false a e f = record {
@@ -223,7 +233,7 @@ freed_all b gone n freed new h f s = record {
 -- these cells are those of the first n fresh ones that touch the bucket and do not stay
 pub record ComingSoFar (b : Placed) (freed : List ℕ) (fresh : List Cell) (n : ℕ) (coming : List Cell) : Type 0 where
   pub each : (c : Cell) → IsIn c coming → IsComing b freed fresh c
-  pub all : (c : Cell) → IsIn c (take n fresh) → touches_in b.place c ≡ true → IsIn c coming ⊎ Stays b freed c
+  pub all : (c : Cell) → IsIn c (take n fresh) → touches_in b.place c ≡ true → IsIn c coming ⊎ StandsYet b freed c
 
 -- of no cell yet none comes
 pub coming_none : (b : Placed) (freed : List ℕ) (fresh coming : List Cell) → coming ≡ [] →
@@ -231,7 +241,7 @@ pub coming_none : (b : Placed) (freed : List ℕ) (fresh coming : List Cell) →
 coming_none b freed fresh coming e = record {
   each = λ i m. absurd (subst (IsIn i) e m);
   all =
-      each_none (λ c. touches_in b.place c ≡ true → IsIn c coming ⊎ Stays b freed c) fresh;
+      each_none (λ c. touches_in b.place c ≡ true → IsIn c coming ⊎ StandsYet b freed c) fresh;
 }
 
 -- the next one comes
@@ -244,18 +254,18 @@ coming_more b freed fresh n coming new c h e f p s = record {
     | inl k ↦ s.each d k
     | inr q ↦ subst (IsComing b freed fresh) q (record { comes = at_place fresh n c c h e; touches = f.0; new = f.1 })
   ];
-  all = each_more (λ c. touches_in b.place c ≡ true → IsIn c new ⊎ Stays b freed c) fresh n c c h e
+  all = each_more (λ c. touches_in b.place c ≡ true → IsIn c new ⊎ StandsYet b freed c) fresh n c c h e
       (λ d m t. elim (s.all d m t) [ inl k ↦ inl (pushed_old coming new c d p k) | inr k ↦ inr k ])
       (λ t. inl (pushed_new coming new c p));
 }
 
 -- or it stays or touches another bucket, and does not
 pub coming_same : (b : Placed) (freed : List ℕ) (fresh : List Cell) (n : ℕ) (coming : List Cell) (c : Cell) →
-    n < length fresh → c ≡ slice_index_or fresh n c → (touches_in b.place c ≡ true → Stays b freed c) →
+    n < length fresh → c ≡ slice_index_or fresh n c → (touches_in b.place c ≡ true → StandsYet b freed c) →
     ComingSoFar b freed fresh n coming → ComingSoFar b freed fresh (n + 1) coming
 coming_same b freed fresh n coming c h e f s = record {
   each = s.each;
-  all = each_more (λ c. touches_in b.place c ≡ true → IsIn c coming ⊎ Stays b freed c) fresh n c c h e s.all
+  all = each_more (λ c. touches_in b.place c ≡ true → IsIn c coming ⊎ StandsYet b freed c) fresh n c c h e s.all
       (λ t. inr (f t));
 }
 
@@ -264,7 +274,8 @@ pub coming_all : (b : Placed) (freed : List ℕ) (fresh : List Cell) (n : ℕ) (
     AreSameCells coming new → ComingSoFar b freed fresh n coming → AreComing b freed fresh new
 coming_all b freed fresh n coming new h f s = record {
   each = λ c m. s.each c (f.1 c m);
-  all = λ c m t. elim (each_taken (λ c. touches_in b.place c ≡ true → IsIn c coming ⊎ Stays b freed c) fresh n h s.all c
+  all = λ c m t. elim (each_taken (λ c. touches_in b.place c ≡ true → IsIn c coming ⊎ StandsYet b freed c) fresh n h
+      s.all c
       m t) [ inl k ↦ inl (f.0 c k) | inr k ↦ inr k ];
 }
 

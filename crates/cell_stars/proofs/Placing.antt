@@ -16,7 +16,7 @@ use Rattle.point_order.specs.declared.cell.Cell.{Cell}
 use Rattle.point_order.specs.CellOrder.{cell_cmp}
 use Rattle.point_order.specs.Sets.{IsIn}
 use Rattle.cell_stars.specs.Swaps.{Differ, with_cell, with_cells}
-use Rattle.cell_stars.specs.Places.{Placed, AreStars, IsNamed, at, live, cells_of, lies_in, touches_in}
+use Rattle.cell_stars.specs.Places.{Placed, AreStars, IsPlaceAround, at, live, cells_of, lies_in, touches_in}
 use Rattle.cell_stars.proofs.CellLaws.{in_with}
 use Rattle.cell_stars.proofs.Least.{at_live}
 
@@ -31,7 +31,7 @@ stands_new w b e s = record {
   touching = λ i c q. absurd (free i c q);
 }
   where
-    none : (p : ℕ) {i : ℕ} → IsNamed b.place b.slots p i → ⊥
+    none : (p : ℕ) {i : ℕ} → IsPlaceAround b.place b.slots p i → ⊥
     none p n = (let t = ap (λ o. lies_in o p) (sym e) ∙ n.inside in absurd (cc t))
 
     free : (i : ℕ) (c : Cell) → at b.slots i ≡ Some c → ⊥

@@ -41,9 +41,9 @@ use Rattle.cell_stars.specs.Places.{
 use Rattle.cell_stars.specs.Plans.{
   PlanView,
   Allows,
-  IsPlanFor,
+  MakesExchange,
   AreFor,
-  ArePut,
+  ArePutInto,
   AreRewritten,
   StarsAfter,
   AreBelow,
@@ -140,7 +140,7 @@ pub are_put : (gone fresh : List Cell) (freed : List ℕ) (placed : List (ℕ ×
     (grown : List (Option Cell)) → AreFor gone fresh freed placed b → HasSameCells b.slots grown →
     ((i : ℕ) (c : Cell) → IsIn (i, c) placed → i < length grown) →
     AreBelow (length grown) (freeing freed ++ putting placed)
-    × ArePut freed placed b.slots (set_all (freeing freed ++ putting placed) grown)
+    × ArePutInto freed placed b.slots (set_all (freeing freed ++ putting placed) grown)
 are_put gone fresh freed placed b grown f s h = (
   below_append (length grown) (freeing freed) (putting placed) frees puts,
   rw (set_append (freeing freed) (putting placed) grown) (record { put = put; kept = kept; only = only }),
@@ -330,14 +330,15 @@ pub is_plan : (gone fresh : List Cell) (b : Placed) (p : PlanView) (freed : List
     ((i : ℕ) (c : Cell) → IsIn (i, c) placed → i < length (or_else p.grown b.slots)) →
     p.slots ≡ freeing freed ++ putting placed →
     HasSameStars b.stars (or_else p.more b.stars) →
-    ((n : ℕ) (s : ℕ × List ℕ) → IsIn (n, s) p.stars → n < length (or_else p.more b.stars)) → IsPlanFor gone fresh b p
+    ((n : ℕ) (s : ℕ × List ℕ) → IsIn (n, s) p.stars → n < length (or_else p.more b.stars)) →
+    MakesExchange gone fresh b p
 is_plan gone fresh b p freed placed a f r k o s h e t g =
     let u = are_put gone fresh freed placed b (or_else p.grown b.slots) f s h in
     let below = below_all (length (or_else p.more b.stars)) p.stars g in
     let v = are_rewritten gone fresh freed placed b p.stars (set_all p.keys (or_else p.parts b.keys))
     (or_else p.more b.stars) a f r k t below in
     let m = rewritten_is_moved gone fresh freed placed b (done p b) refl a f
-    (subst (λ cs. ArePut freed placed b.slots (set_all cs (or_else p.grown b.slots))) (sym e) u.1) v in
+    (subst (λ cs. ArePutInto freed placed b.slots (set_all cs (or_else p.grown b.slots))) (sym e) u.1) v in
     record {
       allows = record {
         slots = subst (λ cs. AreBelow (length (or_else p.grown b.slots)) cs) (sym e) u.0;

@@ -4,7 +4,7 @@ use Rattle.std.proofs.Common.{inl, inr, sym, ◌∙◌, ap}
 use Rattle.point_order.specs.declared.cell.Cell.{Cell}
 use Rattle.point_order.specs.Facets.{points_of}
 use Rattle.point_order.specs.Sets.{IsIn}
-use Rattle.cell_stars.specs.Places.{IsNamed, IsStarred, at, lies_in, touches_in}
+use Rattle.cell_stars.specs.Places.{IsPlaceAround, IsStarred, at, lies_in, touches_in}
 use Rattle.cell_stars.specs.Plans.{RewrittenIsMoved}
 
 -- where cells are put and stars rewritten so, the stars are those of the cells and the exchange is made
@@ -23,7 +23,7 @@ rewritten_is_moved gone fresh freed placed old new e s f r w = (
     at_home : (p : ℕ) → lies_in old.place p ≡ true → lies_in new.place p ≡ true
     at_home p t = ap (λ o. lies_in o p) e ∙ t
 
-    names : (p i : ℕ) → IsStarred new.keys new.stars p i → IsNamed new.place new.slots p i
+    names : (p i : ℕ) → IsStarred new.keys new.stars p i → IsPlaceAround new.place new.slots p i
     names p i m = elim ((w.starred p i).0 m) [
       | inl o ↦ (let t = s.names p i o.0 in record {
         cell = t.cell;

@@ -43,7 +43,7 @@ use Rattle.point_order.specs.Facets.{points_of}
 use Rattle.point_order.specs.Sets.{IsIn, IsAscending}
 use Rattle.cell_stars.specs.Places.{Placed, AreFiled, IsStarred, lies_in, part_of, star_at}
 use Rattle.cell_stars.specs.Plans.{AreFor, AreVertices}
-use Rattle.cell_stars.specs.Moves.{AreTouched, AreNumbered, IsNumberFor, IsOwnNumber, IsSpare, IsTurnAdded}
+use Rattle.cell_stars.specs.Moves.{AreVerticesAt, AreTurnsFor, IsNumberFor, IsOwnNumber, IsSpare, IsTurnAdded}
 use Rattle.list_laws.specs.Lists.{Gathers}
 use Rattle.cell_stars.specs.Gathering.{FromCell, FromPoint}
 use Rattle.cell_stars.proofs.KeyLaws.{owned_by, in_owned, owned_in, Keys, vertices, BelongsAt, one_key, at_key, no_key}
@@ -100,7 +100,7 @@ are_vertices gone fresh none first second all e f g o = record {
 -- those of them that lie in the bucket are touched
 pub are_touched : (gone fresh : List Cell) (b : Placed) (freed : List ℕ) (placed : List (ℕ × Cell)) (vertices : List ℕ)
     → AreFor gone fresh freed placed b → AreVertices gone fresh vertices →
-    AreTouched b freed placed (filter (lies_in b.place) vertices)
+    AreVerticesAt b freed placed (filter (lies_in b.place) vertices)
 are_touched gone fresh b freed placed vertices f v = record {
   inside = λ p i. (filtered_from (lies_in b.place) vertices p i).1;
   gone = λ i p c j t q l. filtered_true (lies_in b.place) vertices p (v.all p c (inl (f.freed_gone i c j t).0) q) l;
@@ -235,7 +235,7 @@ numbered_more b ps k p least more turns new h e a s = record {
 
 -- of all
 pub numbered_all : (b : Placed) (ps : List ℕ) (n least : ℕ) (turns : List (ℕ × ℕ)) → IsAscending ps → length ps ≤ n →
-    NumberedSoFar b (take n ps) least turns → AreNumbered b ps turns × (map (λ t. t.1) turns ≡ ps)
+    NumberedSoFar b (take n ps) least turns → AreTurnsFor b ps turns × (map (λ t. t.1) turns ≡ ps)
 numbered_all b ps n least turns a h s = (
   record {
     each = λ k p i. subst (λ (l : List ℕ). IsIn p l) same (mapped_true (λ t. t.1) (k, p) turns i);

@@ -51,7 +51,7 @@ IsStaying b freed w =
     × (IsStarred b.keys b.stars w.1.0 i × (IsIn i freed → ⊥) → IsIn i w.1.1)
 
 -- the star has the places of the other, of the same vertex, and those that R tells of the vertex
-pub record HasMore (R : ℕ → ℕ → Type 0) (old : List Numbered) (w : Numbered) : Type 0 where
+pub record HasMorePlaces (R : ℕ → ℕ → Type 0) (old : List Numbered) (w : Numbered) : Type 0 where
   pub before : Numbered
   pub was : IsIn before old
   pub same : before.1.0 ≡ w.1.0
@@ -60,4 +60,4 @@ pub record HasMore (R : ℕ → ℕ → Type 0) (old : List Numbered) (w : Numbe
 -- each star does, and they have the same numbers and vertices
 pub record AddsPlaces (R : ℕ → ℕ → Type 0) (old new : List Numbered) : Type 0 where
   pub heads : map head_of new ≡ map head_of old
-  pub each : (w : Numbered) → IsIn w new → HasMore R old w
+  pub each : (w : Numbered) → IsIn w new → HasMorePlaces R old w

@@ -47,7 +47,7 @@ pub record AreFreed (b : Placed) (gone : List Cell) (freed : List ℕ) : Type 0 
   pub all : (i : ℕ) (c : Cell) → at b.slots i ≡ Some c → IsIn c gone → touches_in b.place c ≡ true → IsIn i freed
 
 -- the cell stands at a place that is not freed
-pub record Stays (b : Placed) (freed : List ℕ) (c : Cell) : Type 0 where
+pub record StandsYet (b : Placed) (freed : List ℕ) (c : Cell) : Type 0 where
   pub place : ℕ
   pub there : at b.slots place ≡ Some c
   pub kept : IsIn place freed → ⊥
@@ -61,7 +61,7 @@ pub record IsComing (b : Placed) (freed : List ℕ) (fresh : List Cell) (c : Cel
 -- all of them
 pub record AreComing (b : Placed) (freed : List ℕ) (fresh coming : List Cell) : Type 0 where
   pub each : (c : Cell) → IsIn c coming → IsComing b freed fresh c
-  pub all : (c : Cell) → IsIn c fresh → touches_in b.place c ≡ true → IsIn c coming ⊎ Stays b freed c
+  pub all : (c : Cell) → IsIn c fresh → touches_in b.place c ≡ true → IsIn c coming ⊎ StandsYet b freed c
 
 -- no fresh cell that touches the bucket stands there
 abbrev pub AreNew : Placed → List Cell → Type 0
@@ -77,7 +77,7 @@ abbrev pub IsVacant : List (Option Cell) → List ℕ → ℕ → Type 0
 IsVacant slots freed i = (c : Cell) → at slots i ≡ Some c → IsIn i freed
 
 -- a vertex in the bucket of a cell that goes or comes
-pub record AreTouched (b : Placed) (freed : List ℕ) (placed : List (ℕ × Cell)) (vertices : List ℕ) : Type 0 where
+pub record AreVerticesAt (b : Placed) (freed : List ℕ) (placed : List (ℕ × Cell)) (vertices : List ℕ) : Type 0 where
   pub inside : (p : ℕ) → IsIn p vertices → lies_in b.place p ≡ true
   pub gone : (i p : ℕ) (c : Cell) → IsIn i freed → at b.slots i ≡ Some c → IsIn p (points_of c) →
       lies_in b.place p ≡ true → IsIn p vertices
@@ -109,7 +109,7 @@ pub record IsTurnAdded (b : Placed) (p least more : ℕ) (old new : List (ℕ ×
       × ((i : ℕ) → IsStarred b.keys b.stars p i → ⊥))
 
 -- The numbers of the stars of these vertices after an exchange: one for each, which had its star or none.
-pub record AreNumbered (b : Placed) (vertices : List ℕ) (turns : List (ℕ × ℕ)) : Type 0 where
+pub record AreTurnsFor (b : Placed) (vertices : List ℕ) (turns : List (ℕ × ℕ)) : Type 0 where
   pub each : (n p : ℕ) → IsIn (n, p) turns → IsIn p vertices
   pub all : (p : ℕ) → IsIn p vertices → (n : ℕ) × IsIn (n, p) turns
   pub apart : (n p q : ℕ) → IsIn (n, p) turns → IsIn (n, q) turns → p ≡ q
@@ -147,8 +147,8 @@ pub record IsRewriting (b : Placed) (freed : List ℕ) (placed : List (ℕ × Ce
     (writes : List (ℕ × (ℕ × List ℕ))) : Type 0 where
   pub vertices : List ℕ
   pub turns : List (ℕ × ℕ)
-  pub touched : AreTouched b freed placed vertices
-  pub numbered : AreNumbered b vertices turns
+  pub touched : AreVerticesAt b freed placed vertices
+  pub numbered : AreTurnsFor b vertices turns
   pub after : AreStarsAfter b freed placed turns writes
 
 -- two stars that were written for one vertex have one number, and if one has a place, so has the other

@@ -105,7 +105,7 @@ abbrev pub IsStarred : List (List (ℕ × ℕ)) → List (ℕ × List ℕ) → �
 IsStarred keys stars p i = IsStarredBy (part_of keys p) stars p i
 
 -- what a star has: the place of a cell with the vertex, which lies in the bucket
-pub record IsNamed (place : Option (ℕ × ℕ)) (slots : List (Option Cell)) (p i : ℕ) : Type 0 where
+pub record IsPlaceAround (place : Option (ℕ × ℕ)) (slots : List (Option Cell)) (p i : ℕ) : Type 0 where
   pub cell : Cell
   pub there : at slots i ≡ Some cell
   pub has : IsIn p (points_of cell)
@@ -116,7 +116,7 @@ pub record IsNamed (place : Option (ℕ × ℕ)) (slots : List (Option Cell)) (p
 -- at two places, and each touches the bucket.
 pub record AreStars (b : Placed) : Type 0 where
   pub order : AreFiled b.keys
-  pub names : (p i : ℕ) → IsStarred b.keys b.stars p i → IsNamed b.place b.slots p i
+  pub names : (p i : ℕ) → IsStarred b.keys b.stars p i → IsPlaceAround b.place b.slots p i
   pub listed : (p i : ℕ) (c : Cell) → at b.slots i ≡ Some c → IsIn p (points_of c) → lies_in b.place p ≡ true →
       IsStarred b.keys b.stars p i
   pub filled : (k : ℕ × ℕ) → IsIn k (part_of b.keys k.0) → (i : ℕ) × IsStarred b.keys b.stars k.0 i
@@ -129,7 +129,7 @@ is_after None c = true
 is_after (Some b) c = is_lt (cell_cmp b c)
 
 -- a cell at one of the places, behind the bound
-pub record IsOneOf (slots : List (Option Cell)) (star : List ℕ) (bound : Option Cell) (c : Cell) : Type 0 where
+pub record IsOneBehind (slots : List (Option Cell)) (star : List ℕ) (bound : Option Cell) (c : Cell) : Type 0 where
   pub place : ℕ
   pub listed : IsIn place star
   pub there : at slots place ≡ Some c
@@ -137,12 +137,12 @@ pub record IsOneOf (slots : List (Option Cell)) (star : List ℕ) (bound : Optio
 
 -- there is none
 abbrev pub HaveNone : List (Option Cell) → List ℕ → Option Cell → Type 0
-HaveNone slots star bound = (c : Cell) → IsOneOf slots star bound c → ⊥
+HaveNone slots star bound = (c : Cell) → IsOneBehind slots star bound c → ⊥
 
 -- it is the least of them: none of them comes before it
-pub record IsLeastOf (slots : List (Option Cell)) (star : List ℕ) (bound : Option Cell) (c : Cell) : Type 0 where
-  pub one : IsOneOf slots star bound c
-  pub least : (d : Cell) → IsOneOf slots star bound d → cell_cmp d c ≡ Less → ⊥
+pub record IsLeastBehind (slots : List (Option Cell)) (star : List ℕ) (bound : Option Cell) (c : Cell) : Type 0 where
+  pub one : IsOneBehind slots star bound c
+  pub least : (d : Cell) → IsOneBehind slots star bound d → cell_cmp d c ≡ Less → ⊥
 
 -- An exchange by places. A cell that is not gone stays at its place, each fresh cell that touches the bucket
 -- gets one, and no other cell stands anywhere.

@@ -60,7 +60,7 @@ pub record Allows (p : PlanView) (b : Placed) : Type 0 where
   pub after : AreStars (done p b)
 
 -- the plan makes the exchange in the bucket
-pub record IsPlanFor (gone fresh : List Cell) (b : Placed) (p : PlanView) : Type 0 where
+pub record MakesExchange (gone fresh : List Cell) (b : Placed) (p : PlanView) : Type 0 where
   pub allows : Allows p b
   pub cells : cells_of (done p b).slots ≡ swapped_at b.place gone fresh (cells_of b.slots)
 
@@ -110,7 +110,7 @@ pub record AreFor (gone fresh : List Cell) (freed : List ℕ) (placed : List (�
   pub single : (i j : ℕ) (c : Cell) → IsIn (i, c) placed → IsIn (j, c) placed → i ≡ j
 
 -- What stands at a place after is what was put there, or else what stood there, where the place was not freed.
-pub record ArePut (freed : List ℕ) (placed : List (ℕ × Cell)) (old new : List (Option Cell)) : Type 0 where
+pub record ArePutInto (freed : List ℕ) (placed : List (ℕ × Cell)) (old new : List (Option Cell)) : Type 0 where
   pub put : (i : ℕ) (c : Cell) → IsIn (i, c) placed → at new i ≡ Some c
   pub kept : (i : ℕ) (c : Cell) → at old i ≡ Some c → (IsIn i freed → ⊥) → at new i ≡ Some c
   pub only : (i : ℕ) (c : Cell) → at new i ≡ Some c → IsIn (i, c) placed ⊎ ((at old i ≡ Some c) × (IsIn i freed → ⊥))
@@ -130,6 +130,6 @@ pub record AreRewritten (freed : List ℕ) (placed : List (ℕ × Cell)) (old : 
 abbrev pub RewrittenIsMoved : Type 0
 RewrittenIsMoved =
     (gone fresh : List Cell) (freed : List ℕ) (placed : List (ℕ × Cell)) (old new : Placed) → new.place ≡ old.place →
-    AreStars old → AreFor gone fresh freed placed old → ArePut freed placed old.slots new.slots →
+    AreStars old → AreFor gone fresh freed placed old → ArePutInto freed placed old.slots new.slots →
     AreRewritten freed placed old new.keys new.stars →
     AreStars new × IsMoved gone fresh old new

@@ -3,7 +3,7 @@ use Rattle.std.specs.Prelude.{◌≡◌, ℕ, true, List, [], ◌∷◌, length,
 use Rattle.point_order.specs.Sets.{IsIn}
 use Rattle.point_order.specs.declared.cell.Cell.{Cell}
 use Rattle.cell_stars.specs.Places.{Placed, AreStars, cells_of, swapped_at, touches_in}
-use Rattle.cell_stars.specs.Plans.{PlanView, Allows, AreBelow, IsPlanFor, done, or_else, set_all}
+use Rattle.cell_stars.specs.Plans.{PlanView, Allows, AreBelow, MakesExchange, done, or_else, set_all}
 
 -- what stands at the places of the changes before each of them, in turn
 abbrev pub stood : {X : Type 0} → List (ℕ × X) → List X → List (ℕ × X)
@@ -69,11 +69,11 @@ pub record IsWayBack (gone fresh : List Cell) (c : Placed) (q : PlanView) : Type
   pub plan : PlanView
   pub bucket : Placed
   pub turn : IsTurn plan bucket q c
-  pub there : IsPlanFor fresh gone bucket plan
+  pub there : MakesExchange fresh gone bucket plan
   pub cells : cells_of bucket.slots ≡ swapped_at c.place gone fresh (cells_of c.slots)
 
 -- After an exchange that found its cells so, the plan leads back.
 abbrev pub TurnLeadsBack : Type 0
 TurnLeadsBack =
-    (gone fresh : List Cell) (p q : PlanView) (b c : Placed) → IsPlanFor gone fresh b p → IsTurn p b q c →
+    (gone fresh : List Cell) (p q : PlanView) (b c : Placed) → MakesExchange gone fresh b p → IsTurn p b q c →
     AreReady b.place gone fresh (cells_of b.slots) → IsWayBack fresh gone c q

@@ -17,7 +17,7 @@ ghost use Rattle.point_order.specs.Sets.{IsIn, IsAscending, is_among};
 ghost use Rattle.cell_stars.specs.Places.{at, touches_in};
 ghost use Rattle.cell_stars.specs.Swaps.{Differ};
 ghost use Rattle.cell_stars.specs.Homes.{AreHomes};
-ghost use Rattle.cell_stars.specs.Moves.{AreComing, AreNew, IsClear, Stays};
+ghost use Rattle.cell_stars.specs.Moves.{AreComing, AreNew, IsClear, StandsYet};
 
 use crate::cells::Cells;
 use crate::matched::Matched;
@@ -153,7 +153,7 @@ impl Cells {
     // Whether the cell, by a look through a star, stands at a place that is not freed.
     fn stays(&self, cell: &Cell, freed: &[u32]) -> bool
         requires { IsAscending freed.now }
-        ensures { MatchBool result (Stays self.now freed.now cell.now) (touches_in self.now.place cell.now ≡ true →
+        ensures { MatchBool result (StandsYet self.now freed.now cell.now) (touches_in self.now.place cell.now ≡ true →
             (i : ℕ) → at self.now.slots i ≡ Some cell.now → IsIn i freed.now) }
     {
         let _ = &self.slots;
@@ -181,7 +181,7 @@ impl Cells {
         ensures clear { OnOk result (IfSome p.now (λ p. (q : ℕ) → IsIn q clear.new.items → IsClear self.now p q)) }
         ensures comes { IfOk result (λ r. MatchBool r ((touches_in self.now.place cell.now ≡ true)
             × ((i : ℕ) → at self.now.slots i ≡ Some cell.now → IsIn i freed.now)) (touches_in self.now.place cell.now
-            ≡ true → Stays self.now freed.now cell.now)) }
+            ≡ true → StandsYet self.now freed.now cell.now)) }
     {
         if !touches {
             return Ok(false);

@@ -1,5 +1,5 @@
-//! Numbers of places, or of stars, that are likely to be free. No contract speaks of them: whoever takes one looks first
-//! whether it is free.
+//! Numbers of places, or of stars, that are likely to be free. No contract speaks of them: whoever takes one looks
+//! first whether it is free.
 
 use crate::around::Around;
 use std::alloc::{AllocError, Global};

@@ -6,9 +6,9 @@ ghost use Rattle.std.specs.Option.{option_map};
 ghost use Rattle.point_order.specs.declared.cell.Cell.{Cell};
 ghost use Rattle.point_order.specs.Sets.{IsIn, IsAscending};
 ghost use Rattle.cell_stars.specs.Places.{AreStars, cells_of, lies_in};
-ghost use Rattle.cell_stars.specs.Plans.{AreBelow, or_else, set_all, IsOnceFor, IsPlanFor};
+ghost use Rattle.cell_stars.specs.Plans.{AreBelow, or_else, set_all, IsOnceFor, MakesExchange};
 ghost use Rattle.cell_stars.specs.Turns.{AreReady};
-ghost use Rattle.cell_stars.specs.Moves.{AreKeysAfter, AreTouched, HasSameCells, HasSameStars, IsRewriting};
+ghost use Rattle.cell_stars.specs.Moves.{AreKeysAfter, AreVerticesAt, HasSameCells, HasSameStars, IsRewriting};
 
 use crate::around::{Around, copied_stars};
 use crate::cells::Cells;
@@ -172,7 +172,7 @@ impl Cells {
     ) -> Result<StarsPlan, AllocError>
         requires order { IsAscending moves.now.freed.items }
         requires vertices { IsAscending vertices.now }
-        requires touched { AreTouched self.now moves.now.freed.items moves.now.placed.items
+        requires touched { AreVerticesAt self.now moves.now.freed.items moves.now.placed.items
             (filter (lies_in self.now.place) vertices.now) }
         ensures before { IfOk result (λ plan. AreStars self.now) }
         ensures stars { IfOk result (λ plan. IsRewriting self.now moves.now.freed.items moves.now.placed.items
@@ -217,7 +217,7 @@ impl Cells {
     ) -> Result<Plan, AllocError>
         requires matched { IsOnceFor gone.now fresh.now matched.now }
         requires found { found ≡ true → AreReady self.now.place gone.now fresh.now (cells_of self.now.slots) }
-        ensures { IfOk result (λ plan. IsPlanFor gone.now fresh.now self.now plan) }
+        ensures { IfOk result (λ plan. MakesExchange gone.now fresh.now self.now plan) }
     {
         let moves = self.moves(alloc, gone, fresh, matched, found)?;
         let stars = self.plan_stars(alloc, &moves, matched.vertices())?;

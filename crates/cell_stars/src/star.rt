@@ -3,7 +3,7 @@
 ghost use Rattle.std.specs.Prelude.{◌≡◌, None, Some, MatchOption, false};
 ghost use Rattle.std.specs.Ordering.{is_lt};
 ghost use Rattle.point_order.specs.CellOrder.{cell_cmp};
-ghost use Rattle.cell_stars.specs.Places.{is_after, at, IsLeastOf, HaveNone};
+ghost use Rattle.cell_stars.specs.Places.{is_after, at, IsLeastBehind, HaveNone};
 
 use crate::order::compare;
 use crate::slots::{Slot, cell_at};
@@ -54,7 +54,7 @@ fn is_before(least: Option<&Cell>, cell: &Cell) -> bool
 // The least cell behind the bound at one of the places.
 fn least_behind<'a>(slots: &'a [Slot], star: &[u32], bound: &Option<Cell>) -> Option<&'a Cell>
     ensures { MatchOption result (HaveNone slots.now star.now bound.now)
-        (λ c. IsLeastOf slots.now star.now bound.now c.now) }
+        (λ c. IsLeastBehind slots.now star.now bound.now c.now) }
 {
     let mut least: Option<&Cell> = None;
     for i in star {

@@ -24,8 +24,8 @@ ghost use Rattle.cell_stars.specs.Places.{lies_in, star_at, IsStarred};
 ghost use Rattle.cell_stars.specs.Adding.{head_of, IsStaying};
 ghost use Rattle.cell_stars.specs.Moves.{
   AreMarked,
-  AreTouched,
-  AreNumbered,
+  AreVerticesAt,
+  AreTurnsFor,
   AreStarsAfter,
   IsNumberFor,
   IsOwnNumber,
@@ -159,7 +159,7 @@ impl Cells {
     // The numbers that the stars of the vertices have after an exchange.
     fn turns(&self, alloc: Global, vertices: &[Point]) -> Result<Vec<(u32, Point)>, AllocError>
         requires { IsAscending vertices.now }
-        ensures numbered { IfOk result (λ turns. AreNumbered self.now vertices.now turns.items) }
+        ensures numbered { IfOk result (λ turns. AreTurnsFor self.now vertices.now turns.items) }
         ensures vertices { IfOk result (λ turns. map (λ t. t.1) turns.items ≡ vertices.now) }
     {
         let _ = &self.stars;
@@ -276,7 +276,7 @@ impl Cells {
     ) -> Result<Vec<(u32, Around)>, AllocError>
         requires order { IsAscending moves.now.freed.items }
         requires vertices { IsAscending vertices.now }
-        requires touched { AreTouched self.now moves.now.freed.items moves.now.placed.items
+        requires touched { AreVerticesAt self.now moves.now.freed.items moves.now.placed.items
             (filter (lies_in self.now.place) vertices.now) }
         ensures { IfOk result (λ writes. IsRewriting self.now moves.now.freed.items moves.now.placed.items
             writes.items) }

@@ -53,7 +53,7 @@ use Rattle.cell_store.specs.Buckets.{BucketContent, InHand, bucket_at}
 use Rattle.cell_store.specs.Shares.{Shows, Stands}
 use Rattle.cell_store.specs.Stars.{bucket_of_first}
 use Rattle.cell_store.specs.Meshes.{AllInHand, IsWhole, all_cells, all_entries, without_bucket}
-use Rattle.cell_store.specs.Gathered.{AreGathered, HasHome, home_of, is_home}
+use Rattle.cell_store.specs.Gathered.{AreGatheredFrom, HasHome, home_of, is_home}
 use Rattle.cell_store.proofs.MeshLaws.{
   cells_of,
   in_flat,
@@ -65,7 +65,7 @@ use Rattle.cell_store.proofs.MeshLaws.{
 use Rattle.cell_store.proofs.ShareLaws.{touched}
 
 -- nothing is gathered at first
-pub gathered_none : (hold : InHand) (list : List Cell) → list ≡ [] → AreGathered hold 0 list
+pub gathered_none : (hold : InHand) (list : List Cell) → list ≡ [] → AreGatheredFrom hold 0 list
 gathered_none hold list e = record {
   each = λ c i. absurd (subst (λ (v : List Cell). IsIn c v) e i);
   all =
@@ -74,8 +74,8 @@ gathered_none hold list e = record {
 
 -- the cells of one more bucket are
 pub gathered_next : (hold : InHand) (n : ℕ) (x : BucketContent) (old new : List Cell) → n < length hold.places →
-    bucket_at hold.places n ≡ Some x → HasHome hold.grid n x.cells old new → AreGathered hold n old →
-    AreGathered hold (n + 1) new
+    bucket_at hold.places n ≡ Some x → HasHome hold.grid n x.cells old new → AreGatheredFrom hold n old →
+    AreGatheredFrom hold (n + 1) new
 gathered_next hold n x old new h e (come, p, m) s = record {
   each = λ c i. elim (from_append c old m.0 (subst (λ (v : List Cell). IsIn c v) m.2 i)) [
     | inl j ↦ s.each c j
@@ -102,8 +102,8 @@ gathered_next hold n x old new h e (come, p, m) s = record {
         (same_content y x (sym f ∙ ap (bucket_at hold.places) k ∙ e)) i
 
 -- so many buckets or more are all
-pub gathered_past : (hold : InHand) (n : ℕ) (list : List Cell) → length hold.places ≤ n → AreGathered hold n list →
-    AreGathered hold (length hold.places) list
+pub gathered_past : (hold : InHand) (n : ℕ) (list : List Cell) → length hold.places ≤ n → AreGatheredFrom hold n list →
+    AreGatheredFrom hold (length hold.places) list
 gathered_past hold n list h s = record { each = s.each; all = λ c x l f i. s.all c x (omega (arith, h, l)) f i }
 
 -- the first point of a cell of a complex, which is its home
@@ -114,7 +114,7 @@ first_is s (Open t) l = (l.a, subst (IsIn l.a) (sym l.is) (inl refl), λ g. ap (
 
 -- those of all buckets are all cells of the set that the hold shows
 pub gathered_all : (hold : InHand) (s : List ℕ) (list : List Cell) → IsWhole hold → Shows hold s →
-    AreGathered hold (length hold.places) list → AreSameCells (all_cells hold.places) list
+    AreGatheredFrom hold (length hold.places) list → AreSameCells (all_cells hold.places) list
 gathered_all hold s list w sh g = (back, g.each)
   where
     back : (c : Cell) → IsIn c (all_cells hold.places) → IsIn c list
@@ -196,7 +196,8 @@ pub history_gathered : (hold : InHand) (h entries sorted : List Entry) → IsWho
     IsNonDecreasingBy (λ (e : Entry). e.number) sorted → sorted ≡ h
 history_gathered hold h entries sorted w st e p o =
     let g = mesh_gathers hold h w st in
-    let same : IsPermutation (all_entries hold.places) sorted = subst (λ (l : List Entry). IsPermutation l sorted) e p in
+    let same : IsPermutation (all_entries hold.places) sorted = subst (λ (l : List Entry). IsPermutation l sorted) e p
+    in
     g.ordered sorted same (merged_order (all_entries hold.places) sorted g.numbered same o)
 
 -- ---- a list for each bucket, which is then let go
@@ -221,8 +222,8 @@ left_here old now n all l h = subst (λ o. IsSome o) (sym (l n (omega arith))) (
 pub gathered_list : (hold : InHand) (n : ℕ) (x : BucketContent) (old new : List (Vec Cell Global))
     (list : Vec Cell Global) → n < length hold.places → bucket_at hold.places n ≡ Some x →
     HasHome hold.grid n x.cells [] list.items →
-    new ≡ old ++ list ∷ [] → AreGathered hold n (flat_map (λ list. list.items) old) →
-    AreGathered hold (n + 1) (flat_map (λ list. list.items) new)
+    new ≡ old ++ list ∷ [] → AreGatheredFrom hold n (flat_map (λ list. list.items) old) →
+    AreGatheredFrom hold (n + 1) (flat_map (λ list. list.items) new)
 gathered_list hold n x old new list h e (come, p, m) q s =
     gathered_next hold n x (flat_map f old) (flat_map f new) h e (
       come,
@@ -254,7 +255,7 @@ none_left (x ∷ l) h = absurd (omega (arith, h))
 
 -- in order the gathered cells of all buckets are the complex of the set that the hold shows
 pub complex_gathered : (hold : InHand) (s : List ℕ) (list sorted : List Cell) → IsWhole hold → Shows hold s →
-    AreGathered hold (length hold.places) list → IsStrictlySortedBy cell_cmp sorted → AreSameCells list sorted →
+    AreGatheredFrom hold (length hold.places) list → IsStrictlySortedBy cell_cmp sorted → AreSameCells list sorted →
     sorted ≡ complex s
 complex_gathered hold s list sorted w sh g o same =
     let l = gathered_all hold s list w sh g in

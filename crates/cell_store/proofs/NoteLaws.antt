@@ -82,7 +82,7 @@ use Rattle.cell_store.specs.Ready.{
   IsExchange,
   IsNoteReady,
   IsPointReady,
-  IsReady,
+  ArePlansReady,
   IsReadyFor,
   IsRoomier,
 }
@@ -145,7 +145,7 @@ found_absent s p (Err i) h = among_gap s p i (record { within = h.0; below = h.1
 -- what is ready for an exchange stays so where a bucket keeps its cells
 pub ready_noted : (t : Bool) (g b : ℕ) (gone fresh : List Cell) (places : List (Option Layout)) (plans : List PlanFor)
     (c d : Layout) → b < length places → layout_at places b ≡ Some c → d.cells ≡ c.cells →
-    IsReady t g gone fresh places plans → IsReady t g gone fresh (slice_set places b (Some d)) plans
+    ArePlansReady t g gone fresh places plans → ArePlansReady t g gone fresh (slice_set places b (Some d)) plans
 ready_noted t g b gone fresh places plans c d h e f r =
     record { each = λ l i. by l (r.each l i); apart = r.apart; others = r.others }
   where
@@ -240,8 +240,8 @@ stand_take g b places h st k y q = elim (cases_eq k b) [
 
 -- what is ready for an exchange stays so
 pub ready_put : (t : Bool) (g b : ℕ) (gone fresh : List Cell) (places : List (Option Layout)) (plans : List PlanFor)
-    (x : Option Layout) → layout_at places b ≡ None → IsReady t g gone fresh places plans →
-    IsReady t g gone fresh (slice_set places b x) plans
+    (x : Option Layout) → layout_at places b ≡ None → ArePlansReady t g gone fresh places plans →
+    ArePlansReady t g gone fresh (slice_set places b x) plans
 ready_put t g b gone fresh places plans x e r =
     record { each = λ l i. by l (r.each l i); apart = r.apart; others = r.others }
   where
@@ -295,12 +295,12 @@ same_shown c d r =
 
 -- what is ready is so over the same grid, cells and buckets
 pub ready_same : (t : Bool) (g h : ℕ) (gone fresh eg ef : List Cell) (places qs : List (Option Layout))
-    (plans : List PlanFor) → g ≡ h → gone ≡ eg → fresh ≡ ef → places ≡ qs → IsReady t g gone fresh places plans →
-    IsReady t h eg ef qs plans
+    (plans : List PlanFor) → g ≡ h → gone ≡ eg → fresh ≡ ef → places ≡ qs → ArePlansReady t g gone fresh places plans →
+    ArePlansReady t h eg ef qs plans
 ready_same t g h gone fresh eg ef places qs plans e1 e2 e3 e4 r =
-    subst (λ (n : ℕ). IsReady t n eg ef qs plans) e1
-    (subst (λ l. IsReady t g l ef qs plans) e2
-    (subst (λ l. IsReady t g gone l qs plans) e3 (subst (λ l. IsReady t g gone fresh l plans) e4 r)))
+    subst (λ (n : ℕ). ArePlansReady t n eg ef qs plans) e1
+    (subst (λ l. ArePlansReady t g l ef qs plans) e2
+    (subst (λ l. ArePlansReady t g gone l qs plans) e3 (subst (λ l. ArePlansReady t g gone fresh l plans) e4 r)))
 
 -- one bucket is another, of which holds what held of the first
 pub known_more : (P : Layout → Type 0) (b n : ℕ) (places : List (Option Layout)) (c d : Layout) → b < length places →
@@ -400,7 +400,7 @@ all_pointed g old new point r = if_some (λ p. IsPointReady g old p) (λ p. IsPo
 
 -- what is ready stays so
 pub all_ready : (t : Bool) (g : ℕ) (gone fresh : List Cell) (old new : List (Option Layout)) (plans : List PlanFor) →
-    AllRoomier old new → IsReady t g gone fresh old plans → IsReady t g gone fresh new plans
+    AllRoomier old new → ArePlansReady t g gone fresh old plans → ArePlansReady t g gone fresh new plans
 all_ready t g gone fresh old new plans r q = record {
   each = λ l i. kept_roomier (λ c. IsExchange t gone fresh c.cells l.plan) (layout_at old l.number)
       (layout_at new l.number) (λ c d m k. subst (λ y. IsExchange t gone fresh y l.plan) (sym m.cells) k)

@@ -60,7 +60,7 @@ use Rattle.cell_store.specs.Grids.{bucket_of}
 use Rattle.point_order.specs.Sets.{IsAscending}
 use Rattle.cell_stars.specs.Places.{Placed, cells_of, swapped_at}
 use Rattle.list_laws.specs.Lists.{Gathers}
-use Rattle.cell_stars.specs.Plans.{AreVertices, PlanView, IsPlanFor}
+use Rattle.cell_stars.specs.Plans.{AreVertices, PlanView, MakesExchange}
 use Rattle.cell_stars.specs.Turns.{AreReady}
 use Rattle.cell_store.specs.Buckets.{
   BucketContent,
@@ -75,7 +75,7 @@ use Rattle.cell_store.specs.Buckets.{
 }
 use Rattle.cell_store.specs.Changes.{NoneTouches, swapped_in, IsSwapped}
 use Rattle.cell_store.specs.Ready.{
-  AreApart,
+  AreForOthers,
   AreExchanged,
   AreFound,
   AreHeld,
@@ -86,9 +86,9 @@ use Rattle.cell_store.specs.Ready.{
   CanTurn,
   IsAllowed,
   IsExchange,
-  IsExchanged,
-  IsNumberOf,
-  IsReady,
+  IsBucketAfter,
+  IsBucketOf,
+  ArePlansReady,
   IsReadyFor,
   IsTurned,
   IsTurnedIn,
@@ -157,7 +157,7 @@ not_touched g b cells n c i = any_none (λ p. bucket_of g p == b) (points_of c) 
 
 -- the numbers of the points of a list
 pub numbers_are : (g : ℕ) (points none list sorted deduped : List ℕ) → none ≡ [] →
-    Gathers (IsNumberOf g) points none list → IsPermutation list sorted → deduped ≡ dedup eqb sorted →
+    Gathers (IsBucketOf g) points none list → IsPermutation list sorted → deduped ≡ dedup eqb sorted →
     (n : ℕ) → (IsIn n deduped → IsIn n (map (bucket_of g) points))
     × (IsIn n (map (bucket_of g) points) → IsIn n deduped)
 numbers_are g points none list sorted deduped e s p d n =
@@ -217,8 +217,8 @@ turn_ready : (t : Bool) (gone fresh : List Cell) (p q : PlanView) (b c : Placed)
 turn_ready false gone fresh p q b c e s r = turn_leads_back gone fresh p q b c e s r
 turn_ready true gone fresh p q b c e s r =
     let one = turn_is_one q e.plan p c e.bucket b s e.turn in
-    subst (λ (x : Placed). IsPlanFor fresh gone x q) (sym one.1)
-    (subst (λ (x : PlanView). IsPlanFor fresh gone e.bucket x) (sym one.0) e.there)
+    subst (λ (x : Placed). MakesExchange fresh gone x q) (sym one.1)
+    (subst (λ (x : PlanView). MakesExchange fresh gone e.bucket x) (sym one.0) e.there)
 
 -- ---- all plans, one after another
 
@@ -279,7 +279,7 @@ none_before t plans after b old new a n = elim (turn_of t plans after b old new 
 
 -- so no two of them are for one bucket, as before
 apart_after : (t : Bool) (plans after : List PlanFor) (old new : List (Option Layout)) →
-    AreTurned t plans after old new → AreApart plans → AreApart after
+    AreTurned t plans after old new → AreForOthers plans → AreForOthers after
 apart_after t [] [] old new a p = tt
 apart_after t [] (m ∷ ms) old new a p = absurd a
 apart_after t (l ∷ ls) [] old new a p = absurd a
@@ -346,7 +346,7 @@ turned_snoc t (k ∷ ls) (n ∷ ms) l m old new a r = (a.0, turned_snoc t ls ms 
 
 -- the plans before one are for other buckets
 apart_before : (plans : List PlanFor) (k : ℕ) (l : PlanFor) → k < length plans → l ≡ slice_index_or plans k l →
-    AreApart plans → NoneIsFor l.number (take k plans)
+    AreForOthers plans → NoneIsFor l.number (take k plans)
 apart_before [] k l h e a = absurd (omega arith)
 apart_before (x ∷ plans) zero l h e a = λ m i. absurd i
 apart_before (x ∷ plans) (suc k) l h e a = λ m i. elim i [
@@ -365,7 +365,7 @@ next_plan t plans after old new k l h e q m =
 
 -- it can be made
 pub next_allowed : (t : Bool) (plans after : List PlanFor) (old new : List (Option Layout)) (k : ℕ) (l : PlanFor) →
-    k < length after → length after ≡ length plans → l ≡ slice_index_or after k l → AreApart plans →
+    k < length after → length after ≡ length plans → l ≡ slice_index_or after k l → AreForOthers plans →
     ((x : PlanFor) → IsIn x plans → IsAllowed t old x) → AreMadeFirst t plans after old new k → IsAllowed t new l
 next_allowed t plans after old new k l h e q a f m =
     let p = next_plan t plans after old new k l h e q m in
@@ -375,7 +375,7 @@ next_allowed t plans after old new k l h e q a f m =
 
 -- and was
 pub made_next : (t : Bool) (plans after : List PlanFor) (old new next : List (Option Layout)) (k : ℕ) (l m : PlanFor) →
-    k < length after → length after ≡ length plans → l ≡ slice_index_or after k l → AreApart plans →
+    k < length after → length after ≡ length plans → l ≡ slice_index_or after k l → AreForOthers plans →
     AreMadeFirst t plans after old new k →
     length next ≡ length new → IsTurnedIn t l m new next → ((b : ℕ) → b ≢ l.number → layout_at next b ≡ layout_at new b)
     → AreMadeFirst t plans (slice_set after k m) old next (k + 1)
@@ -429,7 +429,7 @@ made_next t plans after old new next k l m h e q a s c r f = record {
 
 -- a plan that makes the exchange can be made
 pub ready_allowed : (t : Bool) (g : ℕ) (gone fresh : List Cell) (places : List (Option Layout)) (plans : List PlanFor) →
-    IsReady t g gone fresh places plans → (l : PlanFor) → IsIn l plans → IsAllowed t places l
+    ArePlansReady t g gone fresh places plans → (l : PlanFor) → IsIn l plans → IsAllowed t places l
 ready_allowed t g gone fresh places plans r l i = by (layout_at places l.number) (r.each l i)
   where
     by : (o : Option Layout) → IsSomeAnd o (λ c. IsExchange t gone fresh c.cells l.plan) →
@@ -439,7 +439,7 @@ ready_allowed t g gone fresh places plans r l i = by (layout_at places l.number)
 
 -- the exchange in one bucket
 ready_at : (t : Bool) (g : ℕ) (gone fresh : List Cell) (places : List (Option Layout)) (plans : List PlanFor)
-    (l : PlanFor) (c : Layout) → IsReady t g gone fresh places plans → IsIn l plans →
+    (l : PlanFor) (c : Layout) → ArePlansReady t g gone fresh places plans → IsIn l plans →
     layout_at places l.number ≡ Some c → IsExchange t gone fresh c.cells l.plan
 ready_at t g gone fresh places plans l c r i e =
     of_some (λ d. IsExchange t gone fresh d.cells l.plan) (layout_at places l.number) c e (r.each l i)
@@ -452,7 +452,7 @@ exchanged_one t g b gone fresh l m old new c r q e home x =
     let same : r.before ≡ c = one_value r.before c (sym (ap (layout_at old) (sym q) ∙ r.was) ∙ e) in
     let turned : IsTurned t l.plan c.cells m.plan r.after.cells =
     subst (λ (y : Layout). IsTurned t l.plan y.cells m.plan r.after.cells) same r.turned in
-    to_some (λ d. IsExchanged g b gone fresh c d) (layout_at new b) r.after (ap (layout_at new) (sym q) ∙ r.is)
+    to_some (λ d. IsBucketAfter g b gone fresh c d) (layout_at new b) r.after (ap (layout_at new) (sym q) ∙ r.is)
     (record {
       rest = r.rest ∙ ap (λ (y : Layout). record y { cells = r.after.cells }) same;
       place = turn_place t l.plan m.plan c.cells r.after.cells turned;
@@ -462,7 +462,7 @@ exchanged_one t g b gone fresh l m old new c r q e home x =
 
 -- so all plans that were ready make it in every bucket, also where none is for it
 pub exchanged : (t : Bool) (g : ℕ) (gone fresh : List Cell) (old new : List (Option Layout))
-    (plans after : List PlanFor) → IsReady t g gone fresh old plans → StandAtPlaces g (shown old) →
+    (plans after : List PlanFor) → ArePlansReady t g gone fresh old plans → StandAtPlaces g (shown old) →
     AreMade t plans after old new → (b : ℕ) → AreExchanged g b gone fresh (layout_at old b) (layout_at new b)
 exchanged t g gone fresh old new plans after r st m b = by (layout_at old b) refl
   where
@@ -475,7 +475,7 @@ exchanged t g gone fresh old new plans after r st m b = by (layout_at old b) ref
       | inl h ↦ exchanged_one t g b gone fresh h.plan h.made old new c h.turned h.number e
           (st b (content_of c) (shown_is old b c e))
           (ready_at t g gone fresh old plans h.plan c r h.listed (ap (layout_at old) h.number ∙ e))
-      | inr n ↦ (let u = r.others b n in to_some (λ d. IsExchanged g b gone fresh c d) (layout_at new b) c
+      | inr n ↦ (let u = r.others b n in to_some (λ d. IsBucketAfter g b gone fresh c d) (layout_at new b) c
           (m.others b n ∙ e) (record {
             rest = refl;
             place = refl;
@@ -485,7 +485,7 @@ exchanged t g gone fresh old new plans after r st m b = by (layout_at old b) ref
     ]
 
 -- a bucket shows what it has after the exchange
-shown_exchanged : (g b : ℕ) (gone fresh : List Cell) (c d : Layout) → IsExchanged g b gone fresh c d →
+shown_exchanged : (g b : ℕ) (gone fresh : List Cell) (c d : Layout) → IsBucketAfter g b gone fresh c d →
     content_of d ≡ swapped_in g b gone fresh (content_of c)
 shown_exchanged g b gone fresh c d x = λ i. record {
   points = (x.rest i).points;
@@ -547,11 +547,11 @@ hold_finds hold g places gone fresh eg ep st f =
 
 -- and is ready for the exchange back
 pub ready_back : (t : Bool) (g : ℕ) (gone fresh : List Cell) (old new : List (Option Layout))
-    (plans after : List PlanFor) → IsReady t g gone fresh old plans → StandAtPlaces g (shown old) →
+    (plans after : List PlanFor) → ArePlansReady t g gone fresh old plans → StandAtPlaces g (shown old) →
     AreMade t plans after old new →
     ((b : ℕ) (c : Cell) → IsIn c gone → touches g b c ≡ true → IsIn c (cells_in (shown old) b)) →
     ((b : ℕ) (c : Cell) → IsIn c fresh → touches g b c ≡ true → IsIn c (cells_in (shown old) b) → ⊥) →
-    IsReady (not t) g fresh gone new after
+    ArePlansReady (not t) g fresh gone new after
 ready_back t g gone fresh old new plans after r st m there absent = record {
   each = each;
   apart = apart_after t plans after old new m.turned r.apart;
@@ -644,7 +644,7 @@ ready_more gone fresh places plans next l e f this k i = elim (from_append k pla
 ]
 
 -- plans for numbers that ascend are apart
-apart_from : (plans : List PlanFor) → IsAscending (map (λ l. l.number) plans) → AreApart plans
+apart_from : (plans : List PlanFor) → IsAscending (map (λ l. l.number) plans) → AreForOthers plans
 apart_from [] a = tt
 apart_from (l ∷ plans) a = (
   λ k i e. (let b = below_each l.number (map (λ (k : PlanFor). k.number) plans) a.0 a.1
@@ -657,7 +657,7 @@ pub ready_all : (g : ℕ) (gone fresh : List Cell) (places : List (Option Layout
     (numbers : List ℕ) → ((k : PlanFor) → IsIn k plans → IsReadyFor false gone fresh places k) →
     map (λ l. l.number) plans ≡ numbers → IsAscending numbers →
     ((b : ℕ) → (IsIn b (numbers_of g gone) ⊎ IsIn b (numbers_of g fresh)) → IsIn b numbers) →
-    IsReady false g gone fresh places plans
+    ArePlansReady false g gone fresh places plans
 ready_all g gone fresh places plans numbers f e a all = record {
   each = f;
   apart = apart_from plans (subst IsAscending (sym e) a);

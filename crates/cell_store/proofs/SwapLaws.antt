@@ -13,10 +13,10 @@ use Rattle.cell_store.specs.Ready.{
   FindsCells,
   HasPlaceFor,
   HasRoom,
-  IsMade,
+  IsExchangeMade,
   IsNoteReady,
   IsPointReady,
-  IsReady,
+  ArePlansReady,
   NextIs,
 }
 use Rattle.cell_store.specs.declared.room.Exchange.{Exchange}
@@ -47,12 +47,12 @@ room_after next note point back e = λ i. record { swap = e i; push = note; poin
 -- it is ready
 pub next_ready : (back : Bool) (g : ℕ) (h : InHand) (x : Exchange) (after : List PlanFor) (next : Option Exchange)
     (old new : List (Option Layout)) → h.grid ≡ g → h.places ≡ shown old →
-    IsReady x.turned g x.gone.items x.fresh.items old x.plans.items → StandAtPlaces g (shown old) →
+    ArePlansReady x.turned g x.gone.items x.fresh.items old x.plans.items → StandAtPlaces g (shown old) →
     AreMade x.turned x.plans.items after old new →
     (back ≡ true → FindsCells h x.gone.items x.fresh.items) → NextIs back x after next →
-    IfSome next (λ e. IsReady e.turned g e.gone.items e.fresh.items new e.plans.items)
+    IfSome next (λ e. ArePlansReady e.turned g e.gone.items e.fresh.items new e.plans.items)
 next_ready false g h x after next old new e1 e2 r st m f n = subst
-    (λ o. IfSome o (λ e. IsReady e.turned g e.gone.items e.fresh.items new e.plans.items)) (sym n) tt
+    (λ o. IfSome o (λ e. ArePlansReady e.turned g e.gone.items e.fresh.items new e.plans.items)) (sym n) tt
 next_ready true g h x after next old new e1 e2 r st m f n =
     let y = n.0 in
     let found = f refl in
@@ -62,17 +62,17 @@ next_ready true g h x after next old new e1 e2 r st m f n =
     { grid = e1 i; places = e2 i; room = h.room }) found in
     let back = ready_back x.turned g x.gone.items x.fresh.items old new x.plans.items after r st m moved.there
     moved.absent in
-    subst (λ o. IfSome o (λ e. IsReady e.turned g e.gone.items e.fresh.items new e.plans.items)) (sym n.1)
-    (subst (λ (t : Bool). IsReady t g y.gone.items y.fresh.items new y.plans.items) (sym n.5)
-    (subst (λ (l : List Cell). IsReady _ g l y.fresh.items new y.plans.items) (sym n.3)
-    (subst (λ (l : List Cell). IsReady _ g x.fresh.items l new y.plans.items) (sym n.4)
-    (subst (λ (l : List PlanFor). IsReady _ g x.fresh.items x.gone.items new l) (sym n.2) back))))
+    subst (λ o. IfSome o (λ e. ArePlansReady e.turned g e.gone.items e.fresh.items new e.plans.items)) (sym n.1)
+    (subst (λ (t : Bool). ArePlansReady t g y.gone.items y.fresh.items new y.plans.items) (sym n.5)
+    (subst (λ (l : List Cell). ArePlansReady _ g l y.fresh.items new y.plans.items) (sym n.3)
+    (subst (λ (l : List Cell). ArePlansReady _ g x.fresh.items l new y.plans.items) (sym n.4)
+    (subst (λ (l : List PlanFor). ArePlansReady _ g x.fresh.items x.gone.items new l) (sym n.2) back))))
 
 -- ---- a hold after an exchange
 
 module _ (g : ℕ) (x : Exchange) (next : Option Exchange) (places after : List (Option Layout)) (back : Bool)
-    (ready : IsReady x.turned g x.gone.items x.fresh.items places x.plans.items)
-    (stand : StandAtPlaces g (shown places)) (m : IsMade back x next places after) where
+    (ready : ArePlansReady x.turned g x.gone.items x.fresh.items places x.plans.items)
+    (stand : StandAtPlaces g (shown places)) (m : IsExchangeMade back x next places after) where
   -- in each bucket the exchange was made
   each : (b : ℕ) → AreExchanged g b x.gone.items x.fresh.items (layout_at places b) (layout_at after b)
   each = exchanged x.turned g x.gone.items x.fresh.items places after x.plans.items m.after ready stand m.made
@@ -86,7 +86,8 @@ module _ (g : ℕ) (x : Exchange) (next : Option Exchange) (places after : List 
   pub swap_keeps : (point note : Option ℕ) (h : InHand) → h.grid ≡ g → h.places ≡ shown places →
       (back ≡ true → FindsCells h x.gone.items x.fresh.items) → length places ≡ g * g * g →
       IfSome note (λ p. IsNoteReady g places p) → IfSome point (λ p. IsPointReady g places p) →
-      (length after ≡ g * g * g) × IfSome next (λ e. IsReady e.turned g e.gone.items e.fresh.items after e.plans.items)
+      (length after ≡ g * g * g) × IfSome next (λ e. ArePlansReady e.turned g e.gone.items e.fresh.items after
+      e.plans.items)
       × IfSome note (λ p. IsNoteReady g after p) × IfSome point (λ p. IsPointReady g after p) ×
       StandAtPlaces g (shown after)
   swap_keeps point note h e1 e2 found len n b = (

@@ -96,8 +96,8 @@ abbrev pub all_cells : List (Option BucketContent) → List Cell
 all_cells places = flat_map (λ o. option_map_or (λ c. c.cells) o []) places
 
 -- the new list has some cells behind those of the old one, in any order
-abbrev pub HasMore : List Cell → List Cell → List Cell → Type 0
-HasMore cells old new = (more : List Cell) × IsPermutation cells more × (new ≡ old ++ more)
+abbrev pub HasCellsMore : List Cell → List Cell → List Cell → Type 0
+HasCellsMore cells old new = (more : List Cell) × IsPermutation cells more × (new ≡ old ++ more)
 
 -- With every bucket in hand a hold stands for one history at most: the entries of its buckets, in order of number.
 abbrev pub HistoryIs : Type 0

@@ -30,7 +30,7 @@ use Rattle.edit_history.specs.declared.history.Entry.{Entry}
 use Rattle.edit_history.specs.Edits.{point_of, changed}
 use Rattle.cell_store.specs.Grids.{bucket_of}
 use Rattle.cell_stars.specs.Places.{Placed, cells_of}
-use Rattle.cell_stars.specs.Plans.{PlanView, Allows, IsPlanFor}
+use Rattle.cell_stars.specs.Plans.{PlanView, Allows, MakesExchange}
 use Rattle.cell_stars.specs.Turns.{AreReady, IsTurn, IsWayBack, WasTurned}
 use Rattle.cell_store.specs.Swaps.{touches, swapped}
 use Rattle.cell_store.specs.Buckets.{Layout, InHand, bucket_at, cells_in, content_of, layout_at, points_in}
@@ -55,7 +55,7 @@ IsTurned false p b q c = IsTurn p b q c
 IsTurned true p b q c = IsTurn q c p b
 
 abbrev pub IsExchange : Bool → List Cell → List Cell → Placed → PlanView → Type 0
-IsExchange false gone fresh b p = IsPlanFor gone fresh b p
+IsExchange false gone fresh b p = MakesExchange gone fresh b p
 IsExchange true gone fresh b p = IsWayBack gone fresh b p
 
 -- a plan is for a bucket in hand, and makes the exchange in it
@@ -71,15 +71,15 @@ abbrev pub NoneIsFor : ℕ → List PlanFor → Type 0
 NoneIsFor b plans = (l : PlanFor) → IsIn l plans → l.number ≢ b
 
 -- no two are for one bucket
-abbrev pub AreApart : List PlanFor → Type 0
-AreApart [] = Unit {0}
-AreApart (l ∷ ls) = NoneIsFor l.number ls × AreApart ls
+abbrev pub AreForOthers : List PlanFor → Type 0
+AreForOthers [] = Unit {0}
+AreForOthers (l ∷ ls) = NoneIsFor l.number ls × AreForOthers ls
 
 -- what is ready for an exchange: plans for buckets in hand, one for each that the exchange touches
-pub record IsReady (t : Bool) (g : ℕ) (gone fresh : List Cell) (places : List (Option Layout))
+pub record ArePlansReady (t : Bool) (g : ℕ) (gone fresh : List Cell) (places : List (Option Layout))
     (plans : List PlanFor) : Type 0 where
   pub each : (l : PlanFor) → IsIn l plans → IsReadyFor t gone fresh places l
-  pub apart : AreApart plans
+  pub apart : AreForOthers plans
   pub others : (b : ℕ) → NoneIsFor b plans → IsUntouched g b gone fresh
 
 -- one bucket and its plan, after the plan was carried out or turned back there
@@ -113,13 +113,14 @@ NextIs true x after next =
     × (y.fresh.items ≡ x.gone.items) × (y.turned ≡ not x.turned)
 
 -- an exchange was made, and is kept for the way back or not
-pub record IsMade (back : Bool) (x : Exchange) (next : Option Exchange) (old new : List (Option Layout)) : Type 0 where
+pub record IsExchangeMade (back : Bool) (x : Exchange) (next : Option Exchange) (old new : List (Option Layout)) :
+    Type 0 where
   pub after : List PlanFor
   pub made : AreMade x.turned x.plans.items after old new
   pub is : NextIs back x after next
 
 -- a bucket after an exchange, as it is kept
-pub record IsExchanged (g b : ℕ) (gone fresh : List Cell) (old new : Layout) : Type 0 where
+pub record IsBucketAfter (g b : ℕ) (gone fresh : List Cell) (old new : Layout) : Type 0 where
   pub rest : new ≡ record old { cells = new.cells }
   pub place : new.cells.place ≡ old.cells.place
   pub cells : cells_of new.cells.slots ≡ swapped g b gone fresh (cells_of old.cells.slots)
@@ -127,7 +128,7 @@ pub record IsExchanged (g b : ℕ) (gone fresh : List Cell) (old new : Layout) :
 -- where it is in hand
 abbrev pub AreExchanged : ℕ → ℕ → List Cell → List Cell → Option Layout → Option Layout → Type 0
 AreExchanged g b gone fresh None o = o ≡ None
-AreExchanged g b gone fresh (Some c) o = IsSomeAnd o (λ d. IsExchanged g b gone fresh c d)
+AreExchanged g b gone fresh (Some c) o = IsSomeAnd o (λ d. IsBucketAfter g b gone fresh c d)
 
 -- The exchange finds its cells: in the buckets of their finite vertices the gone ones are there, and no fresh one is.
 pub record FindsCells (hold : InHand) (gone fresh : List Cell) : Type 0 where
@@ -149,8 +150,8 @@ abbrev pub numbers_of : ℕ → List Cell → List ℕ
 numbers_of g cells = flat_map (λ c. map (bucket_of g) (points_of c)) cells
 
 -- the number of the bucket of the point
-abbrev pub IsNumberOf : ℕ → ℕ → ℕ → Type 0
-IsNumberOf g p n = bucket_of g p ≡ n
+abbrev pub IsBucketOf : ℕ → ℕ → ℕ → Type 0
+IsBucketOf g p n = bucket_of g p ≡ n
 
 -- the buckets of all finite vertices of the cells are in hand
 abbrev pub AreHeld : InHand → List Cell → Type 0

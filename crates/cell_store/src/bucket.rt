@@ -28,7 +28,7 @@ ghost use Rattle.point_order.specs.declared.cell.Cell.{Cell};
 ghost use Rattle.point_order.specs.Sets.{IsIn, IsAscending, is_among, with_point as with, without_point};
 ghost use Rattle.edit_history.specs.Edits.{point_of, changed};
 ghost use Rattle.cell_stars.specs.Places.{all_keys, lies_in, cells_of, AreStars};
-ghost use Rattle.cell_stars.specs.Plans.{IsOnceFor, IsPlanFor};
+ghost use Rattle.cell_stars.specs.Plans.{IsOnceFor, MakesExchange};
 ghost use Rattle.cell_stars.specs.Turns.{AreReady};
 ghost use Rattle.cell_store.specs.Buckets.{FitsPlace, content_of};
 ghost use Rattle.cell_store.specs.Others.{HaveNoOther, IsOtherOf};
@@ -204,7 +204,7 @@ impl Bucket {
         requires matched { IsOnceFor gone.now fresh.now matched.now }
         requires found { found ≡ true → AreReady self.now.cells.place gone.now fresh.now
             (cells_of self.now.cells.slots) }
-        ensures { IfOk result (λ plan. IsPlanFor gone.now fresh.now self.now.cells plan) }
+        ensures { IfOk result (λ plan. MakesExchange gone.now fresh.now self.now.cells plan) }
     {
         self.cells.plan(alloc, gone, fresh, matched, found)
     }

@@ -9,7 +9,7 @@ ghost use Rattle.edit_history.specs.declared.history.Entry.{Entry};
 ghost use Rattle.cell_store.specs.Buckets.{content_of};
 ghost use Rattle.cell_store.specs.Shares.{IsSound, Stands, Shows};
 ghost use Rattle.cell_store.specs.Meshes.{AllInHand, IsWhole, StandsForSome, all_entries};
-ghost use Rattle.cell_store.specs.Gathered.{AreGathered, HasHome, home_of, is_home};
+ghost use Rattle.cell_store.specs.Gathered.{AreGatheredFrom, HasHome, home_of, is_home};
 
 use crate::bucket::Bucket;
 use crate::hold::Hold;
@@ -73,7 +73,7 @@ impl Hold {
     // The cells of all buckets, each from the bucket of its first point.
     fn all_cells(&self, alloc: Global) -> Result<Vec<Cell>, AllocError>
         requires { AllInHand self.now }
-        ensures list { IfOk result (λ list. AreGathered self.now (length self.now.places) list.items) }
+        ensures list { IfOk result (λ list. AreGatheredFrom self.now (length self.now.places) list.items) }
         ensures whole { OnOk result (IsWhole self.now) }
     {
         let grid = self.grid();
@@ -89,7 +89,7 @@ impl Hold {
     fn into_lists(mut self, alloc: Global) -> Result<(Vec<Entry>, Vec<Vec<Cell>>), AllocError>
         requires { AllInHand self }
         ensures entries { IfOk result (λ both. both.0.items ≡ all_entries self.places) }
-        ensures lists { IfOk result (λ both. AreGathered self (length self.places)
+        ensures lists { IfOk result (λ both. AreGatheredFrom self (length self.places)
             (flat_map (λ list. list.items) both.1.items)) }
         ensures whole { OnOk result (IsWhole self) }
     {

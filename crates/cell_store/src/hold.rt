@@ -71,7 +71,7 @@ impl Model for Hold {
     ghost use Rattle.std.specs.Prelude.{◌≡◌, ◌*◌, length, IfSome};
     ghost use Rattle.std.specs.Option.{option_map};
     ghost use Rattle.cell_store.specs.Buckets.{InHand, StandAtPlaces, shown};
-    ghost use Rattle.cell_store.specs.Ready.{IsReady, IsNoteReady, IsPointReady};
+    ghost use Rattle.cell_store.specs.Ready.{ArePlansReady, IsNoteReady, IsPointReady};
 
     ghost Value = { InHand };
 
@@ -87,7 +87,7 @@ impl Model for Hold {
     } };
 
     ghost invariant = { λ h. (length h.places.items ≡ h.grid * h.grid * h.grid)
-        × IfSome h.exchange (λ e. IsReady e.turned h.grid e.gone.items e.fresh.items h.places.items e.plans.items)
+        × IfSome h.exchange (λ e. ArePlansReady e.turned h.grid e.gone.items e.fresh.items h.places.items e.plans.items)
         × IfSome h.note (λ p. IsNoteReady h.grid h.places.items p)
         × IfSome h.point (λ p. IsPointReady h.grid h.places.items p) × StandAtPlaces h.grid (shown h.places.items) };
 }

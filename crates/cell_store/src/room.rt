@@ -28,7 +28,7 @@ ghost use Rattle.cell_stars.specs.Plans.{IsOnceFor};
 ghost use Rattle.cell_store.specs.Buckets.{layout_at};
 ghost use Rattle.cell_store.specs.Grids.{bucket_of as number_of};
 ghost use Rattle.cell_store.specs.Ready.{
-  AreApart,
+  AreForOthers,
   AreFound,
   AreInHand,
   AreMade,
@@ -37,14 +37,14 @@ ghost use Rattle.cell_store.specs.Ready.{
   HasMuchRoom,
   HasRoom,
   IsAllowed,
-  IsMade,
+  IsExchangeMade,
   IsNoteReady,
   IsNotedIn,
-  IsNumberOf,
+  IsBucketOf,
   IsPointDropped,
   IsPointPut,
   IsPointReady,
-  IsReady,
+  ArePlansReady,
   IsReadyFor,
   IsTurnedIn,
   numbers_of,
@@ -107,7 +107,7 @@ fn add_number(numbers: &mut Vec<u32>, b: u32) -> Result<(), AllocError>
 
 // Adds the numbers of the buckets of the points.
 fn add_numbers_at(numbers: &mut Vec<u32>, grid: Grid, points: &[Point]) -> Result<(), AllocError>
-    ensures { OnOk result (Gathers (IsNumberOf grid) points.now numbers.old.items numbers.new.items) }
+    ensures { OnOk result (Gathers (IsBucketOf grid) points.now numbers.old.items numbers.new.items) }
 {
     for p in points {
         add_number(numbers, grid.bucket_of(*p))?;
@@ -163,7 +163,7 @@ fn plans_for(
     requires gone { AreInHand places.now (numbers_of grid gone.now) }
     requires fresh { AreInHand places.now (numbers_of grid fresh.now) }
     requires found { found ≡ true → AreFound gone.now fresh.now places.now }
-    ensures { IfOk result (λ plans. IsReady false grid gone.now fresh.now places.now plans.items) }
+    ensures { IfOk result (λ plans. ArePlansReady false grid gone.now fresh.now places.now plans.items) }
 {
     let matched = Matched::of(alloc, grid, gone, fresh)?;
     let numbers = numbers_at(alloc, grid, matched.vertices())?;
@@ -189,7 +189,7 @@ impl Exchange {
         requires found { found ≡ true → AreFound gone.now fresh.now places.now }
         ensures gone { IfOk result (λ e. e.gone.items ≡ gone.now) }
         ensures fresh { IfOk result (λ e. e.fresh.items ≡ fresh.now) }
-        ensures ready { IfOk result (λ e. IsReady e.turned grid gone.now fresh.now places.now e.plans.items) }
+        ensures ready { IfOk result (λ e. ArePlansReady e.turned grid gone.now fresh.now places.now e.plans.items) }
     {
         let plans = plans_for(alloc, grid, places, gone, fresh, found)?;
         Ok(Exchange {
@@ -203,7 +203,7 @@ impl Exchange {
     // Makes the exchange, and is that back then. It takes no memory.
     pub(crate) fn make(&mut self, places: &mut [Option<Bucket>])
         requires allowed { (l : PlanFor) → IsIn l self.old.plans.items → IsAllowed self.old.turned places.old l }
-        requires apart { AreApart self.old.plans.items }
+        requires apart { AreForOthers self.old.plans.items }
         ensures made { AreMade self.old.turned self.old.plans.items self.new.plans.items places.old places.new }
         ensures gone { self.new.gone ≡ self.old.fresh }
         ensures fresh { self.new.fresh ≡ self.old.gone }
@@ -222,8 +222,8 @@ pub(crate) fn made(
     back: bool,
 ) -> Option<Exchange>
     requires allowed { (l : PlanFor) → IsIn l exchange.plans.items → IsAllowed exchange.turned places.old l }
-    requires apart { AreApart exchange.plans.items }
-    ensures { IsMade back exchange result places.old places.new }
+    requires apart { AreForOthers exchange.plans.items }
+    ensures { IsExchangeMade back exchange result places.old places.new }
 {
     let mut exchange = exchange;
     exchange.make(places);
@@ -323,7 +323,7 @@ fn turn(places: &mut [Option<Bucket>], item: &mut PlanFor, turned: bool)
 // Carries each plan out in its bucket, or turns each back. There is to be one at most for each bucket.
 fn turn_all(places: &mut [Option<Bucket>], plans: &mut [PlanFor], turned: bool)
     requires allowed { (l : PlanFor) → IsIn l plans.old → IsAllowed turned places.old l }
-    requires apart { AreApart plans.old }
+    requires apart { AreForOthers plans.old }
     ensures { AreMade turned plans.old plans.new places.old places.new }
 {
     for item in plans.iter_mut() {

@@ -47,7 +47,7 @@ use Rattle.cell_store.specs.Swaps.{touches}
 use Rattle.cell_stars.proofs.Cited.{bucket_below}
 use Rattle.cell_store.proofs.Cited.{cells_of, flat_from, solid_set, touched}
 use Rattle.cell_conflict.proofs.Cited.{some_point}
-use Rattle.cell_walk.specs.Searching.{IsInside, IsFitting, IsAtMost, IsLessened, IsLeastOf}
+use Rattle.cell_walk.specs.Searching.{IsInside, IsFitting, IsAtMost, IsLessened, IsLeastFitting}
 use Rattle.cell_walk.specs.Turns.{HasNoCell}
 use Rattle.cell_walk.proofs.Counting.{in_all}
 
@@ -214,7 +214,7 @@ below_length (o ∷ l) (suc i) d j = let r = below_length l i d j in omega (arit
 
 -- all buckets
 pub least_of_all : (hold : InHand) (inside : Bool) (n : ℕ) (best : Option Cell) → length hold.places ≤ n →
-    IsLeastBelow hold inside n best → IsLeastOf hold inside best
+    IsLeastBelow hold inside n best → IsLeastFitting hold inside best
 least_of_all hold inside n best e k = record {
   from = k.from;
   below = λ d i f. (

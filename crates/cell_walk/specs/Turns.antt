@@ -88,7 +88,7 @@ pub record IsStopped (hold : InHand) (s : List ℕ) (w : Walking) (b : ℕ) : Ty
   pub number : b ≡ bucket_of_first hold.grid (points_on facet)
 
 -- Here where the walk's cell goes; else Moved, or the bucket that the step across needs.
-abbrev pub TurnGives : InHand → List ℕ → Walking → Walking → WalkTurn → Type 0
-TurnGives hold s old new (Here c) = (new ≡ old) × (c ≡ old.cell) × GoesFrom s old.point c
-TurnGives hold s old new Moved = HasMoved hold s old new
-TurnGives hold s old new (Need b) = (new ≡ old) × IsStopped hold s old b
+abbrev pub WalkGives : InHand → List ℕ → Walking → Walking → WalkTurn → Type 0
+WalkGives hold s old new (Here c) = (new ≡ old) × (c ≡ old.cell) × GoesFrom s old.point c
+WalkGives hold s old new Moved = HasMoved hold s old new
+WalkGives hold s old new (Need b) = (new ≡ old) × IsStopped hold s old b

@@ -18,7 +18,7 @@ ghost use Rattle.std.specs.declared.cmp.Ordering.TheVariants.{Less};
 ghost use Rattle.point_order.specs.CellOrder.{cell_cmp};
 ghost use Rattle.point_order.specs.Sets.{IsIn};
 ghost use Rattle.cell_store.specs.Buckets.{bucket_at, cells_in};
-ghost use Rattle.cell_walk.specs.Searching.{IsInside, IsFitting, IsLessened, IsLeastOf};
+ghost use Rattle.cell_walk.specs.Searching.{IsInside, IsFitting, IsLessened, IsLeastFitting};
 ghost use Rattle.cell_store.specs.Shares.{ShowsSome};
 ghost use Rattle.cell_walk.specs.Turns.{HasNoCell, IsFirstMissing};
 
@@ -127,7 +127,7 @@ fn least_in(hold: &Hold, b: u32, inside: bool, least: Option<Cell>) -> Option<Ce
 
 // The least of the cells of the buckets in hand, of those inside or of all.
 pub(crate) fn least_cell(hold: &Hold, inside: bool) -> Option<Cell>
-    ensures { IsLeastOf hold.now inside result }
+    ensures { IsLeastFitting hold.now inside result }
 {
     let count = hold.grid().count();
     let mut best = None;

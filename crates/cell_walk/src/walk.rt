@@ -5,7 +5,7 @@ ghost use Rattle.point_order.specs.Conflicts.{are_opposite as lie_opposite};
 ghost use Rattle.cell_store.specs.Shares.{Shows, ShowsSome};
 ghost use Rattle.cell_store.specs.Buckets.{bucket_at, points_in};
 ghost use Rattle.cell_walk.specs.Paths.{ShowsWalk, IsWalkIn, WalksFor, facet_towards as towards};
-ghost use Rattle.cell_walk.specs.Turns.{StartGives, TurnGives};
+ghost use Rattle.cell_walk.specs.Turns.{StartGives, WalkGives};
 
 use crate::search::{first_missing, least_cell, near_point};
 use cell_conflict::is_in_conflict;
@@ -142,7 +142,7 @@ impl Walk {
     pub fn step(&mut self, hold: &Hold) -> WalkTurn
         requires { ShowsWalk hold.now self.old }
         ensures { (s : List ℕ) → Shows hold.now s → IsWalkIn hold.now s self.old →
-            TurnGives hold.now s self.old self.new result }
+            WalkGives hold.now s self.old self.new result }
     {
         let cell = self.cell.cell();
         if is_in_conflict(hold, cell, self.point) {

@@ -41,7 +41,7 @@ use Rattle.edit_history.specs.Histories.{replay}
 use Rattle.cell_store.specs.Buckets.{BucketContent, bucket_at}
 use Rattle.cell_store.specs.Touches.{HoldTouched}
 use Rattle.claim_rule.specs.Boards.{View, BoardState, word_of, view_at, IsLive, is_by, made_by}
-use Rattle.claim_rule.specs.Good.{AreSharesOf, IsInOrder, IsGood}
+use Rattle.claim_rule.specs.Good.{AreSharesOf, IsViewInOrder, IsGood}
 use Rattle.cell_store.specs.Shares.{share_at}
 use Rattle.claim_rule.specs.Events.{committed, entry_after, renewed_from}
 use Rattle.claim_rule.proofs.Places.{left_set}
@@ -115,7 +115,7 @@ pub commit_keeps : (s : BoardState) (h : List Entry) (n tag : ℕ) (edit : Edit)
 commit_keeps s h n tag edit v good at key some touched =
     let live : IsLive s v = live_at s h n v good at in
     let named : v.first ≡ n = good.shape.named n v at in
-    let ok : IsInOrder s h v = good.passes v live in
+    let ok : IsViewInOrder s h v = good.passes v live in
     let g : ℕ = s.grid in
     let c : ℕ = length s.opening in
     let counts : s.ticket ≡ length h = good.ticket in

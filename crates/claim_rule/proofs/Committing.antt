@@ -54,14 +54,14 @@ use Rattle.claim_rule.specs.Boards.{BoardState, left_in, view_at}
 use Rattle.claim_rule.specs.Good.{IsGood, Good}
 use Rattle.claim_rule.specs.Events.{Next, CanCommit, entry_after}
 use Rattle.claim_rule.specs.Kept.{held_by, view_of, kept}
-use Rattle.claim_rule.specs.Trials.{IsNamed, IsOnSome, IsTrialOf}
+use Rattle.claim_rule.specs.Trials.{NamesPass, IsOnSome, IsTrialOf}
 use Rattle.claim_rule.proofs.Nexts.{next_of}
 use Rattle.claim_rule.proofs.Kept.{if_so, whose_length, whose_at}
 use Rattle.claim_rule.proofs.Moves.{from_view, live_view}
 use Rattle.claim_rule.proofs.Renewals.{so_true, commit_next}
 use Rattle.claim_rule.proofs.Brought.{any_brought}
 use Rattle.claim_rule.proofs.Whole.{all_are_shares, all_in_hand, hold_stands}
-use Rattle.claim_rule.specs.Making.{IsExchanged, IsMade, EditGives}
+use Rattle.claim_rule.specs.Making.{IsExchangedIn, IsEditMade, EditGives}
 use Rattle.edit_history.specs.declared.history.Reply.{Reply}
 use Rattle.cell_store.specs.Shares.{Shows}
 use Rattle.cell_store.proofs.Cited.{stands_shows}
@@ -70,7 +70,7 @@ use Rattle.cell_store.proofs.Cited.{stands_shows}
 
 -- a bucket whose word names the pass is held by it, where all buckets are in the hold
 named_held : (words : List ℕ) (places : List (Option BucketContent)) (n b : ℕ) → IsSome (bucket_at places b) →
-    IsNamed n words b → IsSome (bucket_at (held_by n words places) b)
+    NamesPass n words b → IsSome (bucket_at (held_by n words places) b)
 named_held words places n b there named =
     same_there (bucket_at places b) (bucket_at (held_by n words places) b)
     (sym (whose_at (λ w. w == n + 1) words places b named.0 ∙ ap (λ k. if_so k (bucket_at places b))
@@ -78,7 +78,7 @@ named_held words places n b there named =
 
 -- the word of a bucket that a pass holds names it
 held_named : (words : List ℕ) (places : List (Option BucketContent)) (n b : ℕ) →
-    IsSome (bucket_at (held_by n words places) b) → IsNamed n words b
+    IsSome (bucket_at (held_by n words places) b) → NamesPass n words b
 held_named words places n b s =
     let below : b < length words = let l = within_some (held_by n words places) b s in
     let m = whose_length (λ w. w == n + 1) words places in omega (arith, l, m) in (
@@ -89,11 +89,11 @@ held_named words places n b s =
 
 -- the words of the buckets of these points, and of all points of these cells, name the pass
 abbrev ArePointsNamed : ℕ → List ℕ → ℕ → List ℕ → Type 0
-ArePointsNamed n words g points = All (λ p. IsNamed n words (bucket_of g p)) points
+ArePointsNamed n words g points = All (λ p. NamesPass n words (bucket_of g p)) points
 
 -- the words of the buckets of all points of these cells name the pass
 abbrev AreNamed : ℕ → List ℕ → ℕ → List Cell → Type 0
-AreNamed n words g cells = All (λ c. All (λ p. IsNamed n words (bucket_of g p)) (points_of c)) cells
+AreNamed n words g cells = All (λ c. All (λ p. NamesPass n words (bucket_of g p)) (points_of c)) cells
 
 -- the words of all buckets that are found name the pass: it holds all that is touched
 pub touched_held :
@@ -102,8 +102,8 @@ pub touched_held :
     ArePointsNamed n words g (edit_points edit) → AreNamed n words g t.near.items →
     HoldTouched g s edit (held_by n words places)
 touched_held g n s edit t words places all trial own near b touched =
-    let is_named : ℕ → Type 0 = λ p. IsNamed n words (bucket_of g p) in
-    let named : IsNamed n words b = subst (IsNamed n words) (sym touched.number)
+    let is_named : ℕ → Type 0 = λ p. NamesPass n words (bucket_of g p) in
+    let named : NamesPass n words b = subst (NamesPass n words) (sym touched.number)
     (elim ((trial.near touched.point).0 touched.reached) [
       | inl i ↦ each_of_all is_named (edit_points edit) own touched.point i
       | inr o ↦ each_of_all is_named (points_of o.cell)
@@ -117,8 +117,9 @@ pub held_touched :
     IsTrialOf s edit t → HoldTouched g s edit (held_by n words places) →
     ArePointsNamed n words g (edit_points edit) × AreNamed n words g t.near.items
 held_touched g n s edit t words places trial touched =
-    let is_named : ℕ → Type 0 = λ p. IsNamed n words (bucket_of g p) in
-    let named : (p : ℕ) → IsIn p (edit_points edit) ⊎ IsOnSome t.near.items p → IsNamed n words (bucket_of g p) = λ p k.
+    let is_named : ℕ → Type 0 = λ p. NamesPass n words (bucket_of g p) in
+    let named : (p : ℕ) → IsIn p (edit_points edit) ⊎ IsOnSome t.near.items p →
+    NamesPass n words (bucket_of g p) = λ p k.
     held_named words places n (bucket_of g p)
     (touched (bucket_of g p) (record { point = p; reached = (trial.near p).1 k; number = refl })) in (
       all_of_each is_named (edit_points edit) (λ p i. named p (inl i)),
@@ -201,7 +202,7 @@ committed_next :
     (seats : List (Option Seat)) (h : List Entry) (n tag : ℕ) (edit : Edit) (seat : Seat) →
     IsGood (kept old.grid parts most opening ticket words old.places seats) h → length old.places ≡ length words →
     slice_index_or seats n None ≡ Some seat → HasKeys edit → 0 < seat.left →
-    IsMade words (replay h) ticket n tag edit old new →
+    IsEditMade words (replay h) ticket n tag edit old new →
     Next h (kept old.grid parts most opening ticket words old.places seats) (Commit n tag edit) Done
     (kept new.grid parts most opening (ticket + 1) words new.places
     (slice_set seats n (Some (record seat { left = seat.left - 1; seen = ticket + 1 }))))
@@ -242,7 +243,7 @@ made_next old new parts most opening ticket words words' seats h n tag edit seat
     let wide' = wide ∙ ap length same in
     let shows = shown_set old parts most opening ticket words seats h good wide' in
     committed_next old new parts most opening ticket words seats h n tag edit seat good wide' live.0 key live.1
-    (subst (λ (w : List ℕ). IsMade w (replay h) ticket n tag edit old new) same (made (replay h) shows))
+    (subst (λ (w : List ℕ). IsEditMade w (replay h) ticket n tag edit old new) same (made (replay h) shows))
 
 -- and the condition of a commit fails where it is not made
 pub unmade_commits :
@@ -305,8 +306,8 @@ pub made_of :
     gone ≡ t.gone.items → fresh ≡ t.fresh.items →
     ((b : ℕ) → b < length words → IsSome (bucket_at old.places b)) →
     ArePointsNamed n words g (edit_points edit) × AreNamed n words g near →
-    IsExchanged gone fresh (record { number = number; by = n; tag = tag; edit = edit; reply = t.reply }) old new →
-    IsMade words s number n tag edit old new
+    IsExchangedIn gone fresh (record { number = number; by = n; tag = tag; edit = edit; reply = t.reply }) old new →
+    IsEditMade words s number n tag edit old new
 made_of words s number n tag edit t g near gone fresh old new trial eg en eo ef all own ex = record {
   touched = touched_held old.grid n s edit t words old.places all trial
       (points_named_same n words g old.grid (edit_points edit) eg own.0)
@@ -315,7 +316,7 @@ made_of words s number n tag edit t g near gone fresh old new trial eg en eo ef 
   fresh = fresh;
   change = subst (λ (l : List Cell). IsChange (complex s) (complex (after s edit)) gone l) (sym ef)
       (subst (λ (l : List Cell). IsChange (complex s) (complex (after s edit)) l t.fresh.items) (sym eo) trial.change);
-  exchanged = subst (λ (r : Reply). IsExchanged gone fresh (record {
+  exchanged = subst (λ (r : Reply). IsExchangedIn gone fresh (record {
     number = number;
     by = n;
     tag = tag;

@@ -38,7 +38,7 @@ use Rattle.claim_rule.specs.Boards.{View, BoardState, word_of, view_at, IsLive}
 use Rattle.claim_rule.specs.Good.{IsGood}
 use Rattle.cell_store.specs.Shares.{share_at}
 use Rattle.claim_rule.specs.Events.{CanCommit, committed, entry_after, renewed_from}
-use Rattle.claim_rule.specs.Commuting.{Figure, figure, figures, figures_of, AreAlike, CommitsCommute}
+use Rattle.claim_rule.specs.Commuting.{Figure, figure, figures, figures_of, AreAlike, BoardCommitsCommute}
 use Rattle.edit_history.proofs.Cited.{replay_more}
 use Rattle.claim_rule.proofs.Nexts.{set_of, stays_outside}
 use Rattle.claim_rule.proofs.Steps.{live_at}
@@ -78,7 +78,7 @@ other_view : (h : List Entry) (s : BoardState) (n m tag : ℕ) (edit : Edit) →
 other_view h s n m tag edit d = get_or-set_other s.views n m _ None d
 
 -- two commits of two passes come in the other order too, and leave boards that are alike
-pub commits_commute : CommitsCommute
+pub commits_commute : BoardCommitsCommute
 commits_commute h s n m tag tag' edit edit' middle last good key key' apart first second =
     let g : ℕ = s.grid in
     let S : List ℕ = replay h in

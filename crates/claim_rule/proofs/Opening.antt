@@ -25,7 +25,7 @@ use Rattle.list_laws.proofs.Cited.{is_there, none_at, none_there, nothing, one_v
 use Rattle.edit_history.specs.declared.history.Entry.{Entry}
 use Rattle.cell_store.specs.Buckets.{BucketContent, bucket_at}
 use Rattle.claim_rule.specs.Boards.{View, BoardState, IsLive, is_by, made_by}
-use Rattle.claim_rule.specs.Good.{IsInOrder}
+use Rattle.claim_rule.specs.Good.{IsViewInOrder}
 use Rattle.cell_store.specs.Shares.{share_at}
 use Rattle.claim_rule.specs.Opening.{shares_from, opening_board}
 use Rattle.claim_rule.specs.Laws.{OpeningIsGood}
@@ -86,7 +86,7 @@ opening_is_good g parts allowance h size some few most legal keys solid =
         (λ t. zeros b),
       );
       away = λ b l n. absurd (n (zeros b));
-      passes = λ u l. subst (IsInOrder s h) (sym (is_v u l)) record {
+      passes = λ u l. subst (IsViewInOrder s h) (sym (is_v u l)) record {
         some_part = some;
         inside = omega arith;
         places = length-replicate (g * g * g) None ∙ sym count;

@@ -51,8 +51,8 @@ pub record ComeSwapped (h : List Entry) (s : BoardState) (n m tag tag' : ℕ) (e
   pub alike : AreAlike last last'
 
 -- In a good board, where two commits of two passes are done one after the other, they come in the other order too.
-abbrev pub CommitsCommute : Type 0
-CommitsCommute =
+abbrev pub BoardCommitsCommute : Type 0
+BoardCommitsCommute =
     (h : List Entry) (s : BoardState) (n m tag tag' : ℕ) (edit edit' : Edit) (middle last : BoardState) →
     IsGood s h → HasKeys edit → HasKeys edit' → n ≢ m →
     Next h s (Commit n tag edit) Done middle →

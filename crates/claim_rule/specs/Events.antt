@@ -153,10 +153,10 @@ joined s n m = option_map_or (λ v. option_map_or (λ w. join_of s v w) (view_at
 -- ---- the table of events
 
 -- an event that is done where it may come, and else is short
-abbrev pub Gives : Type 0 → BoardState → BoardState → Played → BoardState → Type 0
-Gives Can s after Done s' = Can × (s' ≡ after)
-Gives Can s after (Taken word) s' = ⊥
-Gives Can s after Short s' = (¬ Can) × (s' ≡ s)
+abbrev pub ComesTo : Type 0 → BoardState → BoardState → Played → BoardState → Type 0
+ComesTo Can s after Done s' = Can × (s' ≡ after)
+ComesTo Can s after (Taken word) s' = ⊥
+ComesTo Can s after Short s' = (¬ Can) × (s' ≡ s)
 
 -- a claim, which may find the bucket away
 abbrev pub ClaimGives : BoardState → ℕ → ℕ → Played → BoardState → Type 0
@@ -167,11 +167,11 @@ ClaimGives s n b Short s' = (¬ (CanClaim s n b)) × (s' ≡ s)
 -- What an event answers on a board with this history, and the board after it.
 abbrev pub Next : List Entry → BoardState → Event → Played → BoardState → Type 0
 Next h s (Claim n b) answer s' = ClaimGives s n b answer s'
-Next h s (Commit n tag edit) answer s' = Gives (CanCommit h s n edit) s (committed h s n tag edit) answer s'
-Next h s (Release n b) answer s' = Gives (CanRelease s n b) s (released s n b) answer s'
-Next h s (Look n) answer s' = Gives (CanLook s n) s (looked s n) answer s'
-Next h s (Split n parts left) answer s' = Gives (CanSplit s n parts left) s (split s n parts left) answer s'
-Next h s (Join n m) answer s' = Gives (CanJoin s n m) s (joined s n m) answer s'
+Next h s (Commit n tag edit) answer s' = ComesTo (CanCommit h s n edit) s (committed h s n tag edit) answer s'
+Next h s (Release n b) answer s' = ComesTo (CanRelease s n b) s (released s n b) answer s'
+Next h s (Look n) answer s' = ComesTo (CanLook s n) s (looked s n) answer s'
+Next h s (Split n parts left) answer s' = ComesTo (CanSplit s n parts left) s (split s n parts left) answer s'
+Next h s (Join n m) answer s' = ComesTo (CanJoin s n m) s (joined s n m) answer s'
 
 -- the history after it: a commit that is done adds its entry
 abbrev pub history_after : List Entry → BoardState → Event → Played → List Entry

@@ -61,7 +61,7 @@ pub record HasOneOwner (s : BoardState) (p : ℕ) : Type 0 where
   pub only : (w : View) → IsLive s w → Owns w p → w ≡ view
 
 -- What holds of each live pass. All its own entries have numbers below what it has seen.
-pub record IsInOrder (s : BoardState) (h : List Entry) (v : View) : Type 0 where
+pub record IsViewInOrder (s : BoardState) (h : List Entry) (v : View) : Type 0 where
   pub some_part : 0 < v.parts
   pub inside : v.first + v.parts ≤ s.parts
   pub places : length v.held ≡ length s.words
@@ -84,7 +84,7 @@ pub record IsGood (s : BoardState) (h : List Entry) : Type 0 where
   pub shares : AreSharesOf s.grid h s.homes
   pub home : (b : ℕ) → b < length s.words → (word_of s b ≡ 0) ↔ IsSome (bucket_at s.homes b)
   pub away : (b : ℕ) → b < length s.words → word_of s b ≢ 0 → HasHolder s b
-  pub passes : (v : View) → IsLive s v → IsInOrder s h v
+  pub passes : (v : View) → IsLive s v → IsViewInOrder s h v
   pub owners : (p : ℕ) → p < s.parts → HasOneOwner s p
   pub makers : All (λ e. e.by < s.parts) (drop (length s.opening) h)
   pub room : length h + left_in s.views ≤ s.most

@@ -12,7 +12,7 @@ use Rattle.claim_rule.specs.Kept.{held_by}
 
 -- the cells are exchanged, then the place comes to which a point has moved, if the entry tells of one, and then the
 -- entry is noted
-pub record IsExchanged (gone fresh : List Cell) (e : Entry) (old new : InHand) : Type 0 where
+pub record IsExchangedIn (gone fresh : List Cell) (e : Entry) (old new : InHand) : Type 0 where
   pub between : InHand
   pub swapped : IsSwapped gone fresh old between
   pub with_goal : InHand
@@ -21,16 +21,16 @@ pub record IsExchanged (gone fresh : List Cell) (e : Entry) (old new : InHand) :
 
 -- the pass's words are on all buckets that the edit of the set touches, and the hold has what the edit changes, and its
 -- entry
-pub record IsMade (words s : List ℕ) (number n tag : ℕ) (edit : Edit) (old new : InHand) : Type 0 where
+pub record IsEditMade (words s : List ℕ) (number n tag : ℕ) (edit : Edit) (old new : InHand) : Type 0 where
   pub touched : HoldTouched old.grid s edit (held_by n words old.places)
   pub gone : List Cell
   pub fresh : List Cell
   pub change : IsChange (complex s) (complex (after s edit)) gone fresh
-  pub exchanged : IsExchanged gone fresh
+  pub exchanged : IsExchangedIn gone fresh
       (record { number = number; by = n; tag = tag; edit = edit; reply = reply_to s edit }) old new
 
 -- the edit is made, or the pass's words are not on all those buckets
 abbrev pub EditGives : List ℕ → List ℕ → ℕ → ℕ → ℕ → Edit → InHand → Bool → InHand → Type 0
-EditGives words s number n tag edit old true new = IsMade words s number n tag edit old new
+EditGives words s number n tag edit old true new = IsEditMade words s number n tag edit old new
 EditGives words s number n tag edit old false new =
     ¬ (HoldTouched old.grid s edit (held_by n words old.places))

@@ -16,8 +16,8 @@ use Rattle.cell_store.specs.Swaps.{without_cells}
 use Rattle.claim_rule.specs.declared.trial.Trial.{Trial}
 
 -- the word of the bucket names the pass
-abbrev pub IsNamed : ℕ → List ℕ → ℕ → Type 0
-IsNamed n words b = (b < length words) × (slice_index_or words b 0 ≡ n + 1)
+abbrev pub NamesPass : ℕ → List ℕ → ℕ → Type 0
+NamesPass n words b = (b < length words) × (slice_index_or words b 0 ≡ n + 1)
 
 -- the points of both lists, and no others
 abbrev pub HasBoth : List ℕ → List ℕ → List ℕ → Type 0

@@ -38,8 +38,8 @@ ghost use Rattle.cell_store.specs.Grids.{is_grid_size, bucket_of};
 ghost use Rattle.cell_store.specs.Meshes.{IsWhole};
 ghost use Rattle.cell_store.specs.Shares.{Shows};
 ghost use Rattle.claim_rule.specs.Boards.{word_of};
-ghost use Rattle.claim_rule.specs.Making.{IsExchanged, EditGives};
-ghost use Rattle.claim_rule.specs.Trials.{IsNamed};
+ghost use Rattle.claim_rule.specs.Making.{IsExchangedIn, EditGives};
+ghost use Rattle.claim_rule.specs.Trials.{NamesPass};
 ghost use Rattle.claim_rule.specs.Good.{IsGood, Good};
 ghost use Rattle.claim_rule.specs.Events.{Next, is_commit};
 ghost use Rattle.claim_rule.specs.declared.event.Event.TheVariants.{Claim, Commit, Release, Look, Split, Join};
@@ -111,7 +111,7 @@ fn is_live(seats: &[Option<Seat>], n: u32) -> bool
 
 // Whether the word of the bucket names the pass.
 fn names(words: &[u64], b: u32, n: u32) -> bool
-    ensures { IsTrue result ↔ IsNamed n words.now b }
+    ensures { IsTrue result ↔ NamesPass n words.now b }
 {
     match words.get(b as usize) {
         Some(word) => *word == u64::from(n) + 1,
@@ -121,14 +121,14 @@ fn names(words: &[u64], b: u32, n: u32) -> bool
 
 // Whether the words of the buckets of all these points name the pass.
 fn names_points(words: &[u64], grid: Grid, n: u32, points: &[Point]) -> bool
-    ensures { IsTrue result ↔ All (λ p. IsNamed n words.now (bucket_of grid p)) points.now }
+    ensures { IsTrue result ↔ All (λ p. NamesPass n words.now (bucket_of grid p)) points.now }
 {
     points.iter().all(|p| names(words, grid.bucket_of(*p), n))
 }
 
 // Whether the words of the buckets of all points of these cells name the pass.
 fn names_cells(words: &[u64], grid: Grid, n: u32, cells: &[Cell]) -> bool
-    ensures { IsTrue result ↔ All (λ c. All (λ p. IsNamed n words.now (bucket_of grid p)) (points_of c)) cells.now }
+    ensures { IsTrue result ↔ All (λ c. All (λ p. NamesPass n words.now (bucket_of grid p)) (points_of c)) cells.now }
 {
     cells
         .iter()
@@ -144,7 +144,7 @@ fn holds_nothing(words: &[u64], n: u32) -> bool
 
 // Whether the words of the buckets of the edit's points name the pass.
 fn names_own(words: &[u64], grid: Grid, n: u32, edit: &Edit) -> bool
-    ensures { IsTrue result ↔ All (λ p. IsNamed n words.now (bucket_of grid p)) (edit_points edit.now) }
+    ensures { IsTrue result ↔ All (λ p. NamesPass n words.now (bucket_of grid p)) (edit_points edit.now) }
 {
     match *edit {
         Edit::Add(p) | Edit::Take(p) => names_points(words, grid, n, &[p]),
@@ -154,8 +154,8 @@ fn names_own(words: &[u64], grid: Grid, n: u32, edit: &Edit) -> bool
 
 // Whether the words of the buckets of the edit's points and of all points of these cells name the pass.
 fn names_touched(words: &[u64], grid: Grid, n: u32, edit: &Edit, near: &[Cell]) -> bool
-    ensures { IsTrue result ↔ (All (λ p. IsNamed n words.now (bucket_of grid p)) (edit_points edit.now)
-        × All (λ c. All (λ p. IsNamed n words.now (bucket_of grid p)) (points_of c)) near.now) }
+    ensures { IsTrue result ↔ (All (λ p. NamesPass n words.now (bucket_of grid p)) (edit_points edit.now)
+        × All (λ c. All (λ p. NamesPass n words.now (bucket_of grid p)) (points_of c)) near.now) }
 {
     names_own(words, grid, n, edit) && names_cells(words, grid, n, near)
 }
@@ -185,7 +185,7 @@ fn exchange(
 ) -> Result<(), AllocError>
     requires whole { IsWhole hold.old }
     requires right { (s : List ℕ) × Shows hold.old s × (entry.reply ≡ reply_to s entry.edit) }
-    ensures exchanged { OnOk result (IsExchanged gone.now fresh.now entry hold.old hold.new) }
+    ensures exchanged { OnOk result (IsExchangedIn gone.now fresh.now entry hold.old hold.new) }
     ensures refused { OnErr result (hold.new ≡ hold.old) }
 {
     hold.reserve(alloc, gone, fresh, &entry.edit)?;

@@ -1,7 +1,7 @@
 //! Laws of the board. Each function here does nothing, and its contract is a law.
 
 ghost use Rattle.claim_rule.specs.Laws.{OpeningIsGood, EventsKeepGood, NextIsOne, OneHistory, HistoryGrows};
-ghost use Rattle.claim_rule.specs.Commuting.{CommitsCommute};
+ghost use Rattle.claim_rule.specs.Commuting.{BoardCommitsCommute};
 
 /// The board with which a mesh begins is good.
 pub fn opening_is_good()
@@ -17,7 +17,7 @@ pub fn events_keep_good()
 
 /// Two commits of two passes that are done in one order are done in the other, with the same replies.
 pub fn commits_commute()
-    ensures { CommitsCommute }
+    ensures { BoardCommitsCommute }
 {}
 
 /// An earlier history is the front of each later one.

@@ -21,12 +21,12 @@ use Rattle.mesh_reader.proofs.Cited.{no_fault_of_mesh}
 use Rattle.delaunay_cli.specs.declared.stop.Stop.{Stop}
 use Rattle.delaunay_cli.specs.declared.stop.Stop.TheVariants.{Memory, ReadFault, BadLine, TooLong}
 use Rattle.delaunay_cli.specs.Checked.{CheckEnds, IsChecked, IsMeshVerdict, IsUnchecked, TellsVerdict}
-use Rattle.delaunay_cli.specs.Statuses.{HasText, IsEarly, IsWhole}
+use Rattle.delaunay_cli.specs.Statuses.{HasText, IsEarly, IsWrittenWhole}
 use Rattle.delaunay_cli.specs.Stops.{status_of}
 use Rattle.delaunay_cli.proofs.TextStatuses.{early_only, no_other, stopped_only, whole_only}
 
 -- the status of a verdict is that of a whole text
-tells_verdict : (late : ℕ) → TellsVerdict late → IsWhole late
+tells_verdict : (late : ℕ) → TellsVerdict late → IsWrittenWhole late
 tells_verdict late (inl z) = inl z
 tells_verdict late (inr t) = inr (omega (arith, t))
 

@@ -32,7 +32,7 @@ use Rattle.mesh_check.proofs.Cited.{flaw_is_true, flaw_shows, good_is_complex}
 use Rattle.delaunay_cli.specs.Checked.{
   HasMeshFault,
   IsChecked,
-  IsGood,
+  IsTrueMesh,
   IsJudged,
   IsMeshVerdict,
   IsMeshWithin,
@@ -40,26 +40,26 @@ use Rattle.delaunay_cli.specs.Checked.{
 }
 use Rattle.delaunay_cli.specs.Ends.{Ends}
 use Rattle.delaunay_cli.specs.Run.{mesh_limit}
-use Rattle.delaunay_cli.specs.Statuses.{IsEarly, IsWhole}
+use Rattle.delaunay_cli.specs.Statuses.{IsEarly, IsWrittenWhole}
 use Rattle.delaunay_cli.specs.Words.{AreTaken, ReadsMesh}
 use Rattle.delaunay_cli.proofs.MeshJudged.{cells_of}
 use Rattle.delaunay_cli.proofs.Promised.{of_check}
 
 -- the status tells whether the mesh is good
 status_tells : (mesh : MeshParts) (status : ℕ) (text : List ℕ) → IsInOrder mesh → IsJudged mesh status text →
-    (status ≡ 0 ↔ IsGood mesh) × (status ≡ 10 ↔ (IsGood mesh → ⊥))
+    (status ≡ 0 ↔ IsTrueMesh mesh) × (status ≡ 10 ↔ (IsTrueMesh mesh → ⊥))
 status_tells mesh status text o j = by j.verdict j.is_verdict j.status_is
   where
     by : (v : Verdict) → IsVerdict mesh.points (listed mesh.cells mesh.hull) v → status ≡ status_of_verdict v →
-        (status ≡ 0 ↔ IsGood mesh) × (status ≡ 10 ↔ (IsGood mesh → ⊥))
+        (status ≡ 0 ↔ IsTrueMesh mesh) × (status ≡ 10 ↔ (IsTrueMesh mesh → ⊥))
     by Good v e =
-        let good : IsGood mesh = (good_is_complex mesh.points (listed mesh.cells mesh.hull) o.ascending
+        let good : IsTrueMesh mesh = (good_is_complex mesh.points (listed mesh.cells mesh.hull) o.ascending
         (record { below = o.keys }) (cells_of mesh o)).0 v in (
           (λ z. good, λ g. e),
           (λ t. absurd (omega (arith, e, t)), λ n. absurd (n good)),
         )
     by (Bad flaw) v e =
-        let bad : IsGood mesh → ⊥ = flaw_shows mesh.points (listed mesh.cells mesh.hull) flaw o.ascending
+        let bad : IsTrueMesh mesh → ⊥ = flaw_shows mesh.points (listed mesh.cells mesh.hull) flaw o.ascending
         (record { below = o.keys }) (flaw_is_true mesh.points (listed mesh.cells mesh.hull) flaw v) in (
           (λ z. absurd (omega (arith, e, z)), λ g. absurd (bad g)),
           (λ t. bad, λ n. e),
@@ -81,7 +81,7 @@ module _ {words : List (String Global)} {left left_after : Option (List ℕ)} {r
 
   -- and 0 and 10 of their mesh
   of_mesh : (P : List ℕ → MeshParts → Type 0) → ((bytes : List ℕ) (mesh : MeshParts) → IsInOrder mesh →
-      IsJudged mesh status e.text → P bytes mesh) → IsWhole status →
+      IsJudged mesh status e.text → P bytes mesh) → IsWrittenWhole status →
       IfSome left (λ bytes. (mesh : MeshParts) → IsMeshText bytes mesh → P bytes mesh)
   of_mesh P f s =
       if_some (IsChecked status e.text) (λ bytes. (mesh : MeshParts) → IsMeshText bytes mesh → P bytes mesh) left
@@ -89,19 +89,19 @@ module _ {words : List (String Global)} {left left_after : Option (List ℕ)} {r
       ((of_check e w).made s)
 
   -- of a whole text status 10 comes exactly where the mesh is not good
-  pub bad_mesh : IsWhole status → IfSome left (λ bytes. (mesh : MeshParts) → IsMeshText bytes mesh →
-      (status ≡ 10 ↔ (IsGood mesh → ⊥)))
-  bad_mesh = of_mesh (λ bytes mesh. status ≡ 10 ↔ (IsGood mesh → ⊥))
+  pub bad_mesh : IsWrittenWhole status → IfSome left (λ bytes. (mesh : MeshParts) → IsMeshText bytes mesh →
+      (status ≡ 10 ↔ (IsTrueMesh mesh → ⊥)))
+  bad_mesh = of_mesh (λ bytes mesh. status ≡ 10 ↔ (IsTrueMesh mesh → ⊥))
       (λ bytes mesh o j. (status_tells mesh status e.text o j).1)
 
   -- and status 0 exactly where it is
-  pub good_mesh : IsWhole status → IfSome left (λ bytes. (mesh : MeshParts) → IsMeshText bytes mesh →
-      (status ≡ 0 ↔ IsGood mesh))
-  good_mesh = of_mesh (λ bytes mesh. status ≡ 0 ↔ IsGood mesh)
+  pub good_mesh : IsWrittenWhole status → IfSome left (λ bytes. (mesh : MeshParts) → IsMeshText bytes mesh →
+      (status ≡ 0 ↔ IsTrueMesh mesh))
+  good_mesh = of_mesh (λ bytes mesh. status ≡ 0 ↔ IsTrueMesh mesh)
       (λ bytes mesh o j. (status_tells mesh status e.text o j).0)
 
   -- and what is written is the text of the verdict on the mesh
-  pub check_written : IsWhole status → IfSome left (λ bytes. (mesh : MeshParts) → IsMeshText bytes mesh →
+  pub check_written : IsWrittenWhole status → IfSome left (λ bytes. (mesh : MeshParts) → IsMeshText bytes mesh →
       (verdict : Verdict) × IsVerdict mesh.points (listed mesh.cells mesh.hull) verdict ×
       Appends held holds (verdict_text mesh.points verdict))
   check_written s = of_mesh
@@ -123,11 +123,11 @@ module _ {words : List (String Global)} {left left_after : Option (List ℕ)} {r
 
   -- of the text of a mesh within the limit a run ends with status 1 or one of a whole text
   pub check_completes : AreTaken words → IfSome left (λ bytes. IsMeshWithin bytes → (read_failed → ⊥) →
-      (write_failed → ⊥) → IsWhole status ⊎ (status ≡ 1))
+      (write_failed → ⊥) → IsWrittenWhole status ⊎ (status ≡ 1))
   check_completes t = by left (of_check e w).verdict
     where
       by : (told : Option (List ℕ)) → ((IsEarly status → ⊥) → IfSome told (IsMeshVerdict status)) →
-          IfSome told (λ bytes. IsMeshWithin bytes → (read_failed → ⊥) → (write_failed → ⊥) → IsWhole status ⊎
+          IfSome told (λ bytes. IsMeshWithin bytes → (read_failed → ⊥) → (write_failed → ⊥) → IsWrittenWhole status ⊎
           (status ≡ 1))
       by None v = tt
       by (Some bytes) v =

@@ -52,14 +52,14 @@ use Rattle.clap.specs.declared.error.kind.ErrorKind.TheVariants.{OutOfMemory}
 use Rattle.clap.proofs.OnLiterals.{clap_on_literals}
 use Rattle.cell_store.specs.Grids.{is_grid_size}
 use Rattle.delaunay_cli.specs.Words.{
-  AreCheck,
-  AreMesh,
-  AreMeshOrder,
-  AreNear,
-  AreShape,
-  AreParts,
-  AreShapeOrder,
-  AreSteps,
+  SayCheck,
+  SayMesh,
+  SayMeshOrder,
+  SayNear,
+  SayShape,
+  SayParts,
+  SayShapeOrder,
+  SaySteps,
   AreTaken,
   DrawsFile,
   ReadsFile,
@@ -189,38 +189,38 @@ asked words texts shape order steps parts near e found =
     (((f.0, ap is_grid_size f.4), f.1, f.2), (f.3, f.4), (f.5, f.6), f.7, f.8, f.9)
 
 -- the word `mesh` asks for the report alone
-pub mesh_words : (words : List (String Global)) → AreMesh words → AreAsked words false false false false false
+pub mesh_words : (words : List (String Global)) → SayMesh words → AreAsked words false false false false false
 mesh_words words m = asked words (m.0 ∷ codes "mesh" ∷ []) false false false false false m.1 (mesh_found m.0)
 
 -- `mesh --order` for the order too
-pub mesh_order_words : (words : List (String Global)) → AreMeshOrder words → AreAsked words false true false false false
+pub mesh_order_words : (words : List (String Global)) → SayMeshOrder words → AreAsked words false true false false false
 mesh_order_words words m = asked words (m.0 ∷ codes "mesh" ∷ codes "--order" ∷ []) false true false false false m.1
     (mesh_order_found m.0)
 
 -- `shape` for the shapes
-pub shape_words : (words : List (String Global)) → AreShape words → AreAsked words true false false false false
+pub shape_words : (words : List (String Global)) → SayShape words → AreAsked words true false false false false
 shape_words words m = asked words (m.0 ∷ codes "shape" ∷ []) true false false false false m.1 (shape_found m.0)
 
 -- `shape --order` for both
-pub shape_order_words : (words : List (String Global)) → AreShapeOrder words →
+pub shape_order_words : (words : List (String Global)) → SayShapeOrder words →
     AreAsked words true true false false false
 shape_order_words words m = asked words (m.0 ∷ codes "shape" ∷ codes "--order" ∷ []) true true false false false m.1
     (shape_order_found m.0)
 
 -- `steps` for the least alphas
-pub steps_words : (words : List (String Global)) → AreSteps words → AreAsked words false false true false false
+pub steps_words : (words : List (String Global)) → SaySteps words → AreAsked words false false true false false
 steps_words words m = asked words (m.0 ∷ codes "steps" ∷ []) false false true false false m.1 (steps_found m.0)
 
 -- `parts` for the solid parts
-pub parts_words : (words : List (String Global)) → AreParts words → AreAsked words false false false true false
+pub parts_words : (words : List (String Global)) → SayParts words → AreAsked words false false false true false
 parts_words words m = asked words (m.0 ∷ codes "parts" ∷ []) false false false true false m.1 (parts_found m.0)
 
 -- `near` for the answers to queries
-pub near_words : (words : List (String Global)) → AreNear words → AreAsked words false false false false true
+pub near_words : (words : List (String Global)) → SayNear words → AreAsked words false false false false true
 near_words words m = asked words (m.0 ∷ codes "near" ∷ []) false false false false true m.1 (near_found m.0)
 
 -- what `parts` alone asks for
-pub parts_asked : (words : List (String Global)) → AreParts words →
+pub parts_asked : (words : List (String Global)) → SayParts words →
     (asked_alpha words ≡ 0) × (asked_most words ≡ 0) × (asked_index words ≡ None)
 unfolding asked_alpha asked_most asked_index
 parts_asked words m = subst HasDefaults (sym m.1) (parts_defaults m.0)
@@ -234,7 +234,7 @@ unfolding clap_on_literals
 check_found name = (refl, refl, refl, refl)
 
 -- so it is taken, and asks for a verdict
-pub check_words : (words : List (String Global)) → AreCheck words →
+pub check_words : (words : List (String Global)) → SayCheck words →
     AreTaken words × ReadsSource words × (asks_check words ≡ true)
 unfolding AreTaken asks_drawn asks_check grid_size
 check_words words m =
@@ -245,8 +245,8 @@ check_words words m =
     ((f.0, ap is_grid_size f.1), f.2, f.3)
 
 -- words for a report without options have 1 worker and a grid of size 4, and read a file
-pub default_words : (words : List (String Global)) → AreMesh words ⊎ AreMeshOrder words ⊎ AreShape words ⊎
-    AreShapeOrder words
+pub default_words : (words : List (String Global)) → SayMesh words ⊎ SayMeshOrder words ⊎ SayShape words ⊎
+    SayShapeOrder words
     → ((worker_count words ≡ 1) × (grid_size words ≡ 4)) × ReadsFile words × (asks_steps words ≡ false)
     × (asks_parts words ≡ false) × (asks_near words ≡ false)
 default_words words (inl m) = let a = mesh_words words m in (a.1, a.2, a.3, a.4, a.5)

@@ -23,12 +23,12 @@ use Rattle.delaunay_cli.specs.declared.stop.Stop.TheVariants.{
   BadMesh,
 }
 use Rattle.delaunay_cli.specs.Commands.{Makes, MakesNone, Promise}
-use Rattle.delaunay_cli.specs.Files.{FileEnds, HasNoMesh, IsOfFile, IsVerdict}
+use Rattle.delaunay_cli.specs.Files.{FileEnds, HasNoMesh, IsOfFile, TellsOfBytes}
 use Rattle.delaunay_cli.specs.Parted.{IsParted, IsPartedFile, PartEnds, TellsParts}
 use Rattle.delaunay_cli.specs.Queried.{IsQueried, IsQueriedFile}
 use Rattle.delaunay_cli.specs.Reported.{IsReported}
 use Rattle.delaunay_cli.specs.Stepped.{IsStepped, IsSteppedFile}
-use Rattle.delaunay_cli.specs.Statuses.{HasText, IsEarly, IsFaultFor, IsLineOf, IsWhole, plain_line}
+use Rattle.delaunay_cli.specs.Statuses.{HasText, IsEarly, IsFaultFor, IsLineOf, IsWrittenWhole, plain_line}
 use Rattle.delaunay_cli.specs.Stops.{IsLate, line_of_end, status_of, status_of_end}
 use Rattle.delaunay_cli.specs.Words.{
   Checks,
@@ -45,13 +45,13 @@ use Rattle.delaunay_cli.specs.Words.{
   asks_shape,
   worker_count,
 }
-use Rattle.delaunay_cli.specs.Report.{text_of}
+use Rattle.delaunay_cli.specs.Report.{text_of_history}
 use Rattle.delaunay_cli.proofs.ChecksEnded.{check_early, check_made, check_unmade, status_unchecked}
 use Rattle.delaunay_cli.proofs.TextStatuses.{early_only, has_text, no_other, stopped_only, whole_only}
 
 -- of bytes of which a text is made, none of the statuses 5, 6 and 7 comes
 verdict_made : (status workers : ℕ) (h : List Entry) (P : Content → Type 0) (bytes : List ℕ) → HasText status →
-    IsOfFile workers h P bytes → IsVerdict status bytes
+    IsOfFile workers h P bytes → TellsOfBytes status bytes
 verdict_made status workers h P bytes s r =
     record {
       too_long = (
@@ -71,7 +71,7 @@ verdict_made status workers h P bytes s r =
 
 -- of bytes without one, each comes with its cause
 verdict_unmade : (left : Option (List ℕ)) (failed : Type 0) (stop : Stop) → HasNoMesh left failed stop →
-    (IsEarly (status_of stop) → ⊥) → IfSome left (IsVerdict (status_of stop))
+    (IsEarly (status_of stop) → ⊥) → IfSome left (TellsOfBytes (status_of stop))
 verdict_unmade None failed stop s late = tt
 verdict_unmade (Some bytes) failed Memory s late = absurd (late (inl refl))
 verdict_unmade (Some bytes) failed Usage s late = absurd s
@@ -133,7 +133,8 @@ plain_end : (status late : ℕ) (text : List ℕ) → late ≡ 0 → (status ≡
 plain_end status late text e s = elim s [ inl z ↦ inl (z ∙ e) | inr z ↦ inr z.0 ]
 
 -- what is told of it has a status of a whole text, and its own line
-pub late_whole : (after : Option Stop) → IsLate after → IsWhole (status_of_end after) × (status_of_end after ≤ 10) ×
+pub late_whole : (after : Option Stop) → IsLate after → IsWrittenWhole (status_of_end after)
+    × (status_of_end after ≤ 10) ×
     (line_of_end after ≡ plain_line (status_of_end after))
 late_whole None l = (inl refl, omega arith, refl)
 late_whole (Some NoPart) l = (inr (omega arith), omega arith, refl)
@@ -147,7 +148,7 @@ file_made : (workers : ℕ) (h : List Entry) (P : Content → Type 0) (left : Op
 file_made workers h P left status m s =
     record {
       statuses = elim s [ inl z ↦ omega (arith, z) | inr z ↦ omega (arith, z) ];
-      verdict = λ early. if_some (IsOfFile workers h P) (IsVerdict status) left
+      verdict = λ early. if_some (IsOfFile workers h P) (TellsOfBytes status) left
           (λ bytes. verdict_made status workers h P bytes (has_text status s)) m;
       made = λ k. m;
     }
@@ -175,7 +176,7 @@ file_early P left status s =
     }
 
 -- what is told of parts has a status of a whole text
-tells_whole : (late : ℕ) (text : List ℕ) → TellsParts late text → IsWhole late × (late ≤ 9)
+tells_whole : (late : ℕ) (text : List ℕ) → TellsParts late text → IsWrittenWhole late × (late ≤ 9)
 tells_whole late text (inl z) = (inl z, omega (arith, z))
 tells_whole late text (inr (inl e, n)) = (inr (omega (arith, e)), omega (arith, e))
 tells_whole late text (inr (inr e, n)) = (inr (omega (arith, e)), omega (arith, e))
@@ -184,9 +185,9 @@ tells_whole late text (inr (inr e, n)) = (inr (omega (arith, e)), omega (arith, 
 module _ (workers alpha most : ℕ) (index : Option ℕ) (left : Option (List ℕ)) where
   -- of bytes of which parts are told none of 5, 6 and 7 comes
   part_verdict : (status late : ℕ) (h : List Entry) (text : List ℕ) → HasText status →
-      IfSome left (IsPartedFile workers alpha most index late h text) → IfSome left (IsVerdict status)
+      IfSome left (IsPartedFile workers alpha most index late h text) → IfSome left (TellsOfBytes status)
   part_verdict status late h text has m =
-      if_some (IsPartedFile workers alpha most index late h text) (IsVerdict status) left
+      if_some (IsPartedFile workers alpha most index late h text) (TellsOfBytes status) left
       (λ bytes. verdict_made status workers h (λ file. IsParted (replay h) alpha most index late text) bytes has) m
 
   -- where they were told whole
@@ -258,7 +259,8 @@ pub promise_made : (kind : Kind) (words : List (String Global)) (left : Option (
     (text : List ℕ) → Makes kind words left late h text → (status : ℕ) →
     (status ≡ late) ⊎ ((status ≡ 4) × (text ≢ [])) → Promise kind words left status h text
 promise_made Reports words left late h text m status s =
-    file_made (worker_count words) h (λ file. text ≡ text_of (asks_shape words) (asks_order words) file h) left status
+    file_made (worker_count words) h (λ file. text ≡ text_of_history (asks_shape words) (asks_order words) file h)
+    left status
     m.1 (plain_end status late text m.0 s)
 promise_made Steps words left late h text m status s = file_made (worker_count words) h
     (λ file. IsStepped (replay h) text) left status m.1 (plain_end status late text m.0 s)

@@ -77,7 +77,7 @@ use Rattle.plain_laws.proofs.Cited.{
   segments_apart,
   segments_keep,
 }
-use Rattle.edit_workers.specs.Dealing.{AreAscending, AreOpening, CanBeDone, all_of, count_all}
+use Rattle.edit_workers.specs.Dealing.{AreTagsAscending, AreOpening, CanBeDone, all_of, count_all}
 use Rattle.edit_workers.specs.Running.{AreRun, EndsLate}
 use Rattle.edit_workers.proofs.Cited.{done_each, done_runs}
 use Rattle.delaunay_cli.specs.Run.{AreDealt}
@@ -134,15 +134,15 @@ module _ (workers : ℕ) (lines : List Pair) (lower : EachLater (λ (a b : Pair)
     segment_done few segment i = record {
       some = let n = dealt_count workers segment in omega (arith, n, some);
       short = let n = dealt_count workers segment in omega (arith, n, few);
-      tags = all_of_each AreAscending (dealt_out workers segment) (λ l j.
+      tags = all_of_each AreTagsAscending (dealt_out workers segment) (λ l j.
           let k = mapped_from (dealt_to workers segment) l (range_with_len 0 workers) j in
-          subst AreAscending k.2 (one k.0));
+          subst AreTagsAscending k.2 (one k.0));
       apart = (segments_apart lines segment workers i).1;
       alone = alone_in_any_order segment (all_of (dealt_out workers segment)) (dealt_all workers segment some)
           (segments_apart lines segment workers i).0;
     }
       where
-        one : (j : ℕ) → AreAscending (dealt_to workers segment j)
+        one : (j : ℕ) → AreTagsAscending (dealt_to workers segment j)
         one j =
             later_pairs (λ (a b : Pair). a.0 < b.0) (dealt_to workers segment j)
             (later_filter (λ (a b : Pair). a.0 < b.0) (λ line. point_of line.1 % workers == j) segment

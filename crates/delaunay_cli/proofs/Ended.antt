@@ -10,11 +10,11 @@ use Rattle.delaunay_cli.specs.declared.made.Made.{Made}
 use Rattle.delaunay_cli.specs.declared.stop.Stop.{Stop}
 use Rattle.delaunay_cli.specs.declared.stop.Stop.TheVariants.{Memory, Usage, WriteFault, BadLine}
 use Rattle.delaunay_cli.specs.Commands.{Promise}
-use Rattle.delaunay_cli.specs.Ends.{Ends, IsMade, IsPut, IsUnmade}
-use Rattle.delaunay_cli.specs.Page.{IsSound, text_of_page}
+use Rattle.delaunay_cli.specs.Ends.{Ends, IsMadeOfWords, IsPutOut, IsUnmade}
+use Rattle.delaunay_cli.specs.Page.{IsFitToWrite, text_of_page}
 use Rattle.delaunay_cli.specs.Run.{ReadsTo, limit_of}
-use Rattle.delaunay_cli.specs.Statuses.{HasText, IsToldLine, IsWhole, plain_line}
-use Rattle.delaunay_cli.specs.Stops.{line_of, line_of_end, status_of, status_of_end, status_of_made}
+use Rattle.delaunay_cli.specs.Statuses.{HasText, IsToldLine, IsWrittenWhole, plain_line}
+use Rattle.delaunay_cli.specs.Stops.{line_of_stop, line_of_end, status_of, status_of_end, status_of_made}
 use Rattle.delaunay_cli.specs.Words.{AreTaken, ReadsSource, kind_of}
 use Rattle.delaunay_cli.proofs.Judging.{reads_front}
 use Rattle.delaunay_cli.proofs.TextStatuses.{no_other, stopped_only, whole_only}
@@ -83,11 +83,11 @@ module _ (words : List (String Global)) (left_old left_new : Option (List ℕ)) 
       (promise_unmade (kind_of words) words left_old read_failed stop s.1) reads keeps
 
   -- a run that wrote
-  made : (late : ℕ) (h : List Entry) (text : List ℕ) → IsLegal h → IsMade words left_old late h text →
+  made : (late : ℕ) (h : List Entry) (text : List ℕ) → IsLegal h → IsMadeOfWords words left_old late h text →
       (ReadsSource words → IsAtEnd left_new) → (status : ℕ) → (status ≡ late) ⊎ ((status ≡ 4) × (text ≢ [])) →
       HasText status → status ≤ 10
       → HasRead status → (status ≡ 4 → write_failed) →
-      (IsWhole status → Appends held holds text) → (status ≡ 4 → AppendsFront held holds text)
+      (IsWrittenWhole status → Appends held holds text) → (status ≡ 4 → AppendsFront held holds text)
       → Ends words left_old left_new read_failed held holds write_failed status h
   made late h text legal m end status s has small reads failed whole front =
       record {
@@ -110,12 +110,13 @@ module _ (words : List (String Global)) (left_old left_new : Option (List ℕ)) 
       }
 
   -- the end of a run, of what was made and how the write ended
-  pub ends : (m : Result Made Stop) (stop : Option Stop) (status : ℕ) (h : List Entry) → IfOk m IsSound →
-      IfOk m (λ made. IsMade words left_old (status_of_end made.after) made.kept.items (text_of_page made.page)) →
+  pub ends : (m : Result Made Stop) (stop : Option Stop) (status : ℕ) (h : List Entry) → IfOk m IsFitToWrite →
+      IfOk m (λ made. IsMadeOfWords words left_old (status_of_end made.after) made.kept.items
+      (text_of_page made.page)) →
       IfErr m (IsUnmade words left_old read_failed)
       → HasRead (status_of_made m) → (ReadsSource words → IsOk m → IsAtEnd left_new) →
       status ≡ status_of_end stop
-      → IfOk m (λ made. IsPut write_failed held holds (text_of_page made.page) made.after made.kept.items stop h) →
+      → IfOk m (λ made. IsPutOut write_failed held holds (text_of_page made.page) made.after made.kept.items stop h) →
       IfErr m (λ s. (stop ≡ Some s) × (h ≡ []) × Keeps held holds)
       → Ends words left_old left_new read_failed held holds write_failed status h
   ends (Err s) stop status h sound m u reads end e put stopped_by =
@@ -130,12 +131,12 @@ module _ (words : List (String Global)) (left_old left_new : Option (List ℕ)) 
       kept k d = subst (λ (l : List Entry). Ends words left_old left_new read_failed held holds write_failed status l)
           (sym k) d
 
-      by : IsPut write_failed held holds (text_of_page v.page) v.after v.kept.items stop h →
+      by : IsPutOut write_failed held holds (text_of_page v.page) v.after v.kept.items stop h →
           Ends words left_old left_new read_failed held holds write_failed status h
       by (inl w) =
           let z = e ∙ ap status_of_end w.0 in
           let l = late_whole v.after sound.late in
-          let k = subst IsWhole (sym z) l.0 in
+          let k = subst IsWrittenWhole (sym z) l.0 in
           kept w.1 (made (status_of_end v.after) v.kept.items (text_of_page v.page) sound.legal m (λ r. end r refl)
           status (inl z) (inl k) (subst (λ (n : ℕ). n ≤ 10) (sym z) l.1)
           (λ r. reads_front (limit_of (kind_of words)) left_old left_new status (reads r)) (λ f. absurd
@@ -158,16 +159,16 @@ module _ (words : List (String Global)) (left_old left_new : Option (List ℕ)) 
   TheLine status line = IsToldLine (kind_of words) left_old status line
 
   -- the line of the end is that of its status, of what was made or of why nothing was
-  pub told : (m : Result Made Stop) (stop : Option Stop) (status : ℕ) (h : List Entry) → IfOk m IsSound →
+  pub told : (m : Result Made Stop) (stop : Option Stop) (status : ℕ) (h : List Entry) → IfOk m IsFitToWrite →
       IfErr m (IsUnmade words left_old read_failed) → status ≡ status_of_end stop
-      → IfOk m (λ made. IsPut write_failed held holds (text_of_page made.page) made.after made.kept.items stop h) →
+      → IfOk m (λ made. IsPutOut write_failed held holds (text_of_page made.page) made.after made.kept.items stop h) →
       IfErr m (λ s. (stop ≡ Some s) × (h ≡ []) × Keeps held holds) → TheLine status (line_of_end stop)
   told (Err s) stop status h sound u e put stopped_by =
       subst (λ (n : ℕ). IsToldLine (kind_of words) left_old n (line_of_end stop)) (sym e)
       (subst (λ (o : Option Stop). TheLine (status_of_end o) (line_of_end o)) (sym stopped_by.0)
       (by s u))
     where
-      by : (s : Stop) → IsUnmade words left_old read_failed s → TheLine (status_of s) (line_of s)
+      by : (s : Stop) → IsUnmade words left_old read_failed s → TheLine (status_of s) (line_of_stop s)
       by (BadLine line) u = record {
         plain = λ n. absurd (n refl);
         bad =
@@ -182,7 +183,7 @@ module _ (words : List (String Global)) (left_old left_new : Option (List ℕ)) 
       at o z l n = subst (λ (p : Option Stop). TheLine (status_of_end p) (line_of_end p)) (sym z)
           (record { plain = λ k. l; bad = λ k. absurd (n k) })
 
-      by : IsPut write_failed held holds (text_of_page v.page) v.after v.kept.items stop h →
+      by : IsPutOut write_failed held holds (text_of_page v.page) v.after v.kept.items stop h →
           IsToldLine (kind_of words) left_old (status_of_end stop) (line_of_end stop)
       by (inl w) = let l = late_whole v.after sound.late in at v.after w.0 l.2
           (λ k. whole_only (status_of_end v.after) 5 l.0 (omega arith) (omega arith) k)
@@ -190,14 +191,14 @@ module _ (words : List (String Global)) (left_old left_new : Option (List ℕ)) 
       by (inr (inr w)) = at (Some Memory) w.0 refl (λ k. omega (arith, k))
 
   -- a status of 2 is one of what was made
-  pub unread : (m : Result Made Stop) (stop : Option Stop) (status : ℕ) (h : List Entry) → IfOk m IsSound →
+  pub unread : (m : Result Made Stop) (stop : Option Stop) (status : ℕ) (h : List Entry) → IfOk m IsFitToWrite →
       status ≡ status_of_end stop
-      → IfOk m (λ made. IsPut write_failed held holds (text_of_page made.page) made.after made.kept.items stop h) →
+      → IfOk m (λ made. IsPutOut write_failed held holds (text_of_page made.page) made.after made.kept.items stop h) →
       IfErr m (λ s. (stop ≡ Some s) × (h ≡ []) × Keeps held holds) → status ≡ 2 → status_of_made m ≡ 2
   unread (Err s) stop status h sound e put stopped_by k = sym (ap status_of_end stopped_by.0) ∙ sym e ∙ k
   unread (Ok v) stop status h sound e put stopped_by k = absurd (by put)
     where
-      by : IsPut write_failed held holds (text_of_page v.page) v.after v.kept.items stop h → ⊥
+      by : IsPutOut write_failed held holds (text_of_page v.page) v.after v.kept.items stop h → ⊥
       by (inl w) = whole_only (status_of_end v.after) 2 (late_whole v.after sound.late).0 (omega arith) (omega arith)
           (sym (e ∙ ap status_of_end w.0) ∙ k)
       by (inr (inl w)) = let z = e ∙ ap status_of_end w.0 in omega (arith, z, k)

@@ -14,7 +14,7 @@ use Rattle.delaunay_cli.specs.declared.task.Wanted.{Wanted}
 use Rattle.delaunay_cli.specs.declared.task.Task.TheVariants.{Report, Step, Part, Query, Check, Draw}
 use Rattle.delaunay_cli.specs.Checked.{IsChecked, IsUnchecked, TellsVerdict}
 use Rattle.delaunay_cli.specs.Commands.{Makes, MakesNone}
-use Rattle.delaunay_cli.specs.Ends.{IsMade, IsUnmade}
+use Rattle.delaunay_cli.specs.Ends.{IsMadeOfWords, IsUnmade}
 use Rattle.delaunay_cli.specs.Page.{text_of_page}
 use Rattle.delaunay_cli.specs.Files.{HasNoMesh}
 use Rattle.delaunay_cli.specs.Parted.{IsPartedFile, TellsParts}
@@ -176,7 +176,7 @@ module _ (words : List (String Global)) (left : Option (List ℕ)) (failed : Typ
   pub reported_made : (asked : Asked) → IsTask words (Report making asked) → (m : Result Made Stop)
       → IfOk m (λ made. IfSome left (IsReported making.workers asked.shape asked.order made.kept.items
       (text_of_page made.page))) → IfOk m (λ made. made.after ≡ None) →
-      IfOk m (λ made. IsMade words left (status_of_end made.after) made.kept.items (text_of_page made.page))
+      IfOk m (λ made. IsMadeOfWords words left (status_of_end made.after) made.kept.items (text_of_page made.page))
   reported_made asked t (Err stop) r n = tt
   reported_made asked t (Ok made) r n =
       let k = reads_file words making asked t in
@@ -213,7 +213,7 @@ module _ (words : List (String Global)) (left : Option (List ℕ)) (failed : Typ
   -- `steps`
   pub stepped_made : IsTask words (Step making) → (m : Result Made Stop)
       → IfOk m (λ made. IfSome left (IsSteppedFile making.workers made.kept.items (text_of_page made.page))) →
-      IfOk m (λ made. made.after ≡ None) → IfOk m (λ made. IsMade words left (status_of_end made.after)
+      IfOk m (λ made. made.after ≡ None) → IfOk m (λ made. IsMadeOfWords words left (status_of_end made.after)
       made.kept.items (text_of_page made.page))
   stepped_made t (Err stop) r n = tt
   stepped_made t (Ok made) r n =
@@ -238,7 +238,7 @@ module _ (words : List (String Global)) (left : Option (List ℕ)) (failed : Typ
       → IfOk m (λ made. IfSome left (IsPartedFile making.workers wanted.alpha wanted.most wanted.off
       (status_of_end made.after) made.kept.items (text_of_page made.page))) →
       IfOk m (λ made. TellsParts (status_of_end made.after) (text_of_page made.page)) →
-      IfOk m (λ made. IsMade words left (status_of_end made.after) made.kept.items (text_of_page made.page))
+      IfOk m (λ made. IsMadeOfWords words left (status_of_end made.after) made.kept.items (text_of_page made.page))
   parted_made wanted t (Err stop) r n = tt
   parted_made wanted t (Ok made) r n =
       let k = parts_file words making wanted t in
@@ -266,7 +266,7 @@ module _ (words : List (String Global)) (left : Option (List ℕ)) (failed : Typ
   -- `near`
   pub queried_made : IsTask words (Query making) → (m : Result Made Stop)
       → IfOk m (λ made. IfSome left (IsQueriedFile making.workers made.kept.items (text_of_page made.page))) →
-      IfOk m (λ made. made.after ≡ None) → IfOk m (λ made. IsMade words left (status_of_end made.after)
+      IfOk m (λ made. made.after ≡ None) → IfOk m (λ made. IsMadeOfWords words left (status_of_end made.after)
       made.kept.items (text_of_page made.page))
   queried_made t (Err stop) r n = tt
   queried_made t (Ok made) r n =
@@ -291,7 +291,7 @@ module _ (words : List (String Global)) (left : Option (List ℕ)) (failed : Typ
   pub drawn_made : (drawn : Drawn) → IsTask words (Draw making drawn) → (m : Result Made Stop)
       → IfOk m (λ made. IsDrawn drawn.text making.workers (generated drawn.count drawn.start) made.kept.items
       (text_of_page made.page)) → IfOk m (λ made. made.after ≡ None) →
-      IfOk m (λ made. IsMade words left (status_of_end made.after) made.kept.items (text_of_page made.page))
+      IfOk m (λ made. IsMadeOfWords words left (status_of_end made.after) made.kept.items (text_of_page made.page))
   drawn_made drawn t (Err stop) d n = tt
   drawn_made drawn t (Ok made) d n =
       let k = draws_file words making drawn t in (
@@ -314,7 +314,7 @@ module _ (words : List (String Global)) (left : Option (List ℕ)) (failed : Typ
   pub checked_made : (m : Result Made Stop)
       → IfOk m (λ made. IfSome left (IsChecked (status_of_end made.after) (text_of_page made.page))) →
       IfOk m (λ made. TellsVerdict (status_of_end made.after)) → IfOk m (λ made. made.kept.items ≡ []) →
-      IfOk m (λ made. IsMade words left (status_of_end made.after) made.kept.items (text_of_page made.page))
+      IfOk m (λ made. IsMadeOfWords words left (status_of_end made.after) made.kept.items (text_of_page made.page))
   checked_made (Err stop) r v n = tt
   checked_made (Ok made) r v n = (
     taken,

@@ -51,10 +51,10 @@ use Rattle.std.proofs.lemmas.Bool.Decides.{nat_tests}
 use Rattle.edit_files.proofs.Cited.{no_minus}
 use Rattle.cell_store.specs.Grids.{is_grid_size}
 use Rattle.delaunay_cli.specs.Words.{
-  AreGen,
-  AreGenText,
-  AreMeshing,
-  ArePartsAt,
+  SayGen,
+  SayGenText,
+  SayMeshing,
+  SayPartsAt,
   AreTaken,
   DrawsFile,
   ReadsFile,
@@ -222,7 +222,7 @@ gen_asked words texts count start text few small e found =
 
 -- the words `gen`, `--count=N` and `--start=M` ask for the file of N and M, and with `--text` for its text
 pub gen_words : (words : List (String Global)) (count start : ℕ) → count ≤ most_count → start ≤ most_start →
-    AreGen count start words →
+    SayGen count start words →
     AreTaken words × DrawsFile words × (drawn_count words ≡ count) × (drawn_start words ≡ start) ×
     (asks_text words ≡ false)
 unfolding gen_texts
@@ -231,7 +231,7 @@ gen_words words count start few small m = gen_asked words (gen_texts m.0 (decima
 
 -- the same words with `--text`
 pub gen_text_words : (words : List (String Global)) (count start : ℕ) → count ≤ most_count → start ≤ most_start →
-    AreGenText count start words →
+    SayGenText count start words →
     AreTaken words × DrawsFile words × (drawn_count words ≡ count) × (drawn_start words ≡ start) ×
     (asks_text words ≡ true)
 unfolding gen_texts
@@ -317,7 +317,7 @@ parts_asked_at words texts alpha most index a m i e found =
 
 -- the words `parts`, `--alpha=A`, `--most=K` and `--off=I` ask for A, K and I
 pub parts_at_words : (words : List (String Global)) (alpha most index : ℕ) → alpha ≤ most_alpha → most ≤ most_index →
-    index ≤ most_index → ArePartsAt alpha most index words →
+    index ≤ most_index → SayPartsAt alpha most index words →
     AreTaken words × (worker_count words ≡ 1) × (grid_size words ≡ 4) × ReadsFile words × (asks_steps words ≡ false)
     × (asks_parts words ≡ true) × (asked_alpha words ≡ alpha) × (asked_most words ≡ most)
     × (asked_index words ≡ Some index)
@@ -472,35 +472,35 @@ meshing_asked words texts workers grid shape steps parts near some few size e fo
 module _ (words : List (String Global)) (workers grid : ℕ) (some : 0 < workers) (few : workers ≤ most_workers)
     (size : is_grid_size grid ≡ true) where
   -- `mesh` with workers and a grid
-  pub mesh_workers_words : AreMeshing (codes "mesh") workers grid words →
+  pub mesh_workers_words : SayMeshing (codes "mesh") workers grid words →
       AreAskedMeshing words workers grid false false false false
   unfolding meshing_texts
   mesh_workers_words m = meshing_asked words (meshing_texts m.0 (codes "mesh") (decimal workers) (decimal grid))
       workers grid false false false false some few size m.1 (mesh_found m.0 (decimal workers) (decimal grid))
 
   -- `shape`
-  pub shape_workers_words : AreMeshing (codes "shape") workers grid words →
+  pub shape_workers_words : SayMeshing (codes "shape") workers grid words →
       AreAskedMeshing words workers grid true false false false
   unfolding meshing_texts
   shape_workers_words m = meshing_asked words (meshing_texts m.0 (codes "shape") (decimal workers) (decimal grid))
       workers grid true false false false some few size m.1 (shape_found m.0 (decimal workers) (decimal grid))
 
   -- `steps`
-  pub steps_workers_words : AreMeshing (codes "steps") workers grid words →
+  pub steps_workers_words : SayMeshing (codes "steps") workers grid words →
       AreAskedMeshing words workers grid false true false false
   unfolding meshing_texts
   steps_workers_words m = meshing_asked words (meshing_texts m.0 (codes "steps") (decimal workers) (decimal grid))
       workers grid false true false false some few size m.1 (steps_found m.0 (decimal workers) (decimal grid))
 
   -- `parts`
-  pub parts_workers_words : AreMeshing (codes "parts") workers grid words →
+  pub parts_workers_words : SayMeshing (codes "parts") workers grid words →
       AreAskedMeshing words workers grid false false true false
   unfolding meshing_texts
   parts_workers_words m = meshing_asked words (meshing_texts m.0 (codes "parts") (decimal workers) (decimal grid))
       workers grid false false true false some few size m.1 (parts_found m.0 (decimal workers) (decimal grid))
 
   -- `near`
-  pub near_workers_words : AreMeshing (codes "near") workers grid words →
+  pub near_workers_words : SayMeshing (codes "near") workers grid words →
       AreAskedMeshing words workers grid false false false true
   unfolding meshing_texts
   near_workers_words m = meshing_asked words (meshing_texts m.0 (codes "near") (decimal workers) (decimal grid))

@@ -42,7 +42,7 @@ use Rattle.near_vertex.specs.declared.answers.Near.{Near}
 use Rattle.near_vertex.specs.Answers.{AreNear}
 use Rattle.near_vertex.specs.Text.{near_text}
 use Rattle.plain_laws.specs.Plain.{IsAnchored}
-use Rattle.solid_parts.specs.Parts.{AreParts}
+use Rattle.solid_parts.specs.Parts.{AreSolidParts}
 use Rattle.solid_parts.proofs.Cited.{same_count}
 use Rattle.alpha_complex.specs.Shapes.{shape_of}
 use Rattle.delaunay_cli.specs.Checked.{CheckEnds}
@@ -50,13 +50,13 @@ use Rattle.delaunay_cli.specs.Commands.{Promise}
 use Rattle.delaunay_cli.specs.Drawn.{DrawEnds, IsKeptOfDrawn, drawn_file}
 use Rattle.delaunay_cli.specs.Ends.{Ends}
 use Rattle.delaunay_cli.specs.PlainText.{plain_drawn, plain_text}
-use Rattle.delaunay_cli.specs.Report.{text_of}
-use Rattle.delaunay_cli.specs.Files.{IsOfFile, IsVerdict}
+use Rattle.delaunay_cli.specs.Report.{text_of_history}
+use Rattle.delaunay_cli.specs.Files.{IsOfFile, TellsOfBytes}
 use Rattle.delaunay_cli.specs.Parted.{
   HasNoAlpha,
   HasNoPart,
   HasParts,
-  IsAsked,
+  IsAskedAlpha,
   IsParted,
   IsPartedFile,
   PartEnds,
@@ -66,7 +66,7 @@ use Rattle.delaunay_cli.specs.Queried.{IsQueried, QueryEnds}
 use Rattle.delaunay_cli.specs.Reported.{IsReported, ReportEnds}
 use Rattle.delaunay_cli.specs.Stepped.{IsStepped, StepEnds}
 use Rattle.delaunay_cli.specs.Run.{IsKept, IsSolidFile, Writes, WritesFront, input_limit}
-use Rattle.delaunay_cli.specs.Statuses.{HasText, IsEarly, IsWhole}
+use Rattle.delaunay_cli.specs.Statuses.{HasText, IsEarly, IsWrittenWhole}
 use Rattle.delaunay_cli.specs.Words.{
   AreTaken,
   Checks,
@@ -136,7 +136,8 @@ up_to_10 Draws words left status h text p = elim p.statuses [
 -- ---- what is told of parts
 
 -- at one alpha alone the parts are taken
-one_alpha : (s : List ℕ) (alpha most : ℕ) (a b : Option ℕ) → IsAsked s alpha most a → IsAsked s alpha most b → a ≡ b
+one_alpha : (s : List ℕ) (alpha most : ℕ) (a b : Option ℕ) → IsAskedAlpha s alpha most a →
+    IsAskedAlpha s alpha most b → a ≡ b
 one_alpha s alpha zero a b p q = p ∙ sym q
 one_alpha s alpha (suc k) None None p q = refl
 one_alpha s alpha (suc k) None (Some b) p q = absurd (p b q.0 q.1)
@@ -150,12 +151,12 @@ one_alpha s alpha (suc k) (Some a) (Some b) p q = elim (cases_lt a b) [
 ]
 
 -- where no alpha is asked for, a most of parts is, and there is none for it
-asked_none : (s : List ℕ) (alpha most : ℕ) → IsAsked s alpha most None → HasNoAlpha s most
+asked_none : (s : List ℕ) (alpha most : ℕ) → IsAskedAlpha s alpha most None → HasNoAlpha s most
 asked_none s alpha zero e = absurd (cc)
 asked_none s alpha (suc k) p = (omega arith, p)
 
 -- and where there is none for it, no alpha is asked for
-none_asked : (s : List ℕ) (alpha most : ℕ) → HasNoAlpha s most → IsAsked s alpha most None
+none_asked : (s : List ℕ) (alpha most : ℕ) → HasNoAlpha s most → IsAskedAlpha s alpha most None
 none_asked s alpha zero p = absurd (let l = p.0 in omega (arith, l))
 none_asked s alpha (suc k) p = p.1
 
@@ -174,7 +175,8 @@ pub nine_is : (s : List ℕ) (alpha most : ℕ) (index : Option ℕ) (status : �
     IsParted s alpha most index status text → (status ≡ 9) ↔ HasNoAlpha s most
 nine_is s alpha most index status text p = by p.at p.asked p.told
   where
-    by : (at : Option ℕ) → IsAsked s alpha most at → TellsAt s at index status text → (status ≡ 9) ↔ HasNoAlpha s most
+    by : (at : Option ℕ) → IsAskedAlpha s alpha most at → TellsAt s at index status text →
+        (status ≡ 9) ↔ HasNoAlpha s most
     by None a t = (λ e. asked_none s alpha most a, λ n. t.0)
     by (Some at) a t = (
       λ e. absurd (elim (told_at s at index status text t)
@@ -187,13 +189,13 @@ pub eight_is : (s : List ℕ) (alpha most i status : ℕ) (text : List ℕ) →
     IsParted s alpha most (Some i) status text → (status ≡ 8) ↔ HasNoPart s alpha most i
 eight_is s alpha most i status text p = by p.at p.asked p.told
   where
-    counted : (a b : ℕ) (ps qs : List (List (List ℕ))) → Some a ≡ Some b → AreParts (shape_of s a).cells ps →
-        AreParts (shape_of s b).cells qs → length ps ≡ length qs
+    counted : (a b : ℕ) (ps qs : List (List (List ℕ))) → Some a ≡ Some b → AreSolidParts (shape_of s a).cells ps →
+        AreSolidParts (shape_of s b).cells qs → length ps ≡ length qs
     counted a b ps qs e p q =
         let same : a ≡ b = cc in
-        same_count (shape_of s b).cells ps qs (subst (λ (n : ℕ). AreParts (shape_of s n).cells ps) same p) q
+        same_count (shape_of s b).cells ps qs (subst (λ (n : ℕ). AreSolidParts (shape_of s n).cells ps) same p) q
 
-    by : (at : Option ℕ) → IsAsked s alpha most at → TellsAt s at (Some i) status text →
+    by : (at : Option ℕ) → IsAskedAlpha s alpha most at → TellsAt s at (Some i) status text →
         (status ≡ 8) ↔ HasNoPart s alpha most i
     by None a t = (
       λ e. absurd (let z = t.0 in omega (arith, z, e)),
@@ -261,7 +263,7 @@ module _ {words : List (String Global)} {left left_after : Option (List ℕ)} {r
   of_drawn d = subst (λ (kind : Kind). Promise kind words left status kept e.text) (draws words d) e.promise
 
   -- what the statuses tell of the bytes
-  verdict : ReadsFile words → (IsEarly status → ⊥) → IfSome left (IsVerdict status)
+  verdict : ReadsFile words → (IsEarly status → ⊥) → IfSome left (TellsOfBytes status)
   verdict w late = elim (kind_read words w) [
     | inl k ↦ (of_report k).verdict late
     | inr (inl k) ↦ (of_steps k).verdict late
@@ -270,9 +272,9 @@ module _ {words : List (String Global)} {left left_after : Option (List ℕ)} {r
   ]
 
   -- what follows of the verdict follows of the bytes that are read
-  pub of_bytes : (P : List ℕ → Type 0) → ((bytes : List ℕ) → IsVerdict status bytes → P bytes) → ReadsFile words →
+  pub of_bytes : (P : List ℕ → Type 0) → ((bytes : List ℕ) → TellsOfBytes status bytes → P bytes) → ReadsFile words →
       (IsEarly status → ⊥) → IfSome left P
-  of_bytes P f w late = if_some (IsVerdict status) P left f (verdict w late)
+  of_bytes P f w late = if_some (TellsOfBytes status) P left f (verdict w late)
 
   -- what is kept of the file
   of_one : (P : Content → Type 0) (Q : Content → Type 0) → ((file : Content) → IsKept file (worker_count words) kept →
@@ -291,7 +293,7 @@ module _ {words : List (String Global)} {left left_after : Option (List ℕ)} {r
       (λ bytes. (file : Content) → IsFile file_limits bytes file → P file)
   of_kept P f w s =
       elim (kind_read words w) [
-        | inl k ↦ of_one P (λ file. e.text ≡ text_of (asks_shape words) (asks_order words) file kept)
+        | inl k ↦ of_one P (λ file. e.text ≡ text_of_history (asks_shape words) (asks_order words) file kept)
             (λ file k t. f file k) ((of_report k).made s)
         | inr (inl k) ↦ of_one P (λ file. IsStepped (replay kept) e.text) (λ file k t. f file k) ((of_steps k).made s)
         | inr (inr (inl k)) ↦ elim s [
@@ -317,19 +319,19 @@ module _ {words : List (String Global)} {left left_after : Option (List ℕ)} {r
 
   -- and what is written of it
   pub of_file : (P : Content → Type 0) → ((file : Content) → IsKept file (worker_count words) kept →
-      e.text ≡ text_of (asks_shape words) (asks_order words) file kept → P file)
+      e.text ≡ text_of_history (asks_shape words) (asks_order words) file kept → P file)
       → WritesReport words → (status ≡ 0) ⊎ (status ≡ 4) → IfSome left
       (λ bytes. (file : Content) → IsFile file_limits bytes file → P file)
-  of_file P f w s = of_one P (λ file. e.text ≡ text_of (asks_shape words) (asks_order words) file kept) f
+  of_file P f w s = of_one P (λ file. e.text ≡ text_of_history (asks_shape words) (asks_order words) file kept) f
       ((of_report w).made (has_text status s))
 
   -- the text of an anchored file, and of a drawn one
   pub anchored_text : (file : Content) → IsKept file (worker_count words) kept →
-      e.text ≡ text_of (asks_shape words) (asks_order words) file kept → asks_order words ≡ false →
+      e.text ≡ text_of_history (asks_shape words) (asks_order words) file kept → asks_order words ≡ false →
       IsAnchored file.points file.edits
       → e.text ≡ plain_text (asks_shape words) file
   anchored_text file k t o anchored =
-      t ∙ ap (λ (b : Bool). text_of (asks_shape words) b file kept) o ∙ ap report_text
+      t ∙ ap (λ (b : Bool). text_of_history (asks_shape words) b file kept) o ∙ ap report_text
       (kept_is_plain (asks_shape words) file (worker_count words) kept anchored k.keeps e.legal)
 
   -- what is written of a drawn file goes by the words alone
@@ -339,11 +341,11 @@ module _ {words : List (String Global)} {left left_after : Option (List ℕ)} {r
 
   -- of a solid file within the limit a run ends with status 1 or one of a whole text
   pub completes : AreTaken words → ReadsFile words → IfSome left (λ bytes. IsSolidFile bytes → (read_failed → ⊥) →
-      (write_failed → ⊥) → IsWhole status ⊎ (status ≡ 1))
+      (write_failed → ⊥) → IsWrittenWhole status ⊎ (status ≡ 1))
   completes w k = by left (verdict k)
     where
-      by : (left : Option (List ℕ)) → ((IsEarly status → ⊥) → IfSome left (IsVerdict status)) →
-          IfSome left (λ bytes. IsSolidFile bytes → (read_failed → ⊥) → (write_failed → ⊥) → IsWhole status ⊎
+      by : (left : Option (List ℕ)) → ((IsEarly status → ⊥) → IfSome left (TellsOfBytes status)) →
+          IfSome left (λ bytes. IsSolidFile bytes → (read_failed → ⊥) → (write_failed → ⊥) → IsWrittenWhole status ⊎
           (status ≡ 1))
       by None v = tt
       by (Some bytes) v =
@@ -354,7 +356,7 @@ module _ {words : List (String Global)} {left left_after : Option (List ℕ)} {r
           elim (cases_eq status 1) [
             | inl k ↦ inr k
             | inr ne1 ↦
-                let told : IsVerdict status bytes = v (λ s. elim s
+                let told : TellsOfBytes status bytes = v (λ s. elim s
                 [ inl k ↦ ne1 k | inr t ↦ elim t [ inl k ↦ ne2 k | inr k ↦ ne3 k ] ]) in
                 let ne7 : status ≢ 7 = λ k. let l : input_limit < length bytes = told.too_long.0 k in let m =
                 solid.0 in omega (arith, l, m) in
@@ -382,7 +384,8 @@ module _ {words : List (String Global)} {left left_after : Option (List ℕ)} {r
         | inr (inl r) ↦ inr (inl r)
         | inr (inr r) ↦ inr (inr (inr r))
       ]) in
-      if_some (λ bytes. IsSolidFile bytes → (read_failed → ⊥) → (write_failed → ⊥) → IsWhole status ⊎ (status ≡ 1))
+      if_some (λ bytes. IsSolidFile bytes → (read_failed → ⊥) → (write_failed → ⊥) →
+      IsWrittenWhole status ⊎ (status ≡ 1))
       (λ bytes. IsSolidFile bytes → (read_failed → ⊥) → (write_failed → ⊥) → (status ≡ 0) ⊎ (status ≡ 1)) left
       (λ bytes f solid nr nw. elim (f solid nr nw) [
         | inl (inl z) ↦ inl z

@@ -25,7 +25,7 @@ use Rattle.alpha_complex.specs.declared.shape.Kind.{Kind}
 use Rattle.alpha_complex.specs.Admitted.{kind}
 use Rattle.alpha_complex.specs.Shapes.{ShapeParts, shape_of, shape_seen}
 use Rattle.alpha_complex.specs.Slots.{ShapeSlots}
-use Rattle.mesh_files.specs.Report.{AreCounted, shapes_seen}
+use Rattle.mesh_files.specs.Report.{AreCountedInOrder, shapes_seen}
 use Rattle.mesh_files.specs.Text.{counted}
 use Rattle.edit_files.specs.Versions.{alpha_of}
 use Rattle.edit_files.specs.declared.version.Version.{Version}
@@ -81,7 +81,7 @@ points_are s alpha = firsts s
 
 -- so each shape counts by them, and they ascend
 pub shapes_counted : (v : Version) (radii s : List ℕ) → IsAscending s →
-    AreCounted (map (λ radius. (radius, shape_of s (alpha_of v radius))) radii)
+    AreCountedInOrder (map (λ radius. (radius, shape_of s (alpha_of v radius))) radii)
 shapes_counted v radii s a = record {
   ascending =
       λ p i. by p (mapped_from (λ (radius : ℕ). (radius, shape_of s (alpha_of v radius))) p radii i);

@@ -1,6 +1,6 @@
 -- Which statuses are those of a text.
 use Rattle.std.proofs.Common.{◌≡◌, ◌≢◌, ◌⊎◌, inl, inr, sym, ◌∙◌, ℕ, ◌<◌, ◌≤◌, arith}
-use Rattle.delaunay_cli.specs.Statuses.{HasText, IsWhole}
+use Rattle.delaunay_cli.specs.Statuses.{HasText, IsWrittenWhole}
 
 -- a status with a text is 0, 4 or above 7
 pub no_other : (status : ℕ) → HasText status → (k : ℕ) → 0 < k → k ≤ 7 → 4 ≢ k → status ≡ k → ⊥
@@ -24,6 +24,6 @@ early_only status (inl z) k = no_other status k 1 (omega arith) (omega arith) (�
 early_only status (inr z) k = no_other status k 2 (omega arith) (omega arith) (λ e. omega (arith, e)) z
 
 -- a status of a whole text is none from 1 to 7
-pub whole_only : (status k : ℕ) → IsWhole status → 0 < k → k ≤ 7 → status ≡ k → ⊥
+pub whole_only : (status k : ℕ) → IsWrittenWhole status → 0 < k → k ≤ 7 → status ≡ k → ⊥
 whole_only status k (inl z) a b e = omega (arith, a, z, e)
 whole_only status k (inr l) a b e = omega (arith, b, l, e)

@@ -14,7 +14,7 @@ use Rattle.mesh_check.specs.Text.{is_good, verdict_text}
 use Rattle.delaunay_cli.specs.declared.stop.Stop.{Stop}
 use Rattle.delaunay_cli.specs.declared.stop.Stop.TheVariants.{Memory, ReadFault, BadLine, TooLong}
 use Rattle.delaunay_cli.specs.Run.{mesh_limit}
-use Rattle.delaunay_cli.specs.Statuses.{IsEarly, IsLineOf, IsWhole}
+use Rattle.delaunay_cli.specs.Statuses.{IsEarly, IsLineOf, IsWrittenWhole}
 
 -- the status of a verdict
 abbrev pub status_of_verdict : Verdict → ℕ
@@ -60,8 +60,8 @@ IsUnchecked left failed TooLong = IfSome left (λ bytes. mesh_limit < length byt
 IsUnchecked left failed stop = ⊥
 
 -- the mesh is the complex of its points, which are solid
-abbrev pub IsGood : MeshParts → Type 0
-IsGood mesh = IsComplex mesh.points (listed mesh.cells mesh.hull)
+abbrev pub IsTrueMesh : MeshParts → Type 0
+IsTrueMesh mesh = IsComplex mesh.points (listed mesh.cells mesh.hull)
 
 -- the bytes, within the limit, are the text of a mesh
 abbrev pub IsMeshWithin : List ℕ → Type 0
@@ -82,5 +82,5 @@ pub record CheckEnds (left : Option (List ℕ)) (status : ℕ) (h : List Entry) 
   pub statuses : (status ≤ 5) ⊎ (status ≡ 7) ⊎ (status ≡ 10)
   pub no_history : h ≡ []
   pub verdict : (IsEarly status → ⊥) → IfSome left (IsMeshVerdict status)
-  pub made : IsWhole status → IfSome left (IsChecked status text)
+  pub made : IsWrittenWhole status → IfSome left (IsChecked status text)
   pub cut : status ≡ 4 → IfSome left (λ bytes. (late : ℕ) × IsChecked late text bytes)

@@ -9,12 +9,12 @@ use Rattle.delaunay_cli.specs.declared.stop.Stop.{Stop}
 use Rattle.delaunay_cli.specs.declared.stop.Stop.TheVariants.{Memory, Usage, WriteFault}
 use Rattle.delaunay_cli.specs.Commands.{Makes, MakesNone, Promise}
 use Rattle.delaunay_cli.specs.Run.{ReadsTo, limit_of}
-use Rattle.delaunay_cli.specs.Statuses.{HasText, IsWhole}
+use Rattle.delaunay_cli.specs.Statuses.{HasText, IsWrittenWhole}
 use Rattle.delaunay_cli.specs.Words.{AreTaken, ReadsSource, kind_of}
 
 -- the words are taken, and this is the history and the text that their command makes
-abbrev pub IsMade : List (String Global) → Option (List ℕ) → ℕ → List Entry → List ℕ → Type 0
-IsMade words left late h text = AreTaken words × Makes (kind_of words) words left late h text
+abbrev pub IsMadeOfWords : List (String Global) → Option (List ℕ) → ℕ → List Entry → List ℕ → Type 0
+IsMadeOfWords words left late h text = AreTaken words × Makes (kind_of words) words left late h text
 
 -- why nothing is made, where the source had these bytes left, and by whether it failed
 abbrev pub IsUnmade : List (String Global) → Option (List ℕ) → Type 0 → Stop → Type 0
@@ -31,9 +31,9 @@ IsUnput failed held holds text stop =
 -- The end of what was made, with its history: the output gained the text where the run ends with what is told of it,
 -- and a front of it, which is not empty, where the output failed. Where memory was wanting the output is as before, and
 -- there is no history.
-abbrev pub IsPut : Type 0 → Option (List ℕ) → Option (List ℕ) → List ℕ → Option Stop → List Entry → Option Stop
+abbrev pub IsPutOut : Type 0 → Option (List ℕ) → Option (List ℕ) → List ℕ → Option Stop → List Entry → Option Stop
     → List Entry → Type 0
-IsPut failed held holds text after kept stop h =
+IsPutOut failed held holds text after kept stop h =
     ((stop ≡ after) × (h ≡ kept) × Appends held holds text)
     ⊎ ((stop ≡ Some WriteFault) × (h ≡ kept) × failed × AppendsFront held holds text × (text ≢ []))
     ⊎ ((stop ≡ Some Memory) × (h ≡ []) × Keeps held holds)
@@ -47,11 +47,11 @@ pub record Ends (words : List (String Global)) (left_old left_new : Option (List
   pub read_fault : status ≡ 3 → read_failed
   pub write_fault : status ≡ 4 → write_failed
   pub reads : ReadsSource words → ReadsTo (limit_of (kind_of words)) left_old left_new status
-  pub to_its_end : ReadsSource words → IsWhole status → IsAtEnd left_new
+  pub to_its_end : ReadsSource words → IsWrittenWhole status → IsAtEnd left_new
   pub legal : IsLegal h
   pub text : List ℕ
   pub promise : Promise (kind_of words) words left_old status h text
-  pub whole : IsWhole status → Appends held holds text
+  pub whole : IsWrittenWhole status → Appends held holds text
   pub front : status ≡ 4 → AppendsFront held holds text
   pub none_kept : (HasText status → ⊥) → h ≡ []
   pub nothing : (HasText status → ⊥) → Keeps held holds

@@ -47,7 +47,7 @@ HasNoMesh left failed TooLong = IfSome left (λ bytes. input_limit < length byte
 HasNoMesh left failed stop = ⊥
 
 -- The statuses 7, 5 and 6 tell of these bytes.
-pub record IsVerdict (status : ℕ) (bytes : List ℕ) : Type 0 where
+pub record TellsOfBytes (status : ℕ) (bytes : List ℕ) : Type 0 where
   pub too_long : status ≡ 7 ↔ (input_limit < length bytes)
   pub bad_line : status ≢ 7 → (status ≡ 5 ↔ HasFault bytes)
   pub not_solid : status ≢ 7 → (file : Content) → IsFile file_limits bytes file →
@@ -57,5 +57,5 @@ pub record IsVerdict (status : ℕ) (bytes : List ℕ) : Type 0 where
 -- source had left, and the status.
 pub record FileEnds (P : List ℕ → Type 0) (left : Option (List ℕ)) (status : ℕ) : Type 0 where
   pub statuses : status ≤ 7
-  pub verdict : (IsEarly status → ⊥) → IfSome left (IsVerdict status)
+  pub verdict : (IsEarly status → ⊥) → IfSome left (TellsOfBytes status)
   pub made : HasText status → IfSome left P

@@ -62,7 +62,7 @@ text_of_page (Text text) = text.items
 text_of_page (Report form parts) = text_of_form form (report_of_parts parts)
 
 -- The parts are those of a solid set, its complex, and radii of their version.
-pub record IsReady (parts : Parts) : Type 0 where
+pub record AreReportParts (parts : Parts) : Type 0 where
   pub ascending : IsAscending parts.points.items
   pub keys : AreKeys parts.points.items
   pub solid : is_solid parts.points.items ≡ true
@@ -72,10 +72,10 @@ pub record IsReady (parts : Parts) : Type 0 where
 -- the parts of a report are ready
 abbrev pub IsWritable : Page → Type 0
 IsWritable (Text text) = ⊤
-IsWritable (Report form parts) = IsReady parts
+IsWritable (Report form parts) = AreReportParts parts
 
 -- The history is legal, the page can be written, and what is told of it comes after a whole text.
-pub record IsSound (made : Made) : Type 0 where
+pub record IsFitToWrite (made : Made) : Type 0 where
   pub legal : IsLegal made.kept.items
   pub writable : IsWritable made.page
   pub late : IsLate made.after

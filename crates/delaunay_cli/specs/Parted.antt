@@ -22,16 +22,16 @@ use Rattle.alpha_complex.specs.Shapes.{shape_of}
 use Rattle.mesh_files.specs.Off.{off_text}
 use Rattle.solid_parts.specs.Boundary.{boundary_of}
 use Rattle.solid_parts.specs.LeastAlpha.{IsLeastAlpha}
-use Rattle.solid_parts.specs.Parts.{AreParts}
+use Rattle.solid_parts.specs.Parts.{AreSolidParts}
 use Rattle.solid_parts.specs.Text.{parts_text}
-use Rattle.delaunay_cli.specs.Files.{IsOfFile, IsVerdict}
-use Rattle.delaunay_cli.specs.Statuses.{IsEarly, IsWhole}
+use Rattle.delaunay_cli.specs.Files.{IsOfFile, TellsOfBytes}
+use Rattle.delaunay_cli.specs.Statuses.{IsEarly, IsWrittenWhole}
 
 -- The alpha at which the parts are taken: the one that is given, and where a most of parts above 0 is asked for, the
 -- least at which every point is in an admitted cell and there are at most so many; then there may be none.
-abbrev pub IsAsked : List ℕ → ℕ → ℕ → Option ℕ → Type 0
-IsAsked s alpha zero at = at ≡ Some alpha
-IsAsked s alpha (suc k) at = IsLeastAlpha s (suc k) at
+abbrev pub IsAskedAlpha : List ℕ → ℕ → ℕ → Option ℕ → Type 0
+IsAskedAlpha s alpha zero at = at ≡ Some alpha
+IsAskedAlpha s alpha (suc k) at = IsLeastAlpha s (suc k) at
 
 -- what is told of the parts at an alpha, the status and the text: of all, or where one is asked for by its index, its
 -- boundary; where there is none of that index, the status is 8 and the text is empty
@@ -44,7 +44,7 @@ TellsOf s at parts (Some i) status text =
 -- The parts of a set at an alpha, and what is told of them.
 pub record HasParts (s : List ℕ) (at : ℕ) (index : Option ℕ) (status : ℕ) (text : List ℕ) : Type 0 where
   pub parts : List (List (List ℕ))
-  pub are_parts : AreParts (shape_of s at).cells parts
+  pub are_parts : AreSolidParts (shape_of s at).cells parts
   pub told : TellsOf s at parts index status text
 
 -- what is told at an alpha, if there is one; else the status is 9 and the text is empty
@@ -55,7 +55,7 @@ TellsAt s None index status text = (status ≡ 9) × (text ≡ [])
 -- What is told of a set for an alpha, a most of parts and the index of a part, if one is given.
 pub record IsParted (s : List ℕ) (alpha most : ℕ) (index : Option ℕ) (status : ℕ) (text : List ℕ) : Type 0 where
   pub at : Option ℕ
-  pub asked : IsAsked s alpha most at
+  pub asked : IsAskedAlpha s alpha most at
   pub told : TellsAt s at index status text
 
 -- the bytes are a solid file, which the history keeps, and this is told of the points that the history leaves
@@ -74,9 +74,9 @@ HasNoAlpha s most = (0 < most) × IsLeastAlpha s most None
 -- There is an alpha, and no part of the index: the cause of status 8.
 pub record HasNoPart (s : List ℕ) (alpha most i : ℕ) : Type 0 where
   pub at : ℕ
-  pub asked : IsAsked s alpha most (Some at)
+  pub asked : IsAskedAlpha s alpha most (Some at)
   pub parts : List (List (List ℕ))
-  pub are_parts : AreParts (shape_of s at).cells parts
+  pub are_parts : AreSolidParts (shape_of s at).cells parts
   pub past : length parts ≤ i
 
 -- What a run that is to tell of parts promises of its end: by what the source had left, the status, the history and the
@@ -84,7 +84,7 @@ pub record HasNoPart (s : List ℕ) (alpha most i : ℕ) : Type 0 where
 pub record PartEnds (workers alpha most : ℕ) (index : Option ℕ) (left : Option (List ℕ)) (status : ℕ) (h : List Entry)
     (text : List ℕ) : Type 0 where
   pub statuses : status ≤ 9
-  pub verdict : (IsEarly status → ⊥) → IfSome left (IsVerdict status)
-  pub made : IsWhole status → IfSome left (IsPartedFile workers alpha most index status h text)
+  pub verdict : (IsEarly status → ⊥) → IfSome left (TellsOfBytes status)
+  pub made : IsWrittenWhole status → IfSome left (IsPartedFile workers alpha most index status h text)
   pub cut : status ≡ 4 → IfSome left (IsPartedFile workers alpha most index 0 h text)
   pub nothing : 7 < status → text ≡ []

@@ -45,5 +45,5 @@ report_of shape order file h =
     }
 
 -- its text
-abbrev pub text_of : Bool → Bool → Content → List Entry → List ℕ
-text_of shape order file h = report_text (report_of shape order file h)
+abbrev pub text_of_history : Bool → Bool → Content → List Entry → List ℕ
+text_of_history shape order file h = report_text (report_of shape order file h)

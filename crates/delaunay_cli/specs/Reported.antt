@@ -8,7 +8,7 @@ use Rattle.mesh_files.specs.Text.{ReportParts}
 use Rattle.delaunay_cli.specs.declared.stop.Stop.{Stop}
 use Rattle.delaunay_cli.specs.declared.stop.Stop.TheVariants.{Memory, Flat}
 use Rattle.delaunay_cli.specs.Files.{FileEnds, IsOfFile}
-use Rattle.delaunay_cli.specs.Report.{report_of, text_of}
+use Rattle.delaunay_cli.specs.Report.{report_of, text_of_history}
 use Rattle.delaunay_cli.specs.Run.{IsKept}
 
 -- The file's points are solid; the history keeps it for a number of workers, and the report is that of the two.
@@ -29,7 +29,8 @@ IsReportOf workers shape order h report bytes = IsOfFile workers h (λ file. rep
 
 -- and so is the text
 abbrev pub IsReported : ℕ → Bool → Bool → List Entry → List ℕ → List ℕ → Type 0
-IsReported workers shape order h text bytes = IsOfFile workers h (λ file. text ≡ text_of shape order file h) bytes
+IsReported workers shape order h text bytes = IsOfFile workers h (λ file. text
+    ≡ text_of_history shape order file h) bytes
 
 -- what a run that is to write a report promises of its end
 abbrev pub ReportEnds : ℕ → Bool → Bool → Option (List ℕ) → ℕ → List Entry → List ℕ → Type 0

@@ -11,7 +11,7 @@ use Rattle.edit_files.specs.Grammar.{IsFile}
 use Rattle.delaunay_cli.specs.Taken.{file_limits}
 use Rattle.edit_files.specs.Faults.{IsFault}
 use Rattle.edit_files.specs.declared.fault.Fault.{Fault}
-use Rattle.delaunay_cli.specs.Report.{text_of}
+use Rattle.delaunay_cli.specs.Report.{text_of_history}
 use Rattle.delaunay_cli.specs.Statuses.{IsEarly}
 use Rattle.delaunay_cli.specs.Words.{Checks, Draws, Kind, Parts, Queries, Reports, Steps}
 
@@ -63,12 +63,12 @@ Reads left_old left_new status = ReadsTo input_limit left_old left_new status
 -- order block or not
 abbrev pub Writes : Bool → Bool → List ℕ → Option (List ℕ) → Option (List ℕ) → List Entry → Type 0
 Writes shape order bytes old new kept =
-    (file : Content) × IsFile file_limits bytes file × Appends old new (text_of shape order file kept)
+    (file : Content) × IsFile file_limits bytes file × Appends old new (text_of_history shape order file kept)
 
 -- the output gained a front of it
 abbrev pub WritesFront : Bool → Bool → List ℕ → Option (List ℕ) → Option (List ℕ) → List Entry → Type 0
 WritesFront shape order bytes old new kept =
-    (file : Content) × IsFile file_limits bytes file × AppendsFront old new (text_of shape order file kept)
+    (file : Content) × IsFile file_limits bytes file × AppendsFront old new (text_of_history shape order file kept)
 
 -- the bytes are a solid file within the limit
 abbrev pub IsSolidFile : List ℕ → Type 0

@@ -31,12 +31,12 @@ abbrev pub IsEarly : ℕ → Type 0
 IsEarly status = (status ≡ 1) ⊎ (status ≡ 2) ⊎ (status ≡ 3)
 
 -- the whole text was written: the status is 0, or one above 7, which tells of what was made
-abbrev pub IsWhole : ℕ → Type 0
-IsWhole status = (status ≡ 0) ⊎ (7 < status)
+abbrev pub IsWrittenWhole : ℕ → Type 0
+IsWrittenWhole status = (status ≡ 0) ⊎ (7 < status)
 
 -- a text was made, and written whole or, where the output failed, a front of it
 abbrev pub HasText : ℕ → Type 0
-HasText status = IsWhole status ⊎ (status ≡ 4)
+HasText status = IsWrittenWhole status ⊎ (status ≡ 4)
 
 -- the line of a status other than 5
 abbrev pub plain_line : ℕ → List ℕ

@@ -32,9 +32,9 @@ status_of NoAlpha = 9
 status_of BadMesh = 10
 
 -- the line of a fault if there is one, and else that of the status
-abbrev pub line_of : Stop → List ℕ
-line_of (BadLine line) = line.items
-line_of stop = plain_line (status_of stop)
+abbrev pub line_of_stop : Stop → List ℕ
+line_of_stop (BadLine line) = line.items
+line_of_stop stop = plain_line (status_of stop)
 
 -- the status of an end, 0 where nothing stopped the run, and its line
 abbrev pub status_of_end : Option Stop → ℕ
@@ -43,7 +43,7 @@ status_of_end (Some stop) = status_of stop
 
 abbrev pub line_of_end : Option Stop → List ℕ
 line_of_end None = []
-line_of_end (Some stop) = line_of stop
+line_of_end (Some stop) = line_of_stop stop
 
 -- what a command may tell of what it made: the run ends so where the text is written whole
 abbrev pub IsLate : Option Stop → Type 0

@@ -164,56 +164,56 @@ abbrev pub AreNameAnd : List Text → List (String Global) → Type 0
 AreNameAnd rest words = (name : Text) × (texts_of words ≡ name ∷ rest)
 
 -- the words are the program's name and `mesh`
-abbrev pub AreMesh : List (String Global) → Type 0
-AreMesh words = AreNameAnd (codes "mesh" ∷ []) words
+abbrev pub SayMesh : List (String Global) → Type 0
+SayMesh words = AreNameAnd (codes "mesh" ∷ []) words
 
 -- the words are the program's name, `mesh` and `--order`
-abbrev pub AreMeshOrder : List (String Global) → Type 0
-AreMeshOrder words = AreNameAnd (codes "mesh" ∷ codes "--order" ∷ []) words
+abbrev pub SayMeshOrder : List (String Global) → Type 0
+SayMeshOrder words = AreNameAnd (codes "mesh" ∷ codes "--order" ∷ []) words
 
 -- the words are the program's name and `shape`
-abbrev pub AreShape : List (String Global) → Type 0
-AreShape words = AreNameAnd (codes "shape" ∷ []) words
+abbrev pub SayShape : List (String Global) → Type 0
+SayShape words = AreNameAnd (codes "shape" ∷ []) words
 
 -- the words are the program's name, `shape` and `--order`
-abbrev pub AreShapeOrder : List (String Global) → Type 0
-AreShapeOrder words = AreNameAnd (codes "shape" ∷ codes "--order" ∷ []) words
+abbrev pub SayShapeOrder : List (String Global) → Type 0
+SayShapeOrder words = AreNameAnd (codes "shape" ∷ codes "--order" ∷ []) words
 
 -- the words are the program's name and `steps`
-abbrev pub AreSteps : List (String Global) → Type 0
-AreSteps words = AreNameAnd (codes "steps" ∷ []) words
+abbrev pub SaySteps : List (String Global) → Type 0
+SaySteps words = AreNameAnd (codes "steps" ∷ []) words
 
 -- the words are the program's name and `parts`
-abbrev pub AreParts : List (String Global) → Type 0
-AreParts words = AreNameAnd (codes "parts" ∷ []) words
+abbrev pub SayParts : List (String Global) → Type 0
+SayParts words = AreNameAnd (codes "parts" ∷ []) words
 
 -- the words are the program's name and `near`
-abbrev pub AreNear : List (String Global) → Type 0
-AreNear words = AreNameAnd (codes "near" ∷ []) words
+abbrev pub SayNear : List (String Global) → Type 0
+SayNear words = AreNameAnd (codes "near" ∷ []) words
 
 -- the words are the program's name and `check`
-abbrev pub AreCheck : List (String Global) → Type 0
-AreCheck words = AreNameAnd (codes "check" ∷ []) words
+abbrev pub SayCheck : List (String Global) → Type 0
+SayCheck words = AreNameAnd (codes "check" ∷ []) words
 
 -- the words are the program's name, `parts`, `--alpha=` with a number, `--most=` with a number and `--off=` with one
-abbrev pub ArePartsAt : ℕ → ℕ → ℕ → List (String Global) → Type 0
-ArePartsAt alpha most index words =
+abbrev pub SayPartsAt : ℕ → ℕ → ℕ → List (String Global) → Type 0
+SayPartsAt alpha most index words =
     AreNameAnd (codes "parts" ∷ (codes "--alpha=" ++ decimal alpha) ∷ (codes "--most=" ++ decimal most)
     ∷ (codes "--off=" ++ decimal index) ∷ []) words
 
 -- the words are the program's name, the name of a command, `--workers=` with a number and `--grid=` with a number
-abbrev pub AreMeshing : Text → ℕ → ℕ → List (String Global) → Type 0
-AreMeshing command workers grid words =
+abbrev pub SayMeshing : Text → ℕ → ℕ → List (String Global) → Type 0
+SayMeshing command workers grid words =
     AreNameAnd (command ∷ (codes "--workers=" ++ decimal workers) ∷ (codes "--grid=" ++ decimal grid) ∷ []) words
 
 -- the words are the program's name, `gen`, `--count=` with a number and `--start=` with a number
-abbrev pub AreGen : ℕ → ℕ → List (String Global) → Type 0
-AreGen count start words =
+abbrev pub SayGen : ℕ → ℕ → List (String Global) → Type 0
+SayGen count start words =
     AreNameAnd (codes "gen" ∷ (codes "--count=" ++ decimal count) ∷ (codes "--start=" ++ decimal start) ∷ []) words
 
 -- the words are these and `--text`
-abbrev pub AreGenText : ℕ → ℕ → List (String Global) → Type 0
-AreGenText count start words =
+abbrev pub SayGenText : ℕ → ℕ → List (String Global) → Type 0
+SayGenText count start words =
     AreNameAnd (codes "gen" ∷ (codes "--count=" ++ decimal count) ∷ (codes "--start=" ++ decimal start)
     ∷ codes "--text" ∷ []) words
 

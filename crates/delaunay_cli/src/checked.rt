@@ -10,7 +10,7 @@ ghost use Rattle.mesh_reader.specs.Grammar.{IsMeshText, parts};
 ghost use Rattle.mesh_reader.specs.Order.{IsInOrder};
 ghost use Rattle.mesh_reader.specs.Pieces.{HasTaken};
 ghost use Rattle.delaunay_cli.specs.Checked.{HasTakenAll, IsChecked, IsJudged, IsMeshOf, IsUnchecked, TellsVerdict};
-ghost use Rattle.delaunay_cli.specs.Page.{IsSound, text_of_page};
+ghost use Rattle.delaunay_cli.specs.Page.{IsFitToWrite, text_of_page};
 ghost use Rattle.delaunay_cli.specs.Run.{ReadsTo, mesh_limit};
 ghost use Rattle.delaunay_cli.specs.Stops.{IsLate, status_of_end, status_of_made};
 
@@ -180,7 +180,7 @@ fn judge(alloc: Global, complex: Option<Complex>, mesh: &PackedMesh) -> Result<M
     ensures judged { IfOk result (λ made. IsJudged (parts mesh.now) (status_of_end made.after)
         (text_of_page made.page)) }
     ensures no_history { IfOk result (λ made. made.kept.items ≡ []) }
-    ensures sound { IfOk result IsSound }
+    ensures sound { IfOk result IsFitToWrite }
 {
     let found = tell(alloc, complex, &mesh.points, &mesh.cells, &mesh.hull)?;
     let after = end_of(found.good);
@@ -197,7 +197,7 @@ fn judge_read(alloc: Global, read: Read) -> Result<Made, AllocError>
     ensures judged { IfOk result (λ made. IsJudged (parts read) (status_of_end made.after)
         (text_of_page made.page)) }
     ensures no_history { IfOk result (λ made. made.kept.items ≡ []) }
-    ensures sound { IfOk result IsSound }
+    ensures sound { IfOk result IsFitToWrite }
 {
     let Read { mesh, made } = read;
     judge(alloc, made, &mesh)
@@ -214,7 +214,7 @@ pub fn check_source<S: Source>(alloc: Global, src: &mut S) -> Result<Made, Stop>
         IfSome (S.left src.old) (IsChecked (status_of_end made.after) (text_of_page made.page))) }
     ensures told { IfOk result (λ made. TellsVerdict (status_of_end made.after)) }
     ensures no_history { IfOk result (λ made. made.kept.items ≡ []) }
-    ensures sound { IfOk result IsSound }
+    ensures sound { IfOk result IsFitToWrite }
     ensures stop { IfErr result (IsUnchecked (S.left src.old) (Rose (S.faults src.old) (S.faults src.new))) }
     ensures reads { ReadsTo mesh_limit (S.left src.old) (S.left src.new) (status_of_made result) }
     ensures to_its_end { IsOk result → IsAtEnd (S.left src.new) }

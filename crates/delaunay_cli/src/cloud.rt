@@ -8,7 +8,7 @@ ghost use Rattle.edit_history.specs.Histories.{IsLegal};
 ghost use Rattle.edit_history.specs.OneThread.{places};
 ghost use Rattle.edit_history.specs.Opening.{opening_four};
 ghost use Rattle.edit_files.specs.Content.{content};
-ghost use Rattle.delaunay_cli.specs.Page.{IsReady, report_of_parts};
+ghost use Rattle.delaunay_cli.specs.Page.{AreReportParts, report_of_parts};
 ghost use Rattle.delaunay_cli.specs.Report.{AreRadii, report_of};
 ghost use Rattle.delaunay_cli.specs.Run.{IsKept};
 
@@ -66,7 +66,7 @@ pub fn made_of_points(
     ensures legal { IfOk result (λ made. IsLegal made.0.items) }
     ensures report { IfOk result (λ made. report_of_parts made.1
         ≡ report_of asked.shape asked.order (content file.now) made.0.items) }
-    ensures ready { IfOk result (λ made. IsReady made.1) }
+    ensures ready { IfOk result (λ made. AreReportParts made.1) }
 {
     one_thread_is_legal();
     solidity_is_of_the_set();

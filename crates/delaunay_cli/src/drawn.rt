@@ -4,7 +4,7 @@ ghost use Rattle.std.specs.Prelude.{◌≡◌, None, IfOk, IfErr};
 ghost use Rattle.edit_files.specs.Generator.{generated};
 ghost use Rattle.delaunay_cli.specs.declared.stop.Stop.TheVariants.{Memory};
 ghost use Rattle.delaunay_cli.specs.Drawn.{IsDrawn};
-ghost use Rattle.delaunay_cli.specs.Page.{IsSound, text_of_page};
+ghost use Rattle.delaunay_cli.specs.Page.{IsFitToWrite, text_of_page};
 
 use crate::made::{Form, Made, Page};
 use crate::mesh::history_and_parts;
@@ -31,7 +31,7 @@ pub fn draw<R: Threads + Sync, G: Gate + Sync>(
         IsDrawn drawn.text making.workers (generated drawn.count drawn.start) made.kept.items
         (text_of_page made.page)) }
     ensures plain_end { IfOk result (λ made. made.after ≡ None) }
-    ensures sound { IfOk result IsSound }
+    ensures sound { IfOk result IsFitToWrite }
     ensures stop { IfErr result (λ stop. stop ≡ Memory) }
 {
     let file = generate(alloc, drawn.count, drawn.start)?;

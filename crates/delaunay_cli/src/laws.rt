@@ -31,32 +31,32 @@ ghost use Rattle.edit_files.specs.Content.{Content};
 ghost use Rattle.edit_files.specs.Grammar.{IsFile};
 ghost use Rattle.mesh_reader.specs.Grammar.{IsMeshText, MeshParts};
 ghost use Rattle.near_vertex.specs.declared.answers.Near.{Near};
-ghost use Rattle.near_vertex.specs.Answers.{AreNear as AreAnswers};
+ghost use Rattle.near_vertex.specs.Answers.{AreNear};
 ghost use Rattle.near_vertex.specs.Text.{near_text};
 ghost use Rattle.mesh_check.specs.declared.flaw.Verdict.{Verdict};
 ghost use Rattle.mesh_check.specs.Flaws.{IsVerdict, listed};
 ghost use Rattle.mesh_check.specs.Text.{verdict_text};
-ghost use Rattle.delaunay_cli.specs.Checked.{HasMeshFault, IsGood, IsMeshWithin};
+ghost use Rattle.delaunay_cli.specs.Checked.{HasMeshFault, IsTrueMesh, IsMeshWithin};
 ghost use Rattle.delaunay_cli.specs.Taken.{file_limits};
 ghost use Rattle.delaunay_cli.specs.Drawn.{drawn_file, drawn_text};
 ghost use Rattle.delaunay_cli.specs.Laws.{ARun};
 ghost use Rattle.delaunay_cli.specs.Parted.{HasNoAlpha, HasNoPart, IsParted};
 ghost use Rattle.delaunay_cli.specs.PlainText.{plain_drawn};
 ghost use Rattle.delaunay_cli.specs.Run.{HasFault, IsSolidFile, history_of, input_limit, mesh_limit};
-ghost use Rattle.delaunay_cli.specs.Statuses.{HasText, IsEarly, IsWhole};
+ghost use Rattle.delaunay_cli.specs.Statuses.{HasText, IsEarly, IsWrittenWhole};
 ghost use Rattle.delaunay_cli.specs.Words.{
-  AreCheck,
-  AreGen,
-  AreGenText,
-  AreMesh,
-  AreMeshOrder,
-  AreMeshing,
-  AreNear,
-  AreParts,
-  ArePartsAt,
-  AreShape,
-  AreShapeOrder,
-  AreSteps,
+  SayCheck,
+  SayGen,
+  SayGenText,
+  SayMesh,
+  SayMeshOrder,
+  SayMeshing,
+  SayNear,
+  SayParts,
+  SayPartsAt,
+  SayShape,
+  SayShapeOrder,
+  SaySteps,
   AreTaken,
   DrawsFile,
   ReadsFile,
@@ -91,53 +91,53 @@ ghost use Rattle.delaunay_cli.specs.Words.{
 /// The words `gen`, `--count=N` and `--start=M` are taken for every count and start, and with `--text` ask for the
 /// file's text.
 pub fn words_are_taken()
-    ensures mesh { (words : List (String Global)) → AreMesh words → AreTaken words × (asks_shape words ≡ false)
+    ensures mesh { (words : List (String Global)) → SayMesh words → AreTaken words × (asks_shape words ≡ false)
         × (asks_order words ≡ false) }
-    ensures mesh_order { (words : List (String Global)) → AreMeshOrder words
+    ensures mesh_order { (words : List (String Global)) → SayMeshOrder words
         → AreTaken words × (asks_shape words ≡ false) × (asks_order words ≡ true) }
-    ensures shape { (words : List (String Global)) → AreShape words → AreTaken words × (asks_shape words ≡ true)
+    ensures shape { (words : List (String Global)) → SayShape words → AreTaken words × (asks_shape words ≡ true)
         × (asks_order words ≡ false) }
-    ensures shape_order { (words : List (String Global)) → AreShapeOrder words
+    ensures shape_order { (words : List (String Global)) → SayShapeOrder words
         → AreTaken words × (asks_shape words ≡ true) × (asks_order words ≡ true) }
     ensures one_worker { (words : List (String Global)) →
-        AreMesh words ⊎ AreMeshOrder words ⊎ AreShape words ⊎ AreShapeOrder words
+        SayMesh words ⊎ SayMeshOrder words ⊎ SayShape words ⊎ SayShapeOrder words
         → (worker_count words ≡ 1) × (grid_size words ≡ 4) }
     ensures report { (words : List (String Global)) →
-        AreMesh words ⊎ AreMeshOrder words ⊎ AreShape words ⊎ AreShapeOrder words → WritesReport words }
-    ensures steps { (words : List (String Global)) → AreSteps words → AreTaken words × WritesSteps words
+        SayMesh words ⊎ SayMeshOrder words ⊎ SayShape words ⊎ SayShapeOrder words → WritesReport words }
+    ensures steps { (words : List (String Global)) → SaySteps words → AreTaken words × WritesSteps words
         × (worker_count words ≡ 1) × (grid_size words ≡ 4) }
-    ensures parts { (words : List (String Global)) → AreParts words → AreTaken words × WritesParts words
+    ensures parts { (words : List (String Global)) → SayParts words → AreTaken words × WritesParts words
         × (worker_count words ≡ 1) × (grid_size words ≡ 4) × (asked_alpha words ≡ 0) × (asked_most words ≡ 0)
         × (asked_index words ≡ None) }
-    ensures near { (words : List (String Global)) → AreNear words → AreTaken words × WritesNear words
+    ensures near { (words : List (String Global)) → SayNear words → AreTaken words × WritesNear words
         × (worker_count words ≡ 1) × (grid_size words ≡ 4) }
-    ensures check { (words : List (String Global)) → AreCheck words → AreTaken words × ReadsMesh words }
+    ensures check { (words : List (String Global)) → SayCheck words → AreTaken words × ReadsMesh words }
     ensures parts_at { (words : List (String Global)) (alpha most index : ℕ) → alpha ≤ most_alpha
-        → most ≤ most_index → index ≤ most_index → ArePartsAt alpha most index words
+        → most ≤ most_index → index ≤ most_index → SayPartsAt alpha most index words
         → AreTaken words × WritesParts words × (worker_count words ≡ 1) × (grid_size words ≡ 4)
         × (asked_alpha words ≡ alpha) × (asked_most words ≡ most) × (asked_index words ≡ Some index) }
     ensures mesh_workers { (words : List (String Global)) (workers grid : ℕ) → 0 < workers → workers ≤ most_workers
-        → is_grid_size grid ≡ true → AreMeshing (codes "mesh") workers grid words → AreTaken words
+        → is_grid_size grid ≡ true → SayMeshing (codes "mesh") workers grid words → AreTaken words
         × (worker_count words ≡ workers) × (grid_size words ≡ grid) × (asks_shape words ≡ false)
         × WritesReport words }
     ensures shape_workers { (words : List (String Global)) (workers grid : ℕ) → 0 < workers → workers ≤ most_workers
-        → is_grid_size grid ≡ true → AreMeshing (codes "shape") workers grid words → AreTaken words
+        → is_grid_size grid ≡ true → SayMeshing (codes "shape") workers grid words → AreTaken words
         × (worker_count words ≡ workers) × (grid_size words ≡ grid) × (asks_shape words ≡ true)
         × WritesReport words }
     ensures steps_workers { (words : List (String Global)) (workers grid : ℕ) → 0 < workers → workers ≤ most_workers
-        → is_grid_size grid ≡ true → AreMeshing (codes "steps") workers grid words → AreTaken words
+        → is_grid_size grid ≡ true → SayMeshing (codes "steps") workers grid words → AreTaken words
         × (worker_count words ≡ workers) × (grid_size words ≡ grid) × WritesSteps words }
     ensures parts_workers { (words : List (String Global)) (workers grid : ℕ) → 0 < workers → workers ≤ most_workers
-        → is_grid_size grid ≡ true → AreMeshing (codes "parts") workers grid words → AreTaken words
+        → is_grid_size grid ≡ true → SayMeshing (codes "parts") workers grid words → AreTaken words
         × (worker_count words ≡ workers) × (grid_size words ≡ grid) × WritesParts words }
     ensures near_workers { (words : List (String Global)) (workers grid : ℕ) → 0 < workers → workers ≤ most_workers
-        → is_grid_size grid ≡ true → AreMeshing (codes "near") workers grid words → AreTaken words
+        → is_grid_size grid ≡ true → SayMeshing (codes "near") workers grid words → AreTaken words
         × (worker_count words ≡ workers) × (grid_size words ≡ grid) × WritesNear words }
     ensures generator { (words : List (String Global)) (count start : ℕ) → count ≤ most_count → start ≤ most_start
-        → AreGen count start words → AreTaken words × DrawsFile words × (drawn_count words ≡ count)
+        → SayGen count start words → AreTaken words × DrawsFile words × (drawn_count words ≡ count)
         × (drawn_start words ≡ start) × (asks_text words ≡ false) }
     ensures generator_text { (words : List (String Global)) (count start : ℕ) → count ≤ most_count
-        → start ≤ most_start → AreGenText count start words → AreTaken words × DrawsFile words
+        → start ≤ most_start → SayGenText count start words → AreTaken words × DrawsFile words
         × (drawn_count words ≡ count) × (drawn_start words ≡ start) × (asks_text words ≡ true) }
     ensures read { (words : List (String Global))
         → WritesReport words ⊎ WritesSteps words ⊎ WritesParts words ⊎ WritesNear words → ReadsFile words }
@@ -153,7 +153,7 @@ pub fn run_by_status()
     ensures of_check { (r : ARun) → r.status ≡ 10 → ReadsMesh r.words }
     ensures none_kept { (r : ARun) → r.status ≢ 0 → r.status ≢ 4 → r.status ≢ 8 → r.status ≢ 9 → r.kept ≡ [] }
     ensures nothing { (r : ARun) → r.status ≢ 0 → r.status ≢ 4 → r.status ≢ 10 → Keeps r.held r.holds }
-    ensures to_its_end { (r : ARun) → ReadsSource r.words → IsWhole r.status → IsAtEnd r.left_after }
+    ensures to_its_end { (r : ARun) → ReadsSource r.words → IsWrittenWhole r.status → IsAtEnd r.left_after }
 {}
 
 /// A run that reads a file: what its status tells of the bytes.
@@ -186,7 +186,7 @@ pub fn run_that_parts()
         (asked_most r.words) (asked_index r.words) 0 text × AppendsFront r.held r.holds text) }
     ensures complete { (r : ARun) → AreTaken r.words → WritesParts r.words
         → IfSome r.left (λ bytes. IsSolidFile bytes → (Rose r.read_faults r.read_faults_after → ⊥)
-        → (Rose r.write_faults r.write_faults_after → ⊥) → IsWhole r.status ⊎ (r.status ≡ 1)) }
+        → (Rose r.write_faults r.write_faults_after → ⊥) → IsWrittenWhole r.status ⊎ (r.status ≡ 1)) }
 {}
 
 /// A run that is to answer queries. Of the points that its history leaves the nearest to each query of the file is
@@ -196,11 +196,11 @@ pub fn run_that_answers()
     ensures statuses { (r : ARun) → WritesNear r.words → r.status ≤ 7 }
     ensures written { (r : ARun) → WritesNear r.words → r.status ≡ 0
         → IfSome r.left (λ bytes. (file : Content) → IsFile file_limits bytes file
-        → (nears : List Near) × AreAnswers (replay r.kept) file.queries nears
+        → (nears : List Near) × AreNear (replay r.kept) file.queries nears
         × Appends r.held r.holds (near_text (replay r.kept) nears)) }
     ensures front { (r : ARun) → WritesNear r.words → r.status ≡ 4
         → IfSome r.left (λ bytes. (file : Content) → IsFile file_limits bytes file
-        → (nears : List Near) × AreAnswers (replay r.kept) file.queries nears
+        → (nears : List Near) × AreNear (replay r.kept) file.queries nears
         × AppendsFront r.held r.holds (near_text (replay r.kept) nears)) }
     ensures complete { (r : ARun) → AreTaken r.words → WritesNear r.words
         → IfSome r.left (λ bytes. IsSolidFile bytes → (Rose r.read_faults r.read_faults_after → ⊥)
@@ -218,12 +218,12 @@ pub fn run_that_checks()
         → IfSome r.left (λ bytes. r.status ≡ 7 ↔ (mesh_limit < length bytes)) }
     ensures bad_line { (r : ARun) → ReadsMesh r.words → (IsEarly r.status → ⊥) → r.status ≢ 7
         → IfSome r.left (λ bytes. r.status ≡ 5 ↔ HasMeshFault bytes) }
-    ensures bad_mesh { (r : ARun) → ReadsMesh r.words → IsWhole r.status
+    ensures bad_mesh { (r : ARun) → ReadsMesh r.words → IsWrittenWhole r.status
         → IfSome r.left (λ bytes. (mesh : MeshParts) → IsMeshText bytes mesh
-        → (r.status ≡ 10 ↔ (IsGood mesh → ⊥))) }
-    ensures good { (r : ARun) → ReadsMesh r.words → IsWhole r.status
-        → IfSome r.left (λ bytes. (mesh : MeshParts) → IsMeshText bytes mesh → (r.status ≡ 0 ↔ IsGood mesh)) }
-    ensures written { (r : ARun) → ReadsMesh r.words → IsWhole r.status
+        → (r.status ≡ 10 ↔ (IsTrueMesh mesh → ⊥))) }
+    ensures good { (r : ARun) → ReadsMesh r.words → IsWrittenWhole r.status
+        → IfSome r.left (λ bytes. (mesh : MeshParts) → IsMeshText bytes mesh → (r.status ≡ 0 ↔ IsTrueMesh mesh)) }
+    ensures written { (r : ARun) → ReadsMesh r.words → IsWrittenWhole r.status
         → IfSome r.left (λ bytes. (mesh : MeshParts) → IsMeshText bytes mesh
         → (verdict : Verdict) × IsVerdict mesh.points (listed mesh.cells mesh.hull) verdict
         × Appends r.held r.holds (verdict_text mesh.points verdict)) }
@@ -233,7 +233,7 @@ pub fn run_that_checks()
         × AppendsFront r.held r.holds (verdict_text mesh.points verdict)) }
     ensures complete { (r : ARun) → AreTaken r.words → ReadsMesh r.words
         → IfSome r.left (λ bytes. IsMeshWithin bytes → (Rose r.read_faults r.read_faults_after → ⊥)
-        → (Rose r.write_faults r.write_faults_after → ⊥) → IsWhole r.status ⊎ (r.status ≡ 1)) }
+        → (Rose r.write_faults r.write_faults_after → ⊥) → IsWrittenWhole r.status ⊎ (r.status ≡ 1)) }
 {}
 
 /// A run that is to draw a file: what is written goes by the words alone, and it is written unless memory is wanting or

@@ -2,7 +2,7 @@
 
 ghost use Rattle.std.specs.Prelude.{◌≡◌, ◌<◌, ◌+◌, ◌^◌, false, length, All, IfOk, IfErr};
 ghost use Rattle.edit_files.specs.Content.{content};
-ghost use Rattle.delaunay_cli.specs.Page.{IsReady, report_of_parts};
+ghost use Rattle.delaunay_cli.specs.Page.{AreReportParts, report_of_parts};
 ghost use Rattle.delaunay_cli.specs.Report.{AreRadii, report_of};
 ghost use Rattle.delaunay_cli.specs.Reported.{IsMeshed, IsUnmeshed};
 
@@ -33,7 +33,7 @@ fn parts(
     ensures history { IfOk result (λ both. both.0.items ≡ mesh.history) }
     ensures report { IfOk result (λ both. report_of_parts both.1
         ≡ report_of asked.shape asked.order (content file.now) mesh.history) }
-    ensures ready { IfOk result (λ both. IsReady both.1) }
+    ensures ready { IfOk result (λ both. AreReportParts both.1) }
 {
     let points = points(alloc, &mesh)?;
     let (kept, cells) = into_parts(alloc, mesh)?;
@@ -60,7 +60,7 @@ pub fn history_and_parts<R: Threads + Sync, G: Gate + Sync>(
     requires radii { AreRadii file.now.version file.now.radii.items }
     ensures made { IfOk result (λ made. IsMeshed making.workers asked.shape asked.order
         (content file.now) made.0.items (report_of_parts made.1)) }
-    ensures ready { IfOk result (λ made. IsReady made.1) }
+    ensures ready { IfOk result (λ made. AreReportParts made.1) }
     ensures stop { IfErr result (IsUnmeshed (content file.now)) }
 {
     let Ok(four) = find_four(&file.points) else {

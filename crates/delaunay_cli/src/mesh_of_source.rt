@@ -5,7 +5,7 @@ ghost use Rattle.std.specs.Io.KnownBytes.{IsAtEnd};
 ghost use Rattle.byte_ends.specs.Ends.{Rose};
 ghost use Rattle.edit_history.specs.Histories.{IsLegal};
 ghost use Rattle.delaunay_cli.specs.Files.{HasNoMesh};
-ghost use Rattle.delaunay_cli.specs.Page.{IsReady, report_of_parts};
+ghost use Rattle.delaunay_cli.specs.Page.{AreReportParts, report_of_parts};
 ghost use Rattle.delaunay_cli.specs.Reported.{IsReportOf};
 ghost use Rattle.delaunay_cli.specs.Run.{Reads};
 ghost use Rattle.delaunay_cli.specs.Stops.{status_of_made};
@@ -37,7 +37,7 @@ pub fn mesh_of_source<R: Threads + Sync, S: Source, G: Gate + Sync>(
     ensures made { IfOk result (λ made. IfSome (S.left src.old) (IsReportOf making.workers asked.shape asked.order
         made.0.items (report_of_parts made.1))) }
     ensures legal { IfOk result (λ made. IsLegal made.0.items) }
-    ensures ready { IfOk result (λ made. IsReady made.1) }
+    ensures ready { IfOk result (λ made. AreReportParts made.1) }
     ensures stop { IfErr result (HasNoMesh (S.left src.old) (Rose (S.faults src.old) (S.faults src.new))) }
     ensures reads { Reads (S.left src.old) (S.left src.new) (status_of_made result) }
     ensures to_its_end { IsOk result → IsAtEnd (S.left src.new) }

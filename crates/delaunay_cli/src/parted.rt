@@ -11,8 +11,8 @@ ghost use Rattle.alpha_complex.specs.Condition.{AreFacesOf};
 ghost use Rattle.solid_parts.specs.Seen.{parts_seen};
 ghost use Rattle.solid_parts.specs.Text.{parts_text};
 ghost use Rattle.delaunay_cli.specs.Files.{HasNoMesh};
-ghost use Rattle.delaunay_cli.specs.Page.{IsSound, text_of_page};
-ghost use Rattle.delaunay_cli.specs.Parted.{HasParts, IsAsked, IsParted, IsPartedFile, TellsOf, TellsParts};
+ghost use Rattle.delaunay_cli.specs.Page.{IsFitToWrite, text_of_page};
+ghost use Rattle.delaunay_cli.specs.Parted.{HasParts, IsAskedAlpha, IsParted, IsPartedFile, TellsOf, TellsParts};
 ghost use Rattle.delaunay_cli.specs.Run.{Reads};
 ghost use Rattle.delaunay_cli.specs.Stops.{IsLate, status_of_end, status_of_made};
 
@@ -46,7 +46,7 @@ fn alpha_of<R: Threads + Sync>(
     wanted: Wanted,
 ) -> Result<Option<u64>, AllocError>
     requires faces { AreFacesOf points.now faces.now }
-    ensures asked { IfOk result (IsAsked points.now wanted.alpha wanted.most) }
+    ensures asked { IfOk result (IsAskedAlpha points.now wanted.alpha wanted.most) }
     ensures small { IfOk result (λ at. IfSome at (λ alpha. alpha < 2 ^ 34)) }
 {
     if wanted.most == 0 {
@@ -140,7 +140,7 @@ pub fn part<R: Threads + Sync, S: Source, G: Gate + Sync>(
         IfSome (S.left src.old) (IsPartedFile making.workers wanted.alpha wanted.most wanted.off
         (status_of_end made.after) made.kept.items (text_of_page made.page))) }
     ensures told { IfOk result (λ made. TellsParts (status_of_end made.after) (text_of_page made.page)) }
-    ensures sound { IfOk result IsSound }
+    ensures sound { IfOk result IsFitToWrite }
     ensures stop { IfErr result (HasNoMesh (S.left src.old) (Rose (S.faults src.old) (S.faults src.new))) }
     ensures reads { Reads (S.left src.old) (S.left src.new) (status_of_made result) }
     ensures to_its_end { IsOk result → IsAtEnd (S.left src.new) }

@@ -8,7 +8,7 @@ ghost use Rattle.point_order.specs.Solid.{is_solid};
 ghost use Rattle.del_laws.specs.Keys.{AreKeys};
 ghost use Rattle.edit_history.specs.Histories.{replay};
 ghost use Rattle.edit_files.specs.Content.{content};
-ghost use Rattle.delaunay_cli.specs.Page.{IsReady, radii_of as radii_of_it, report_of_parts};
+ghost use Rattle.delaunay_cli.specs.Page.{AreReportParts, radii_of as radii_of_it, report_of_parts};
 ghost use Rattle.delaunay_cli.specs.Report.{AreRadii, order_of as order_of_it, report_of, tags_of};
 
 use crate::made::Parts;
@@ -81,7 +81,7 @@ pub fn parts_of(
     requires lines { length file.now.points.items + length file.now.edits.items < 2 ^ 32 }
     ensures report { IfOk result (λ parts. report_of_parts parts
         ≡ report_of asked.shape asked.order (content file.now) kept.now) }
-    ensures ready { IfOk result IsReady }
+    ensures ready { IfOk result AreReportParts }
 {
     Ok(Parts {
         replies: replies_by_tag(alloc, file.points.len() + file.edits.len(), kept)?,

@@ -6,7 +6,7 @@ ghost use Rattle.byte_ends.specs.Ends.{Rose};
 ghost use Rattle.edit_history.specs.Histories.{replay};
 ghost use Rattle.edit_files.specs.Content.{content};
 ghost use Rattle.delaunay_cli.specs.Files.{HasNoMesh};
-ghost use Rattle.delaunay_cli.specs.Page.{IsSound, text_of_page};
+ghost use Rattle.delaunay_cli.specs.Page.{IsFitToWrite, text_of_page};
 ghost use Rattle.delaunay_cli.specs.Queried.{IsAnswered, IsQueried, IsQueriedFile};
 ghost use Rattle.delaunay_cli.specs.Reported.{IsUnmeshed};
 ghost use Rattle.delaunay_cli.specs.Run.{Reads};
@@ -78,7 +78,7 @@ pub fn query<R: Threads + Sync, S: Source, G: Gate + Sync>(
     ensures made { IfOk result (λ made.
         IfSome (S.left src.old) (IsQueriedFile making.workers made.kept.items (text_of_page made.page))) }
     ensures plain_end { IfOk result (λ made. made.after ≡ None) }
-    ensures sound { IfOk result IsSound }
+    ensures sound { IfOk result IsFitToWrite }
     ensures stop { IfErr result (HasNoMesh (S.left src.old) (Rose (S.faults src.old) (S.faults src.new))) }
     ensures reads { Reads (S.left src.old) (S.left src.new) (status_of_made result) }
     ensures to_its_end { IsOk result → IsAtEnd (S.left src.new) }

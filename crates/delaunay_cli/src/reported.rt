@@ -4,7 +4,7 @@ ghost use Rattle.std.specs.Prelude.{◌≡◌, ◌≤◌, None, IfSome, IfOk, If
 ghost use Rattle.std.specs.Io.KnownBytes.{IsAtEnd};
 ghost use Rattle.byte_ends.specs.Ends.{Rose};
 ghost use Rattle.delaunay_cli.specs.Files.{HasNoMesh};
-ghost use Rattle.delaunay_cli.specs.Page.{IsSound, text_of_page};
+ghost use Rattle.delaunay_cli.specs.Page.{IsFitToWrite, text_of_page};
 ghost use Rattle.delaunay_cli.specs.Reported.{IsReported};
 ghost use Rattle.delaunay_cli.specs.Run.{Reads};
 ghost use Rattle.delaunay_cli.specs.Stops.{status_of_made};
@@ -35,7 +35,7 @@ pub fn report<R: Threads + Sync, S: Source, G: Gate + Sync>(
         IfSome (S.left src.old) (IsReported making.workers asked.shape asked.order made.kept.items
         (text_of_page made.page))) }
     ensures plain_end { IfOk result (λ made. made.after ≡ None) }
-    ensures sound { IfOk result IsSound }
+    ensures sound { IfOk result IsFitToWrite }
     ensures stop { IfErr result (HasNoMesh (S.left src.old) (Rose (S.faults src.old) (S.faults src.new))) }
     ensures reads { Reads (S.left src.old) (S.left src.new) (status_of_made result) }
     ensures to_its_end { IsOk result → IsAtEnd (S.left src.new) }

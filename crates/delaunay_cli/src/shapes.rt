@@ -9,13 +9,13 @@ ghost use Rattle.point_order.specs.Solid.{is_solid};
 ghost use Rattle.del_laws.specs.Keys.{AreKeys};
 ghost use Rattle.alpha_complex.specs.Condition.{AreFacesOf};
 ghost use Rattle.alpha_complex.specs.Shapes.{shape_of};
-ghost use Rattle.mesh_files.specs.Report.{AreCounted, parts_of, shapes_seen};
+ghost use Rattle.mesh_files.specs.Report.{AreCountedInOrder, parts_of, shapes_seen};
 ghost use Rattle.mesh_files.specs.Summary.{summary_text as summary_text_of};
 ghost use Rattle.mesh_files.specs.Text.{report_text};
 ghost use Rattle.delaunay_cli.specs.Ends.{IsUnput};
 ghost use Rattle.edit_files.specs.Versions.{alpha_of};
 ghost use Rattle.delaunay_cli.specs.Report.{AreRadii};
-ghost use Rattle.delaunay_cli.specs.Page.{AreFacesFor, IsReady, report_of_parts, text_of_form};
+ghost use Rattle.delaunay_cli.specs.Page.{AreFacesFor, AreReportParts, report_of_parts, text_of_form};
 
 use crate::made::{Form, Parts};
 use crate::stop::Stop;
@@ -103,7 +103,7 @@ fn write_report<R: Threads + Sync, O: Sink>(
     out: &mut O,
 ) -> Result<(), Failed>
     requires points { IsAscending report.now.points.items }
-    requires shapes { AreCounted (shapes_seen report.now.shapes.items) }
+    requires shapes { AreCountedInOrder (shapes_seen report.now.shapes.items) }
     ensures whole { OnOk result (Appends (O.holds out.old) (O.holds out.new) (report_text (parts_of report.now))) }
     ensures front { AppendsFront (O.holds out.old) (O.holds out.new) (report_text (parts_of report.now)) }
     ensures cause { HasCause (O.faults out.old) (O.faults out.new) result }
@@ -124,7 +124,7 @@ fn put_whole<R: Threads + Sync, O: Sink>(
     out: &mut O,
 ) -> Result<(), Stop>
     requires points { IsAscending report.now.points.items }
-    requires shapes { AreCounted (shapes_seen report.now.shapes.items) }
+    requires shapes { AreCountedInOrder (shapes_seen report.now.shapes.items) }
     ensures whole { OnOk result (Appends (O.holds out.old) (O.holds out.new) (report_text (parts_of report.now))) }
     ensures stop { IfErr result (IsUnput (Rose (O.faults out.old) (O.faults out.new)) (O.holds out.old)
         (O.holds out.new)
@@ -160,7 +160,7 @@ fn put<R: Threads + Sync, O: Sink>(
     out: &mut O,
 ) -> Result<(), Stop>
     requires points { IsAscending report.now.points.items }
-    requires shapes { AreCounted (shapes_seen report.now.shapes.items) }
+    requires shapes { AreCountedInOrder (shapes_seen report.now.shapes.items) }
     ensures whole { OnOk result (Appends (O.holds out.old) (O.holds out.new)
         (text_of_form form (parts_of report.now))) }
     ensures stop { IfErr result (IsUnput (Rose (O.faults out.old) (O.faults out.new)) (O.holds out.old)
@@ -186,7 +186,7 @@ pub fn put_parts<R: Threads + Sync, O: Sink>(
     parts: Parts,
     out: &mut O,
 ) -> Result<(), Stop>
-    requires { IsReady parts }
+    requires { AreReportParts parts }
     ensures whole { OnOk result (Appends (O.holds out.old) (O.holds out.new)
         (text_of_form form (report_of_parts parts))) }
     ensures stop { IfErr result (IsUnput (Rose (O.faults out.old) (O.faults out.new)) (O.holds out.old)

@@ -8,7 +8,7 @@ ghost use Rattle.point_order.specs.Sets.{IsAscending};
 ghost use Rattle.point_order.specs.Solid.{is_solid};
 ghost use Rattle.del_laws.specs.Keys.{AreKeys};
 ghost use Rattle.delaunay_cli.specs.Files.{HasNoMesh};
-ghost use Rattle.delaunay_cli.specs.Page.{IsSound, text_of_page};
+ghost use Rattle.delaunay_cli.specs.Page.{IsFitToWrite, text_of_page};
 ghost use Rattle.delaunay_cli.specs.Run.{Reads};
 ghost use Rattle.delaunay_cli.specs.Stepped.{IsStepped, IsSteppedFile};
 ghost use Rattle.delaunay_cli.specs.Stops.{status_of_made};
@@ -63,7 +63,7 @@ pub fn step<R: Threads + Sync, S: Source, G: Gate + Sync>(
     ensures made { IfOk result (λ made.
         IfSome (S.left src.old) (IsSteppedFile making.workers made.kept.items (text_of_page made.page))) }
     ensures plain_end { IfOk result (λ made. made.after ≡ None) }
-    ensures sound { IfOk result IsSound }
+    ensures sound { IfOk result IsFitToWrite }
     ensures stop { IfErr result (HasNoMesh (S.left src.old) (Rose (S.faults src.old) (S.faults src.new))) }
     ensures reads { Reads (S.left src.old) (S.left src.new) (status_of_made result) }
     ensures to_its_end { IsOk result → IsAtEnd (S.left src.new) }

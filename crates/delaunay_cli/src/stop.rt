@@ -2,7 +2,7 @@
 
 ghost use Rattle.std.specs.Prelude.{◌≡◌};
 ghost use Rattle.delaunay_cli.specs.declared.stop.Stop.TheVariants.{Memory};
-ghost use Rattle.delaunay_cli.specs.Stops.{line_of, status_of, stop_of_read};
+ghost use Rattle.delaunay_cli.specs.Stops.{line_of_stop, status_of, stop_of_read};
 
 use byte_ends::ReadError;
 use std::alloc::AllocError;
@@ -55,7 +55,7 @@ impl Stop {
     /// The status of the end, and the line that tells it.
     pub fn told(&self) -> (u8, &[u8])
         ensures status { result.0 ≡ status_of self.now }
-        ensures line { result.1.now ≡ line_of self.now }
+        ensures line { result.1.now ≡ line_of_stop self.now }
     {
         match self {
             Stop::Memory => (1, b"delaunay: out of memory\n"),

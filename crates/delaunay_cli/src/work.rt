@@ -4,8 +4,8 @@ ghost use Rattle.std.specs.Prelude.{◌≡◌, ◌≤◌, [], Some, IfOk, IfErr,
 ghost use Rattle.std.specs.Result.{ForOk};
 ghost use Rattle.std.specs.Io.KnownBytes.{Keeps, IsAtEnd};
 ghost use Rattle.byte_ends.specs.Ends.{Rose};
-ghost use Rattle.delaunay_cli.specs.Ends.{Ends, IsMade, IsPut, IsUnmade};
-ghost use Rattle.delaunay_cli.specs.Page.{IsSound, text_of_page};
+ghost use Rattle.delaunay_cli.specs.Ends.{Ends, IsMadeOfWords, IsPutOut, IsUnmade};
+ghost use Rattle.delaunay_cli.specs.Page.{IsFitToWrite, text_of_page};
 ghost use Rattle.delaunay_cli.specs.Run.{ReadsTo, limit_of};
 ghost use Rattle.delaunay_cli.specs.Statuses.{IsToldLine};
 ghost use Rattle.delaunay_cli.specs.Stops.{line_of_end, status_of_end, status_of_made};
@@ -46,9 +46,9 @@ fn make<R: Threads + Sync, S: Source, G: Gate + Sync>(
     src: &mut S,
     gate: &G,
 ) -> Result<Made, Stop>
-    ensures made { IfOk result (λ made. IsMade words.now (S.left src.old) (status_of_end made.after) made.kept.items
-        (text_of_page made.page)) }
-    ensures sound { IfOk result IsSound }
+    ensures made { IfOk result (λ made. IsMadeOfWords words.now (S.left src.old) (status_of_end made.after)
+        made.kept.items (text_of_page made.page)) }
+    ensures sound { IfOk result IsFitToWrite }
     ensures stop { IfErr result (IsUnmade words.now (S.left src.old) (Rose (S.faults src.old) (S.faults src.new))) }
     ensures reads { ReadsSource words.now → ReadsTo (limit_of (kind_of words.now)) (S.left src.old) (S.left src.new)
         (status_of_made result) }
@@ -90,9 +90,9 @@ fn end<R: Threads + Sync, O: Sink>(
     made: Result<Made, Stop>,
     out: &mut O,
 ) -> Ended
-    requires { ForOk made IsSound }
+    requires { ForOk made IsFitToWrite }
     ensures status { result.run.status ≡ status_of_end result.stop }
-    ensures made { IfOk made (λ made. IsPut (Rose (O.faults out.old) (O.faults out.new)) (O.holds out.old)
+    ensures made { IfOk made (λ made. IsPutOut (Rose (O.faults out.old) (O.faults out.new)) (O.holds out.old)
         (O.holds out.new)
         (text_of_page made.page) made.after made.kept.items result.stop result.run.kept.items) }
     ensures stop { IfErr made (λ stop. (result.stop ≡ Some stop) × (result.run.kept.items ≡ [])

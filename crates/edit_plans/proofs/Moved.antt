@@ -34,7 +34,7 @@ use Rattle.insertion.specs.declared.arrival.Arrival.{Arrival}
 use Rattle.insertion.specs.declared.arrival.ArrivalTurn.{ArrivalTurn}
 use Rattle.insertion.specs.declared.arrival.ArrivalTurn.TheVariants.{Done as Comes, Need as Wants}
 use Rattle.vertex_removal.specs.Refills.{IsRefilled}
-use Rattle.vertex_removal.specs.Turns.{AsksBelow, AsksNothing, NoneIsNeeded, RefillGives}
+use Rattle.vertex_removal.specs.Turns.{RefillAsksBelow, AsksNothing, NoneIsNeededAround, RefillGives}
 use Rattle.vertex_removal.specs.declared.refill.RefillTurn.{RefillTurn}
 use Rattle.vertex_removal.specs.declared.refill.RefillTurn.TheVariants.{Done as Fills, Flat as LiesFlat, Need as Lacks}
 use Rattle.edit_plans.specs.declared.plan.Landed.{Landed}
@@ -229,7 +229,7 @@ both_held hold first but second other list a f g c i =
 module _ (hold : InHand) (s : List ℕ) (l : Landed) (k : IsLandedIn hold s l) where
   -- every bucket that it touches is in hand
   moves_touched : (mid : InHand) → IsEntered l.came.gone.items l.came.fresh.items l.to hold mid →
-      NoneIsNeeded mid (with_point l.to s) l.from → HoldTouched hold.grid s (Move l.from l.to) hold.places
+      NoneIsNeededAround mid (with_point l.to s) l.from → HoldTouched hold.grid s (Move l.from l.to) hold.places
   moves_touched mid e none b t = elim t.reached [
     | inl q ↦ here_at hold l.from t.point b k.home q t.number
     | inr r ↦ (elim r [
@@ -314,7 +314,7 @@ still_there s l k = in_with_old l.to l.from s k.there
 -- what the refill of v answers
 pub refill_answers : {E : Type 0} (hold : InHand) (v w : ℕ) (r : Result RefillTurn E) → w ≡ v →
     IfOk r (λ t. (s : List ℕ) → Shows hold s → RefillGives hold s w t) →
-    IfOk r (λ t. AsksBelow (length hold.places) t) → IfOk r (λ t. AllInHand hold → AsksNothing t) →
+    IfOk r (λ t. RefillAsksBelow (length hold.places) t) → IfOk r (λ t. AllInHand hold → AsksNothing t) →
     IfOk r (RefillAnswers hold v)
 refill_answers hold v w (Ok t) e g b a = record {
   gives = λ s sh. subst (λ (x : ℕ). RefillGives hold s x t) e (g s sh);

@@ -171,7 +171,7 @@ comes_asks hold s p b arrival next t k is gives =
 -- ---- a point that goes
 
 -- every bucket that the removal touches is in hand
-goes_touched : (hold : InHand) (s : List ℕ) (p : ℕ) → HoldsHome hold p → refill.NoneIsNeeded hold s p →
+goes_touched : (hold : InHand) (s : List ℕ) (p : ℕ) → HoldsHome hold p → refill.NoneIsNeededAround hold s p →
     HoldTouched hold.grid s (Take p) hold.places
 goes_touched hold s p home none b t = elim t.reached [
   | inl e ↦ here_at hold p t.point b home e t.number
@@ -188,7 +188,7 @@ goes_touched hold s p home none b t = elim t.reached [
 ]
 
 -- a bucket that is needed is touched
-needed_touched : (hold : InHand) (s : List ℕ) (p b : ℕ) → IsIn p s → refill.IsNeeded hold s p b →
+needed_touched : (hold : InHand) (s : List ℕ) (p b : ℕ) → IsIn p s → refill.IsNeededAround hold s p b →
     IsTouched hold.grid s (Take p) b
 needed_touched hold s p b i n = record {
   point = n.point;
@@ -226,13 +226,13 @@ plan_flat hold s p v t plan sh k same q is gives =
 
 -- a bucket that the refill needs is asked for
 pub goes_asks : (hold : InHand) (s : List ℕ) (p v b : ℕ) (t : RefillTurn) → IsPlannerIn hold s (Going p) → v ≡ p →
-    t ≡ turn.Need b → refill.RefillGives hold s v t → refill.AsksBelow (length hold.places) t →
+    t ≡ turn.Need b → refill.RefillGives hold s v t → refill.RefillAsksBelow (length hold.places) t →
     IsAsked hold s (Take p) b (Going p)
 goes_asks hold s p v b t k same is gives below =
     let g = subst (λ (x : ℕ × RefillTurn). refill.RefillGives hold s x.0 x.1) (λ i. (same i, is i)) gives in
     record {
       lacking = record {
-        below = subst (λ (x : RefillTurn). refill.AsksBelow (length hold.places) x) is below;
+        below = subst (λ (x : RefillTurn). refill.RefillAsksBelow (length hold.places) x) is below;
         absent =
             g.absent;
       };

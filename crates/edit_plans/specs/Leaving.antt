@@ -11,7 +11,7 @@ use Rattle.cell_store.specs.Meshes.{AllInHand}
 use Rattle.cell_store.specs.Shares.{Shows}
 use Rattle.cavity.specs.Both.{AreOfBoth}
 use Rattle.cavity.specs.declared.fill_hole.Fresh.{Fresh}
-use Rattle.vertex_removal.specs.Turns.{AsksBelow, AsksNothing, RefillGives, ShowsWithPoint}
+use Rattle.vertex_removal.specs.Turns.{RefillAsksBelow, AsksNothing, RefillGives, ShowsWithPoint}
 use Rattle.vertex_removal.specs.declared.refill.RefillTurn.{RefillTurn}
 use Rattle.vertex_removal.specs.declared.refill.RefillTurn.TheVariants.{Done as Fills, Flat as LiesFlat, Need as Lacks}
 use Rattle.edit_plans.specs.declared.plan.Landed.{Landed}
@@ -41,7 +41,7 @@ CanLeave hold v = ShowsWithPoint hold v × HoldsHome hold v
 -- what a turn of the refill of v answers for every set that the hold shows
 pub record RefillAnswers (hold : InHand) (v : ℕ) (found : RefillTurn) : Type 0 where
   pub gives : (s : List ℕ) → Shows hold s → RefillGives hold s v found
-  pub below : AsksBelow (length hold.places) found
+  pub below : RefillAsksBelow (length hold.places) found
   pub all : AllInHand hold → AsksNothing found
 
 -- what it answers in the hold with the new place, for every set in which that is the place of the move
@@ -49,7 +49,7 @@ pub record AnswersBeside (hold : InHand) (l : Landed) (found : RefillTurn) : Typ
   pub mid : InHand
   pub entered : IsEntered l.came.gone.items l.came.fresh.items l.to hold mid
   pub gives : (s : List ℕ) → Shows hold s → IsLandedIn hold s l → RefillGives mid (with_point l.to s) l.from found
-  pub below : AsksBelow (length mid.places) found
+  pub below : RefillAsksBelow (length mid.places) found
 
 -- what the move comes to by it: the plan of both changes, one that changes nothing, or the bucket that is asked for
 abbrev pub IsMovedBy : Landed → RefillTurn → PlanTurn → Type 0

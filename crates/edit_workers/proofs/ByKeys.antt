@@ -6,8 +6,8 @@ use Rattle.std.proofs.lemmas.Bool.Decides.{nat_tests}
 use Rattle.std.proofs.lemmas.Map.Keys.{IsDistinct-from_apart, IsDistinct-IsPermutation, apart_from_distinct}
 use Rattle.edit_history.specs.Edits.{point_of}
 use Rattle.plain_laws.specs.Running.{Pair}
-use Rattle.edit_workers.specs.Dealing.{AreAscending}
-use Rattle.edit_workers.specs.Arranging.{key_of, place_count, place_of, stretch_of, tag_count, IsArranged}
+use Rattle.edit_workers.specs.Dealing.{AreTagsAscending}
+use Rattle.edit_workers.specs.Arranging.{key_of_place, place_count, place_of, stretch_of, tag_count, IsArranged}
 use Rattle.edit_workers.proofs.Partly.{is_same, same_flips}
 
 -- the keys of two pairs of one place rise with their tags
@@ -24,8 +24,8 @@ rises c d r h = by (stretch_of c) (stretch_of d) (later_stretch c d) h
     by m n f h = grind (arith)
 
 -- a list of ascending tags, sorted by these keys, is arranged
-pub by_keys : (begin : ℕ) (list arranged : List Pair) → AreAscending list → IsPermutation list arranged →
-    IsNonDecreasingBy (key_of begin) arranged → IsArranged list arranged
+pub by_keys : (begin : ℕ) (list arranged : List Pair) → AreTagsAscending list → IsPermutation list arranged →
+    IsNonDecreasingBy (key_of_place begin) arranged → IsArranged list arranged
 by_keys begin list arranged tags same sorted = record {
   same = same;
   order = λ i j d l m one.
@@ -42,7 +42,8 @@ by_keys begin list arranged tags same sorted = record {
         by : (a b c d : ℕ) → c < d → ((a == b) && (c == d)) ≡ false
         by a b c d f = grind (arith, nat_tests)
 
-    strict : (p q : Pair) → is_same p q ≡ false → key_of begin p ≤ key_of begin q → point_of p.1 ≡ point_of q.1 →
+    strict : (p q : Pair) → is_same p q ≡ false → key_of_place begin p ≤ key_of_place begin q →
+        point_of p.1 ≡ point_of q.1 →
         p.0 < q.0
     strict p q e f one =
         let r : ℕ → ℕ = λ x. (place_of x + begin) % place_count in

@@ -3,11 +3,11 @@ use Rattle.std.specs.Prelude.{◌≡◌, ℕ, zero, suc, ◌+◌, ◌<◌, ◌�
 use Rattle.std.specs.List.{flat_map}
 use Rattle.std.proofs.Common.{ap, arith, get_or, length-append}
 use Rattle.edit_workers.specs.declared.lists.List as lists
-use Rattle.edit_workers.specs.Dealing.{count_of, pairs_in}
+use Rattle.edit_workers.specs.Dealing.{count_in_all, pairs_in}
 
 -- the lists before one, and that one, have no more pairs than all
 pub count_within : (ls : List lists.List) (i : ℕ) (x : lists.List) → i < length ls → x ≡ get_or ls i x →
-    count_of (pairs_in (take i ls)) + length x.pairs.items ≤ count_of (pairs_in ls)
+    count_in_all (pairs_in (take i ls)) + length x.pairs.items ≤ count_in_all (pairs_in ls)
 count_within [] i x h e = absurd (omega (arith, h))
 count_within (l ∷ ls) zero x h e =
     let f : length x.pairs.items ≡ length l.pairs.items = ap (λ (y : lists.List). length y.pairs.items) e in

@@ -51,7 +51,7 @@ use Rattle.grid_claims.specs.Passes.{Opened, Standing}
 use Rattle.grid_claims.specs.Lists.{entries_by}
 use Rattle.grid_claims.specs.Tries.{opening_pass, IsSplit, joined}
 use Rattle.plain_laws.specs.Running.{Pair, AreApart}
-use Rattle.edit_workers.specs.Dealing.{AreAscending, count_of, pairs_in}
+use Rattle.edit_workers.specs.Dealing.{AreTagsAscending, count_in_all, pairs_in}
 use Rattle.edit_workers.specs.declared.lists.List as lists
 use Rattle.edit_workers.specs.declared.lists.Left.{Left}
 use Rattle.edit_workers.specs.Running.{
@@ -206,7 +206,7 @@ slice_worked ls x arranged left table count old new l e can parts is w =
 
 -- the tags of that list ascend
 pub slice_tags : (ls : List lists.List) (x : lists.List) (table : Opened) (old : Standing) → length ls ≡ 1 →
-    x ≡ get_or ls 0 x → CanRun table (pairs_in ls) old → AreAscending x.pairs.items
+    x ≡ get_or ls 0 x → CanRun table (pairs_in ls) old → AreTagsAscending x.pairs.items
 slice_tags ls x table old l e can =
     let f : pairs_in ls ≡ x.pairs.items ∷ [] = ap pairs_in (one_of ls x l e) in
     let g : CanRun table (x.pairs.items ∷ []) old = subst (λ (t : List (List Pair)). CanRun table t old) f can in
@@ -229,7 +229,7 @@ unfolding entries_by
 no_entries first parts l e = ap (entries_by first parts) e
 
 module _ (lows highs : List (List Pair)) (old mid other : Standing) (some-low : 0 < length lows)
-    (some-high : 0 < length highs) (split : IsSplit (length highs) (count_of highs) old mid other) where
+    (some-high : 0 < length highs) (split : IsSplit (length highs) (count_in_all highs) old mid other) where
   module _ (table : Opened) (can : CanRun table (lows ++ highs) old) where
     -- the pass that keeps the first parts can run the first lists
     pub can_low : CanRun table lows mid
@@ -239,13 +239,13 @@ module _ (lows highs : List (List Pair)) (old mid other : Standing) (some-low : 
       table_is = ap (λ (s : Standing). s.table) split.new_is ∙ can.table_is;
       parts = let e : mid.parts ≡ old.parts - length highs = ap (λ (s : Standing). s.parts) split.new_is in
           let f = can.parts in omega (arith, e, f, length-append lows highs);
-      left = let e : mid.left ≡ old.left - count_of highs = ap (λ (s : Standing). s.left) split.new_is in
+      left = let e : mid.left ≡ old.left - count_in_all highs = ap (λ (s : Standing). s.left) split.new_is in
           let f = can.left in let g = count_both lows highs in omega (arith, e, f, g);
-      few = let e : mid.left ≡ old.left - count_of highs = ap (λ (s : Standing). s.left) split.new_is in
+      few = let e : mid.left ≡ old.left - count_in_all highs = ap (λ (s : Standing). s.left) split.new_is in
           let f = can.few in omega (arith, e, f);
       fresh = ap (λ (s : Standing). s.made) split.new_is ∙ no_entries old.first (old.parts - length highs) old.made
           can.fresh;
-      tags = all_low AreAscending lows highs can.tags;
+      tags = all_low AreTagsAscending lows highs can.tags;
       apart = apart_low lows highs can.apart;
     }
 
@@ -256,12 +256,13 @@ module _ (lows highs : List (List Pair)) (old mid other : Standing) (some-low : 
       short = let s = can.short in omega (arith, s, length-append lows highs);
       table_is = ap (λ (s : Standing). s.table) split.other_is ∙ can.table_is;
       parts = ap (λ (s : Standing). s.parts) split.other_is;
-      left = let e : other.left ≡ count_of highs = ap (λ (s : Standing). s.left) split.other_is in omega (arith, e);
-      few = let e : other.left ≡ count_of highs = ap (λ (s : Standing). s.left) split.other_is in let f = can.left in
+      left = let e : other.left ≡ count_in_all highs = ap (λ (s : Standing). s.left) split.other_is in omega (arith, e);
+      few = let e : other.left ≡ count_in_all highs = ap (λ (s : Standing). s.left) split.other_is in let f = can.left
+          in
           let g = can.few in omega (arith, e, f, g, count_both lows highs);
       fresh = ap (λ (s : Standing). s.made) split.other_is ∙ no_entries (old.first + (old.parts - length highs))
           (length highs) old.made can.fresh;
-      tags = all_high AreAscending lows highs can.tags;
+      tags = all_high AreTagsAscending lows highs can.tags;
       apart = apart_high lows highs can.apart;
     }
 
@@ -365,7 +366,7 @@ module _ (lows highs : List (List Pair)) (old mid other : Standing) (some-low : 
 -- ---- halves of a slice
 
 module _ (ls lows highs : List lists.List) (parts allowance : ℕ) (table : Opened) (old mid other : Standing)
-    (cut : ls ≡ lows ++ highs) (many : parts ≡ length highs) (all : allowance ≡ count_of (pairs_in highs))
+    (cut : ls ≡ lows ++ highs) (many : parts ≡ length highs) (all : allowance ≡ count_in_all (pairs_in highs))
     (some-low : 0 < length lows) (some-high : 0 < length highs) (can : CanRun table (pairs_in ls) old)
     (split : IsSplit parts allowance old mid other) where
   -- the lists of a slice are those of its two halves
@@ -389,9 +390,9 @@ module _ (ls lows highs : List lists.List) (parts allowance : ℕ) (table : Open
   can_cut = subst (λ (l : List (List Pair)). CanRun table l old) pairs_cut can
 
   -- it was split by the lists and the pairs of the second
-  split_cut : IsSplit (length (pairs_in highs)) (count_of (pairs_in highs)) old mid other
+  split_cut : IsSplit (length (pairs_in highs)) (count_in_all (pairs_in highs)) old mid other
   split_cut =
-      subst (λ (n : ℕ). IsSplit n (count_of (pairs_in highs)) old mid other) parts_are
+      subst (λ (n : ℕ). IsSplit n (count_in_all (pairs_in highs)) old mid other) parts_are
       (subst (λ (n : ℕ). IsSplit parts n old mid other) all split)
 
   -- the second half has fewer lists than the pass has parts

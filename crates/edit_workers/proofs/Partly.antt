@@ -66,14 +66,14 @@ use Rattle.edit_history.specs.Histories.{IsLegalFrom, IsLegal}
 use Rattle.edit_history.specs.OneThread.{line_of}
 use Rattle.plain_laws.specs.Running.{Pair, HaveNoPoint, AreApart, MovesAlone, clash}
 use Rattle.plain_laws.proofs.Cited.{alone_in_any_order, one_point}
-use Rattle.edit_workers.specs.Dealing.{all_of, count_of}
+use Rattle.edit_workers.specs.Dealing.{all_of, count_in_all}
 use Rattle.edit_workers.specs.Running.{IsSegmentRun, AscendAtPoint, ArePartly, AreRunBut, AreApplied, AreByTag}
 use Rattle.edit_workers.proofs.Sharing.{same_shares}
 
 -- ---- two parts of the lists
 
 -- two groups of lists have as many pairs as both together
-pub count_both : (low high : List (List Pair)) → count_of (low ++ high) ≡ count_of low + count_of high
+pub count_both : (low high : List (List Pair)) → count_in_all (low ++ high) ≡ count_in_all low + count_in_all high
 count_both low high =
     ap length (flat_map-append (λ (l : List Pair). l) low high)
     ∙ length-append (flat_map (λ l. l) low) (flat_map (λ l. l) high)
@@ -268,10 +268,10 @@ by_tags left sorted h s i j d l m same =
 
 -- the entries that were made and the pairs that are left over are as many as the pairs of the lists
 pub room_left : (lists : List (List Pair)) (left sorted : List Pair) (h k : List Entry) → AreRunBut lists left h k →
-    AreByTag left sorted → length k + length sorted ≡ length h + count_of lists
+    AreByTag left sorted → length k + length sorted ≡ length h + count_in_all lists
 room_left lists left sorted h k but tags =
     let a : length k ≡ length h + length but.more = ap length but.history ∙ length-append h but.more in
-    let b : length (map line_of but.more ++ left) ≡ count_of lists =
+    let b : length (map line_of but.more ++ left) ≡ count_in_all lists =
     length_permutation (flat_map (λ l. l) lists) (map line_of but.more ++ left) but.partly.lines in
     omega (
       arith,

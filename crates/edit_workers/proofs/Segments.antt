@@ -16,7 +16,7 @@ use Rattle.one_mesh.specs.Applied.{edited, next_entry}
 use Rattle.plain_laws.specs.Running.{Pair, IsRun, AreRuns}
 use Rattle.edit_workers.specs.declared.lists.List as lists
 use Rattle.edit_workers.specs.declared.lists.Segment.{Segment}
-use Rattle.edit_workers.specs.Dealing.{all_of, count_of, count_all, lists_of, pairs_in}
+use Rattle.edit_workers.specs.Dealing.{all_of, count_in_all, count_all, lists_of, pairs_in}
 use Rattle.edit_workers.specs.Running.{AreApplied, AreDone, AreRun, EndsLate, IsSegmentRun}
 use Rattle.edit_workers.proofs.Counts.{count_within as counted}
 
@@ -42,7 +42,8 @@ done_count : (segments : List (List (List Pair))) (entries : List Entry) → Are
     length entries ≡ count_all segments
 done_count [] entries e = ap length e
 done_count (lists ∷ segments) entries r =
-    let a : length (map line_of r.0) ≡ count_of lists = length_permutation (all_of lists) (map line_of r.0) r.3.lines in
+    let a : length (map line_of r.0) ≡ count_in_all lists = length_permutation (all_of lists) (map line_of r.0)
+    r.3.lines in
     let b = done_count segments r.1 r.5 in
     let e = ap length r.2 in
     omega (
@@ -129,10 +130,10 @@ run_all segments n h k b r =
 
 -- a segment among others has no more pairs than all
 count_within : (segments : List Segment) (n : ℕ) (x : Segment) → n < length segments → x ≡ get_or segments n x →
-    count_all (front_of n segments) + count_of (lists_of x) ≤ count_all (map lists_of segments)
+    count_all (front_of n segments) + count_in_all (lists_of x) ≤ count_all (map lists_of segments)
 count_within [] n x b e = absurd (omega (arith, b))
 count_within (s ∷ segments) zero x b e =
-    let f : count_of (lists_of x) ≡ count_of (lists_of s) = ap (λ (y : Segment). count_of (lists_of y)) e in
+    let f : count_in_all (lists_of x) ≡ count_in_all (lists_of s) = ap (λ (y : Segment). count_in_all (lists_of y)) e in
     omega (arith, f, length-append (all_of (lists_of s)) (flat_map all_of (map lists_of segments)))
 count_within (s ∷ segments) (suc n) x b e =
     let r = count_within segments n x (omega (arith, b)) e in
@@ -146,7 +147,7 @@ count_within (s ∷ segments) (suc n) x b e =
 -- there is room for the next segment
 pub room_next : (segments : List Segment) (n : ℕ) (x : Segment) (h k : List Entry) (most : ℕ) →
     n < length segments → x ≡ get_or segments n x → AreRun (front_of n segments) h k →
-    length h + count_all (map lists_of segments) ≤ most → length k + count_of (lists_of x) ≤ most
+    length h + count_all (map lists_of segments) ≤ most → length k + count_in_all (lists_of x) ≤ most
 room_next segments n x h k most b e r room =
     let c = run_count (front_of n segments) h k r in
     let w = count_within segments n x b e in
@@ -219,7 +220,7 @@ applied_all ls n h k b a = subst (λ (l : List lists.List). AreApplied (all_of (
 -- there is room for the next list
 pub room_for : (ls : List lists.List) (n : ℕ) (x : lists.List) (h k : List Entry) (most : ℕ) →
     n < length ls → x ≡ get_or ls n x → AreApplied (all_of (pairs_in (take n ls))) h k →
-    length h + count_of (pairs_in ls) ≤ most → length k + length x.pairs.items ≤ most
+    length h + count_in_all (pairs_in ls) ≤ most → length k + length x.pairs.items ≤ most
 room_for ls n x h k most b e a room =
     let w = counted ls n x b e in
     let l = ap length a.history in

@@ -18,7 +18,7 @@ use Rattle.edit_history.specs.Edits.{share_point}
 use Rattle.edit_history.specs.Histories.{IsLegal}
 use Rattle.edit_history.specs.OneThread.{line_of}
 use Rattle.plain_laws.specs.Running.{Pair, AreApart}
-use Rattle.edit_workers.specs.Dealing.{AreAscending, CanBeDone, all_of}
+use Rattle.edit_workers.specs.Dealing.{AreTagsAscending, CanBeDone, all_of}
 use Rattle.edit_workers.specs.Running.{AreApplied, AreByTag, AreRunBut, AscendAtPoint, IsSegmentRun}
 use Rattle.edit_workers.proofs.Halves.{only_list}
 use Rattle.edit_workers.proofs.Partly.{all_high, apart_across, apart_high, whole_run}
@@ -30,7 +30,7 @@ abbrev Rises : Entry → Entry → Type 0
 Rises d e = d.tag < e.tag
 
 -- pairs of a list that are made in its order are a run of it
-run_of_list : (list : List Pair) (h k : List Entry) → AreAscending list → AreApplied (list ++ []) h k →
+run_of_list : (list : List Pair) (h k : List Entry) → AreTagsAscending list → AreApplied (list ++ []) h k →
     IsSegmentRun (list ∷ []) h k
 run_of_list list h k tags a = record {
   more = a.more;
@@ -66,20 +66,20 @@ pub run_of_one_list : (lists : List (List Pair)) (h k : List Entry) → length l
     AreApplied (all_of lists) h k → IsSegmentRun lists h k
 run_of_one_list [] h k one can a = absurd (omega (arith, one))
 run_of_one_list (l ∷ []) h k one can a =
-    run_of_list l h k (each_of_all AreAscending (l ∷ []) can.tags l (inl refl)) a
+    run_of_list l h k (each_of_all AreTagsAscending (l ∷ []) can.tags l (inl refl)) a
 run_of_one_list (l ∷ m ∷ ls) h k one can a = absurd (omega (arith, one))
 
 -- ---- several lists
 
 -- pairs of one point stand by their tags in all lists together
-ascend_all : (lists : List (List Pair)) → All AreAscending lists → AreApart lists →
+ascend_all : (lists : List (List Pair)) → All AreTagsAscending lists → AreApart lists →
     EachLater AscendAtPoint (all_of lists)
 ascend_all [] tags apart = tt
 ascend_all (l ∷ ls) tags apart =
     later_append AscendAtPoint l (all_of ls)
     (later_weaken (λ (p q : Pair). p.0 < q.0) AscendAtPoint l (λ p q i j f same. f)
-    (pairs_later (λ (p q : Pair). p.0 < q.0) l (each_of_all AreAscending (l ∷ ls) tags l (inl refl))))
-    (ascend_all ls (all_high AreAscending (l ∷ []) ls tags) (apart_high (l ∷ []) ls apart))
+    (pairs_later (λ (p q : Pair). p.0 < q.0) l (each_of_all AreTagsAscending (l ∷ ls) tags l (inl refl))))
+    (ascend_all ls (all_high AreTagsAscending (l ∷ []) ls tags) (apart_high (l ∷ []) ls apart))
     (λ p q i j same. absurd (apart_across (l ∷ []) ls apart p q (subst (IsIn p) (sym (append-nil l)) i) j same))
 
 -- nothing is made, and all is left over

@@ -67,7 +67,7 @@ use Rattle.edit_workers.specs.Rounds.{
   AllFresh,
   AreMadeOrWait,
   IsBusy,
-  IsMade,
+  IsMadeInRound,
   IsTriedOrWaits,
   IsWorkedInRounds,
   Waits,
@@ -282,7 +282,7 @@ module _ (list kept : List Waiting) (one : Waiting) (old now : Standing) (w : Ar
         })
 
     -- and one that was made
-    is_made : (OwnsAll old → AllFresh list → kept ≡ []) → IsMade one kept after now new →
+    is_made : (OwnsAll old → AllFresh list → kept ≡ []) → IsMadeInRound one kept after now new →
         AreMadeOrWait (list ++ one ∷ []) after old new
     is_made none f =
         let x : Pair = one.pair in

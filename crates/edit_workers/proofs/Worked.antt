@@ -59,7 +59,7 @@ use Rattle.edit_workers.specs.Trying.{
   HasMissedSome,
   FollowsLeft,
   IsLeftOver,
-  IsDone,
+  IsTriedAndMade,
   IsWorkedOn,
   shares_with,
 }
@@ -471,7 +471,8 @@ module _ (list left : List Pair) (pair : Pair) (old now new : Standing) (w : IsW
       }
 
   -- and one that was made is done
-  pub worked_done : (after : List Pair) → IsDone pair left after now new → IsWorked (list ++ pair ∷ []) after old new
+  pub worked_done : (after : List Pair) → IsTriedAndMade pair left after now new →
+      IsWorked (list ++ pair ∷ []) after old new
   worked_done after f =
       record {
         marked = w.marked ++ (false, pair) ∷ [];

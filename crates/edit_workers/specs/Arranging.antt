@@ -36,8 +36,8 @@ tag_count = 4294967296
 
 -- the number by which pairs are arranged: their stretch of tags, then their place behind the
 -- one where the worker begins, then their tag
-abbrev pub key_of : ℕ → Pair → ℕ
-key_of begin pair =
+abbrev pub key_of_place : ℕ → Pair → ℕ
+key_of_place begin pair =
     (stretch_of pair.0 * place_count + (place_of (point_of pair.1) + begin) % place_count) * tag_count + pair.0
 
 -- The pairs in another order, in which those of one point stand by their tags.

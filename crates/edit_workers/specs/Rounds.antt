@@ -73,7 +73,7 @@ pub record IsBusy (one : Waiting) (before kept : List Waiting) (old new : Standi
   pub missed : HasMissed 1 old new
 
 -- It was made. It shares no point with one that waits.
-pub record IsMade (one : Waiting) (before kept : List Waiting) (old new : Standing) : Type 0 where
+pub record IsMadeInRound (one : Waiting) (before kept : List Waiting) (old new : Standing) : Type 0 where
   pub few : one.tries < 64
   pub apart : waits_with one.pair.1 before ≡ false
   pub same : kept ≡ before
@@ -82,7 +82,7 @@ pub record IsMade (one : Waiting) (before kept : List Waiting) (old new : Standi
 -- one of the three
 abbrev pub IsTriedOrWaits : Waiting → List Waiting → List Waiting → Standing → Standing → Type 0
 IsTriedOrWaits one before kept old new =
-    Waits one before kept old new ⊎ (IsBusy one before kept old new ⊎ IsMade one before kept old new)
+    Waits one before kept old new ⊎ (IsBusy one before kept old new ⊎ IsMadeInRound one before kept old new)
 
 -- ---- all pairs
 

@@ -25,7 +25,7 @@ use Rattle.edit_history.specs.OneThread.{line_of}
 use Rattle.grid_claims.specs.Passes.{Opened, Standing}
 use Rattle.grid_claims.specs.Tries.{IsStill, joined}
 use Rattle.plain_laws.specs.Running.{Pair, AreApart, IsRun}
-use Rattle.edit_workers.specs.Dealing.{AreAscending, all_of, count_of}
+use Rattle.edit_workers.specs.Dealing.{AreTagsAscending, all_of, count_in_all}
 
 -- the entry is of a pair in the list of its worker, where the first of the workers has this number
 abbrev pub IsOfWorker : ℕ → List (List Pair) → Entry → Type 0
@@ -71,10 +71,10 @@ pub record CanRun (table : Opened) (lists : List (List Pair)) (pass : Standing) 
   pub short : length lists ≤ 64
   pub table_is : pass.table ≡ table
   pub parts : pass.parts ≡ length lists
-  pub left : count_of lists ≤ pass.left
+  pub left : count_in_all lists ≤ pass.left
   pub few : pass.left ≤ 2 ^ 32
   pub fresh : pass.made ≡ []
-  pub tags : All AreAscending lists
+  pub tags : All AreTagsAscending lists
   pub apart : AreApart lists
 
 -- where they are of one point, their tags ascend
@@ -91,8 +91,8 @@ pub record ArePartly (lists : List (List Pair)) (left : List Pair) (entries : Li
   pub later : AllPairs AscendAtPoint left
 
 -- the list was done whole: nothing is left over, and the entries are of its pairs, in its order
-abbrev pub IsWhole : List Pair → List Pair → List Entry → Type 0
-IsWhole list left entries = (left ≡ []) × (map line_of entries ≡ list)
+abbrev pub IsDoneWhole : List Pair → List Pair → List Entry → Type 0
+IsDoneWhole list left entries = (left ≡ []) × (map line_of entries ≡ list)
 
 -- The lists were worked on by the parts of a pass. Where that pass owns all parts and there is one list, it was done
 -- whole, in its order.
@@ -101,7 +101,8 @@ pub record AreWorked (lists : List (List Pair)) (left : List Pair) (old new : St
   pub partly : ArePartly lists left new.made
   pub workers : All (λ e. (old.first ≤ e.by) × (e.by < old.first + old.parts)) new.made
   pub owned : (e : Entry) → IsIn e new.made → IsOfWorker old.first lists e
-  pub alone : (l : List Pair) → lists ≡ l ∷ [] → old.first ≡ 0 → old.parts ≡ old.table.parts → IsWhole l left new.made
+  pub alone : (l : List Pair) → lists ≡ l ∷ [] → old.first ≡ 0 → old.parts ≡ old.table.parts →
+      IsDoneWhole l left new.made
 
 -- Two passes of the table, of which the second's parts come behind those of the first, have together done the lists of
 -- the pass that they were.
@@ -126,7 +127,7 @@ pub record AreRunBut (lists : List (List Pair)) (left : List Pair) (h k : List E
   pub partly : ArePartly lists left more
   pub workers : All (λ e. e.by < length lists) more
   pub owned : (e : Entry) → IsIn e more → IsOfWorker 0 lists e
-  pub alone : (l : List Pair) → lists ≡ l ∷ [] → IsWhole l left more
+  pub alone : (l : List Pair) → lists ≡ l ∷ [] → IsDoneWhole l left more
 
 -- ---- pairs left over
 

@@ -65,7 +65,7 @@ pub record IsLeftOver (pair : Pair) (before left : List Pair) (old new : Standin
   pub missed : HasMissed 64 old new
 
 -- Or it was made.
-pub record IsDone (pair : Pair) (before left : List Pair) (old new : Standing) : Type 0 where
+pub record IsTriedAndMade (pair : Pair) (before left : List Pair) (old new : Standing) : Type 0 where
   pub first : shares_with pair.1 before ≡ false
   pub none : left ≡ before
   pub made : HasMadeOne 64 pair.0 pair.1 old new
@@ -73,4 +73,5 @@ pub record IsDone (pair : Pair) (before left : List Pair) (old new : Standing) :
 -- one of the three
 abbrev pub IsWorkedOn : Pair → List Pair → List Pair → Standing → Standing → Type 0
 IsWorkedOn pair before left old new =
-    FollowsLeft pair before left old new ⊎ (IsLeftOver pair before left old new ⊎ IsDone pair before left old new)
+    FollowsLeft pair before left old new ⊎ (IsLeftOver pair before left old new ⊎ IsTriedAndMade pair before left old
+    new)

@@ -2,12 +2,12 @@
 //! others. So what it needs is still near its processor, and buckets are seldom in another's hands.
 
 ghost use Rattle.std.specs.Prelude.{◌≡◌, ◌<◌, IfOk, length};
-ghost use Rattle.edit_workers.specs.Dealing.{AreAscending};
+ghost use Rattle.edit_workers.specs.Dealing.{AreTagsAscending};
 ghost use Rattle.edit_workers.specs.Arranging.{
   spread_of,
   stretch_of as stretch_of_tag,
   place_of as place_of_point,
-  key_of as key_of_pair,
+  key_of_place as key_of_pair,
   place_count,
   IsArranged,
   IsInPlace,
@@ -61,7 +61,7 @@ fn stretch_of(tag: u32) -> u32
 
 // The number by which pairs are arranged: their stretch, then their place behind the
 // one where the worker begins, then their tag.
-fn key_of(pair: &(u32, Edit), begin: u32) -> u64
+fn key_of_place(pair: &(u32, Edit), begin: u32) -> u64
     requires { begin < place_count }
     ensures { result ≡ key_of_pair begin pair.now }
 {
@@ -81,12 +81,12 @@ fn beginning(number: u32, count: u32) -> u32
 // The pairs in the order of their places, from that where the worker with a number begins.
 fn arranged(alloc: Global, list: &List, number: u32, count: u32) -> Result<List, AllocError>
     requires some { 0 < count }
-    requires tags { AreAscending list.now.pairs.items }
+    requires tags { AreTagsAscending list.now.pairs.items }
     ensures { IfOk result (λ l. IsArranged list.now.pairs.items l.pairs.items) }
 {
     let mut pairs = Vec::from_slice(alloc, &list.pairs)?;
     let begin = beginning(number, count);
-    pairs.sort_unstable_by_key(|pair| key_of(pair, begin));
+    pairs.sort_unstable_by_key(|pair| key_of_place(pair, begin));
     Ok(List { pairs })
 }
 
@@ -102,7 +102,7 @@ pub(crate) fn in_place(
     count: u32,
 ) -> Result<List, AllocError>
     requires some { 0 < count }
-    requires tags { AreAscending list.now.pairs.items }
+    requires tags { AreTagsAscending list.now.pairs.items }
     ensures { IfOk result (λ l. IsInPlace count list.now.pairs.items l.pairs.items) }
 {
     if count == 1 {

@@ -3,7 +3,7 @@
 ghost use Rattle.std.specs.Prelude.{◌≡◌, ◌+◌, ◌^◌, ◌<◌, ◌≤◌, ◌++◌, IfOk, OnOk, length, All};
 ghost use Rattle.std.specs.Thread.{IsSync};
 ghost use Rattle.grid_claims.specs.Tries.{joined};
-ghost use Rattle.edit_workers.specs.Dealing.{segments_of, pairs_in, CanBeDone, all_of, count_of, count_all};
+ghost use Rattle.edit_workers.specs.Dealing.{segments_of, pairs_in, CanBeDone, all_of, count_in_all, count_all};
 ghost use Rattle.edit_workers.specs.Running.{
   AreRun,
   IsSegmentRun,
@@ -31,8 +31,8 @@ const FEW: u64 = 8;
 
 // How many pairs the lists have.
 fn pair_count(lists: &[List]) -> u64
-    requires { count_of (pairs_in lists.now) ≤ 2 ^ 32 }
-    ensures { result ≡ count_of (pairs_in lists.now) }
+    requires { count_in_all (pairs_in lists.now) ≤ 2 ^ 32 }
+    ensures { result ≡ count_in_all (pairs_in lists.now) }
 {
     let mut count = 0;
     for list in lists {
@@ -184,7 +184,7 @@ fn side_by_side<G: Gate + Sync, R: Threads + Sync>(
     gate: &G,
 ) -> Result<(Mesh, Left), AllocError>
     requires lists { CanBeDone (pairs_in lists.now) }
-    requires room { length mesh.history + count_of (pairs_in lists.now) ≤ 2 ^ 32 }
+    requires room { length mesh.history + count_in_all (pairs_in lists.now) ≤ 2 ^ 32 }
     ensures run { IfOk result (λ r. AreRunBut (pairs_in lists.now) r.1.pairs.items mesh.history r.0.history) }
     ensures grid { IfOk result (λ r. r.0.grid ≡ mesh.grid) }
 {
@@ -224,7 +224,7 @@ fn apply_all(alloc: Global, mesh: &mut Mesh, pairs: &[(u32, Edit)]) -> Result<()
 
 // Makes the edits of lists on the mesh, one by one.
 fn apply_lists(alloc: Global, mesh: &mut Mesh, lists: &[List]) -> Result<(), AllocError>
-    requires room { length mesh.old.history + count_of (pairs_in lists.now) ≤ 2 ^ 32 }
+    requires room { length mesh.old.history + count_in_all (pairs_in lists.now) ≤ 2 ^ 32 }
     ensures applied { OnOk result (AreApplied (all_of (pairs_in lists.now)) mesh.old.history mesh.new.history) }
     ensures grid { OnOk result (mesh.new.grid ≡ mesh.old.grid) }
 {
@@ -243,7 +243,7 @@ fn run_beside<G: Gate + Sync, R: Threads + Sync>(
     gate: &G,
 ) -> Result<Mesh, AllocError>
     requires lists { CanBeDone (pairs_in lists.now) }
-    requires room { length mesh.history + count_of (pairs_in lists.now) ≤ 2 ^ 32 }
+    requires room { length mesh.history + count_in_all (pairs_in lists.now) ≤ 2 ^ 32 }
     ensures run { IfOk result (λ m. IsSegmentRun (pairs_in lists.now) mesh.history m.history) }
     ensures grid { IfOk result (λ m. m.grid ≡ mesh.grid) }
 {
@@ -270,7 +270,7 @@ fn all_pairs(alloc: Global, lists: &[List]) -> Result<Left, AllocError>
 // Does the lists on the mesh without workers, by their tags.
 fn run_alone(alloc: Global, mesh: &mut Mesh, lists: &[List]) -> Result<(), AllocError>
     requires lists { CanBeDone (pairs_in lists.now) }
-    requires room { length mesh.old.history + count_of (pairs_in lists.now) ≤ 2 ^ 32 }
+    requires room { length mesh.old.history + count_in_all (pairs_in lists.now) ≤ 2 ^ 32 }
     ensures run { OnOk result (IsSegmentRun (pairs_in lists.now) mesh.old.history mesh.new.history) }
     ensures grid { OnOk result (mesh.new.grid ≡ mesh.old.grid) }
 {
@@ -289,7 +289,7 @@ fn run_alone(alloc: Global, mesh: &mut Mesh, lists: &[List]) -> Result<(), Alloc
 // Whether a segment, and whether it is one of several, needs no workers: one of few pairs, and one of several that has
 // one list.
 fn needs_none(lists: &[List], is_of_several: bool) -> bool
-    requires { count_of (pairs_in lists.now) ≤ 2 ^ 32 }
+    requires { count_in_all (pairs_in lists.now) ≤ 2 ^ 32 }
 {
     let few = if is_of_several { FEW } else { 2 };
     pair_count(lists) < few || is_of_several && lists.len() == 1
@@ -305,7 +305,7 @@ fn run_segment<G: Gate + Sync, R: Threads + Sync>(
     gate: &G,
 ) -> Result<Mesh, AllocError>
     requires lists { CanBeDone (pairs_in lists.now) }
-    requires room { length mesh.history + count_of (pairs_in lists.now) ≤ 2 ^ 32 }
+    requires room { length mesh.history + count_in_all (pairs_in lists.now) ≤ 2 ^ 32 }
     ensures run { IfOk result (λ m. IsSegmentRun (pairs_in lists.now) mesh.history m.history) }
     ensures grid { IfOk result (λ m. m.grid ≡ mesh.grid) }
 {

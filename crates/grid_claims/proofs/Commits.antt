@@ -69,7 +69,7 @@ use Rattle.grid_claims.specs.declared.view.View.{View}
 use Rattle.grid_claims.specs.declared.view.Act.{Act as Deed}
 use Rattle.grid_claims.specs.declared.view.Act.TheVariants.{Claim, Miss, Commit, Release, Look}
 use Rattle.grid_claims.specs.Faces.{buckets_of, opening_of, plain, plain_child, passes_of, passes_in, board_of}
-use Rattle.grid_claims.specs.Trails.{in_hand, in_hand_after, AreStepsFrom, IsStepOf, IsCommitOf, IsExact, AreTouched}
+use Rattle.grid_claims.specs.Trails.{in_hand, in_hand_after, AreStepsFrom, IsStepOf, IsCommitOf, IsExact, AreAllTouched}
 use Rattle.grid_claims.specs.Rule.{IsSeatInOrder, IsRule}
 use Rattle.grid_claims.specs.Plays.{Seated, commits, Committed, IsReady, HandStands, HandShows, entry_of}
 use Rattle.grid_claims.proofs.Boarded.{
@@ -88,7 +88,7 @@ use Rattle.grid_claims.proofs.LivePasses.{passes_to}
 use Rattle.grid_claims.specs.declared.view.Child.{Child}
 use Rattle.list_laws.proofs.Cited.{all_of_each, each_of_all}
 use Rattle.grid_claims.proofs.Trailed.{in_hand_snoc, steps_snoc}
-use Rattle.grid_claims.specs.Reached.{IsReached}
+use Rattle.grid_claims.specs.Reached.{IsLedTo}
 use Rattle.grid_claims.proofs.Reached.{reached_commit}
 use Rattle.grid_claims.proofs.Claims.{IsAlone, below, on_board, hand_stands, Taken}
 
@@ -117,7 +117,7 @@ commit_grows : (g : ℕ) (h : List Entry) (e : Entry) (bs : List ℕ) (n : ℕ) 
     IsCommitOf g (h ++ e ∷ []) bs n
 commit_grows g h e bs n c = record {
   below = let q = c.below in let l = length_more h e in omega arith;
-  exact = λ d at x. subst (λ (l : List Entry). AreTouched g (replay l) d.edit bs) (sym (taken_more n h e c.below))
+  exact = λ d at x. subst (λ (l : List Entry). AreAllTouched g (replay l) d.edit bs) (sym (taken_more n h e c.below))
       (c.exact d (older n h e d c.below at) x);
 }
 
@@ -255,7 +255,7 @@ commits_keep k slots id tag edit reply me s h r a ready some_left key =
           let is_e : e ≡ y = some-injective e y (sym (at_last h e found (sym ticket)) ∙ at) in
           let is_h : take found h' ≡ h = ap (λ (n : ℕ). take n h') ticket ∙ taken_all h e in
           let no_other = ready.exact (subst (λ (z : Entry). IsExact z.edit z.reply) (sym is_e) exact) (replay h) seen in
-          subst (λ (z : List Entry × Entry). AreTouched k.grid (replay z.0) z.1.edit (in_hand v.trail))
+          subst (λ (z : List Entry × Entry). AreAllTouched k.grid (replay z.0) z.1.edit (in_hand v.trail))
           (λ i. (sym is_h i, is_e i))
           (λ b. (
             (λ i. subst (λ (g : ℕ). Rattle.cell_store.specs.Touches.IsTouched g (replay h) edit b) (ok.table a.live).0
@@ -332,7 +332,7 @@ commits_keep k slots id tag edit reply me s h r a ready some_left key =
         | inl y ↦ subst (IsSeatInOrder k h') y.1 mine
         | inr y ↦ other j u y.0 y.1
       ];
-      reached = subst (λ (x : Entry). IsReached k s' (h ++ x ∷ [])) (sym same_entry)
+      reached = subst (λ (x : Entry). IsLedTo k s' (h ++ x ∷ [])) (sym same_entry)
           (reached_commit k s s' h id tag edit v w r.reached record {
             apart = r.apart;
             there = a.there;

@@ -41,7 +41,7 @@ use Rattle.claim_rule.specs.Boards.{in_hand_of}
 use Rattle.claim_rule.specs.Good.{AreSharesOf}
 use Rattle.cell_store.specs.Shares.{Stands, share_at}
 use Rattle.claim_rule.specs.Events.{renewed_from}
-use Rattle.claim_rule.specs.Making.{IsExchanged}
+use Rattle.claim_rule.specs.Making.{IsExchangedIn}
 use Rattle.claim_rule.proofs.Cited.{any_brought, renewed_at}
 use Rattle.grid_claims.specs.declared.hands.Hands.{Hands}
 use Rattle.edit_plans.specs.declared.plan.Plan.{Plan}
@@ -131,7 +131,7 @@ pub hands_committed :
     (id : TableId) (n tag number : ℕ) (edit : Edit) (w w' : Hands) (plan : Plan) → AreHands id n w →
     IsReadyPlan w.place.me.0 w.hold edit plan → Committed tag edit plan.reply w.place.me number w'.place.me →
     w'.place.table_id ≡ w.place.table_id → w'.order ≡ w.order → w'.first ≡ w.first →
-    IsExchanged plan.gone.items plan.fresh.items (entry_of number w.first tag edit plan.reply) w.hold w'.hold →
+    IsExchangedIn plan.gone.items plan.fresh.items (entry_of number w.first tag edit plan.reply) w.hold w'.hold →
     AreHands id n w'
 hands_committed id n tag number edit w w' plan a plan_is told table order first made =
     let h : List Entry = told.history in
@@ -146,8 +146,8 @@ hands_committed id n tag number edit w w' plan a plan_is told table order first 
     } in
     let next : IsNext h e plan.gone.items plan.fresh.items =
     next_entry h e plan.gone.items plan.fresh.items (sound_of w.hold h st) plan_is.key follows in
-    let x : IsExchanged plan.gone.items plan.fresh.items e w.hold w'.hold =
-    subst (λ (f : ℕ). IsExchanged plan.gone.items plan.fresh.items (entry_of number f tag edit plan.reply) w.hold
+    let x : IsExchangedIn plan.gone.items plan.fresh.items e w.hold w'.hold =
+    subst (λ (f : ℕ). IsExchangedIn plan.gone.items plan.fresh.items (entry_of number f tag edit plan.reply) w.hold
     w'.hold)
     a.first made in
     let shares : AreSharesOf w.place.me.0.grid h w.hold.places =

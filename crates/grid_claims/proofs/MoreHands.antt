@@ -49,7 +49,7 @@ use Rattle.grid_claims.specs.Claiming.{
   ShowsOne,
 }
 use Rattle.edit_plans.specs.Plans.{HoldsHome}
-use Rattle.grid_claims.specs.Looking.{HasMore}
+use Rattle.grid_claims.specs.Looking.{HasClaimedMore}
 use Rattle.grid_claims.specs.declared.refused.Refused.{Refused}
 use Rattle.grid_claims.specs.declared.refused.Refused.TheVariants.{Spent, Busy, Memory}
 use Rattle.cell_store.specs.Grids.{bucket_of}
@@ -220,7 +220,7 @@ more_among w w' b c lacks grid put = record {
 -- so after a claim there is more in hand
 pub has_more : (id : TableId) (n : ℕ) (w w' : Hands) (b : ℕ) (c : BucketContent) → AreHands id n w → AreHands id n w' →
     bucket_at w.hold.places b ≡ None → w'.place.me.0 ≡ claims w.place.me.0 b c →
-    w'.order.items ≡ w.order.items ++ b ∷ [] → (h : List Entry) × HandStands w'.place.me.0 h → HasMore id n w w'
+    w'.order.items ≡ w.order.items ++ b ∷ [] → (h : List Entry) × HandStands w'.place.me.0 h → HasClaimedMore id n w w'
 has_more id n w w' b c a a' lacks view order st =
     let v : View = w.place.me.0 in
     let put = put_in w.place.me w'.place.me w.hold.places w'.hold.places w.order.items w'.order.items b c a.carries
@@ -240,7 +240,8 @@ has_more id n w w' b c a a' lacks view order st =
     }
 
 -- more than more is more
-pub more_then : (id : TableId) (n : ℕ) (w w' u : Hands) → HasMore id n w w' → HasMore id n w' u → HasMore id n w u
+pub more_then : (id : TableId) (n : ℕ) (w w' u : Hands) → HasClaimedMore id n w w' → HasClaimedMore id n w' u →
+    HasClaimedMore id n w u
 more_then id n w w' u x y = record {
   hands = y.hands;
   claimed = claimed_then w w' u [] x.claimed y.claimed;
@@ -255,7 +256,7 @@ shown w w' s a sh = fewer_show w w' s a sh
 -- ---- where a loop of claims starts, and how it ends
 
 -- nothing was claimed yet
-pub more_none : (id : TableId) (n : ℕ) (w : Hands) → AreHands id n w → ShowsOne w.hold → HasMore id n w w
+pub more_none : (id : TableId) (n : ℕ) (w : Hands) → AreHands id n w → ShowsOne w.hold → HasClaimedMore id n w w
 more_none id n w a one = record {
   hands = a;
   claimed = record {
@@ -302,7 +303,8 @@ others_still w w' steps (Busy bucket word) c o =
 others_still w w' steps Memory c o = tt
 
 -- a try that claims more and then stops has stopped
-pub stopped_then : (id : TableId) (n : ℕ) (w w' u : Hands) (why : Refused) → HasMore id n w w' → HasStopped w' u why →
+pub stopped_then : (id : TableId) (n : ℕ) (w w' u : Hands) (why : Refused) → HasClaimedMore id n w w' →
+    HasStopped w' u why →
     HasStopped w u why
 stopped_then id n w w' u why x y = record {
   claimed = claimed_then w w' u (last_step why) x.claimed y.claimed;
@@ -310,7 +312,7 @@ stopped_then id n w w' u why x y = record {
 }
 
 -- so has one that claims more and then lacks memory
-pub out_of_memory : (id : TableId) (n : ℕ) (w w' : Hands) → HasMore id n w w' → HasStopped w w' Memory
+pub out_of_memory : (id : TableId) (n : ℕ) (w w' : Hands) → HasClaimedMore id n w w' → HasStopped w w' Memory
 out_of_memory id n w w' x = record { claimed = x.claimed; others = tt }
 
 -- ---- a hold that is as before but for its room
@@ -353,7 +355,7 @@ hands_same id n w hold a e = subst (λ (h : InHand). AreHands id n
 
 -- where no room was made the try has stopped for want of memory
 pub no_room_made :
-    (id : TableId) (n : ℕ) (old w : Hands) (hold : InHand) → HasMore id n old w → hold ≡ w.hold →
+    (id : TableId) (n : ℕ) (old w : Hands) (hold : InHand) → HasClaimedMore id n old w → hold ≡ w.hold →
     HasStopped old (record { place = w.place; hold = hold; order = w.order; first = w.first }) Memory
 no_room_made id n old w hold m e =
     subst (λ (h : InHand). HasStopped old (record { place = w.place; hold = h; order = w.order; first = w.first })

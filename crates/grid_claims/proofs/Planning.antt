@@ -32,7 +32,7 @@ use Rattle.grid_claims.specs.declared.view.View.{View}
 use Rattle.grid_claims.specs.Claiming.{AreHands, HasStopped, IsReadyPlan, ShowsOne}
 use Rattle.grid_claims.specs.declared.refused.Refused.{Refused}
 use Rattle.grid_claims.specs.declared.refused.Refused.TheVariants.{Memory}
-use Rattle.grid_claims.specs.Looking.{HasMore, IsPlanning}
+use Rattle.grid_claims.specs.Looking.{HasClaimedMore, IsPlanning}
 use Rattle.grid_claims.specs.Plays.{HandShows}
 use Rattle.grid_claims.proofs.MoreHands.{hands_with_room, more_none, more_then, out_of_memory, shown, stopped_then}
 
@@ -83,8 +83,8 @@ hands_with w hold = record { place = w.place; hold = hold; order = w.order; firs
 
 -- where a turn made room, as much is in hand as before
 pub turned : (id : TableId) (n : ℕ) (w : Hands) (hold : InHand) (r : Room) → AreHands id n w → ShowsOne w.hold →
-    hold ≡ record w.hold { room = r } → HasMore id n w (hands_with w hold)
-turned id n w hold r a one e = subst (λ (h : InHand). HasMore id n w (hands_with w h)) (sym e) (record {
+    hold ≡ record w.hold { room = r } → HasClaimedMore id n w (hands_with w hold)
+turned id n w hold r a one e = subst (λ (h : InHand). HasClaimedMore id n w (hands_with w h)) (sym e) (record {
   hands = hands_with_room id n w (record w.hold { room = r }) r a refl;
   claimed = record {
     more = [];
@@ -135,7 +135,7 @@ module _ (id : TableId) (n : ℕ) (edit : Edit) (old now : Hands) where
   -- it came
   pub planning_on : (u : Hands) (planner next : Planner) (b : ℕ) (turn : PlanTurn) →
       IsPlanning id n edit old now planner → turn ≡ Need b next → PlanAnswers now.hold planner turn →
-      HasMore id n now u → u.order.items ≡ now.order.items ++ b ∷ [] → IsPlanning id n edit old u next
+      HasClaimedMore id n now u → u.order.items ≡ now.order.items ++ b ∷ [] → IsPlanning id n edit old u next
   planning_on u planner next b turn i is gives m order =
       let asked = turns planner turn (Need b next) i is gives in
       let before : (s : List ℕ) → Shows u.hold s → Shows now.hold s = λ s sh. shown now.hold u.hold s m.among sh in
@@ -212,7 +212,7 @@ module _ (id : TableId) (n : ℕ) (edit : Edit) (old now : Hands) (hold : InHand
 
   -- all claims so far
   pub more_after : (planner : Planner) → IsPlanning id n edit old now planner → hold ≡ record now.hold { room = r } →
-      HasMore id n old (hands_with now hold)
+      HasClaimedMore id n old (hands_with now hold)
   more_after planner i e = more_then id n old now (hands_with now hold) i.more
       (turned id n now hold r i.more.hands i.more.one e)
 
@@ -226,14 +226,14 @@ module _ (id : TableId) (n : ℕ) (edit : Edit) (old now : Hands) (hold : InHand
   -- it came
   pub on_after : (u : Hands) (planner next : Planner) (b : ℕ) (turn : PlanTurn) → IsPlanning id n edit old now planner →
       turn ≡ Need b next → PlanAnswers now.hold planner turn → hold ≡ record now.hold { room = r } →
-      HasMore id n (hands_with now hold) u → u.order.items ≡ now.order.items ++ b ∷ [] →
+      HasClaimedMore id n (hands_with now hold) u → u.order.items ≡ now.order.items ++ b ∷ [] →
       IsPlanning id n edit old u next
   on_after u planner next b turn i is gives e m order =
       planning_on id n edit old now u planner next b turn i is gives
       (more_then id n now (hands_with now hold) u (turned id n now hold r i.more.hands i.more.one e) m) order
 
 -- want of memory stops the try
-pub starved : {X : Type 0} (id : TableId) (n : ℕ) (old w : Hands) (r : Result X Refused) → HasMore id n old w →
+pub starved : {X : Type 0} (id : TableId) (n : ℕ) (old w : Hands) (r : Result X Refused) → HasClaimedMore id n old w →
     IsErr r × IsErrAnd r (λ e. e ≡ Memory) → IfErr r (λ why. HasStopped old w why)
 starved id n old w (Ok x) m e = tt
 starved id n old w (Err why) m e =
@@ -247,5 +247,6 @@ stopped_so w u (Err x) why s e = subst (λ (y : Refused). HasStopped w u y) (sym
 
 -- a claim that failed stops the try
 pub asked_then : {X : Type 0} (id : TableId) (n : ℕ) (w w' u : Hands) (r : Result X Refused) (why : Refused) →
-    HasMore id n w w' → HasStopped w' u why → IsErr r × IsErrAnd r (λ e. e ≡ why) → IfErr r (λ e. HasStopped w u e)
+    HasClaimedMore id n w w' → HasStopped w' u why → IsErr r × IsErrAnd r (λ e. e ≡ why) →
+    IfErr r (λ e. HasStopped w u e)
 asked_then id n w w' u r why m s e = stopped_so w u r why (stopped_then id n w w' u why m s) e

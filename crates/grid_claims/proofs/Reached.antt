@@ -69,13 +69,13 @@ use Rattle.grid_claims.specs.Faces.{buckets_of, opening_of, plain, passes_in, bo
 use Rattle.claim_rule.specs.Laws.{Runs}
 use Rattle.claim_rule.proofs.Cited.{events_keep_good, one_history_of_board}
 use Rattle.grid_claims.specs.Laws.{EveryStateIsReached, ReachedByARun}
-use Rattle.grid_claims.specs.Reached.{Turn, CameAbout, Leads, player, step_of, steps_by, EndsWith, opened_as, IsReached}
+use Rattle.grid_claims.specs.Reached.{Turn, CameAbout, LeadOn, player, step_of, steps_by, EndsWith, opened_as, IsLedTo}
 use Rattle.grid_claims.proofs.Boarded.{Table, firsts, seats_differ, own_pass}
 
 -- turns that lead to a board lead, with an event that comes next there, to the one after it
-leads_snoc : (h k : List Entry) (s m m' : BoardState) (turns : List Turn) (t : Turn) → Leads h s turns k m →
+leads_snoc : (h k : List Entry) (s m m' : BoardState) (turns : List Turn) (t : Turn) → LeadOn h s turns k m →
     HasKey t.event → CameAbout t.answer → t.ticket ≡ m.ticket → Next k m t.event t.answer m'
-    → Leads h s (turns ++ t ∷ []) (history_after k m t.event t.answer) m'
+    → LeadOn h s (turns ++ t ∷ []) (history_after k m t.event t.answer) m'
 leads_snoc h k s m m' [] t l key came found next = (
   m',
   key,
@@ -136,9 +136,9 @@ pub record IsOneSet (k : Key) (s s' : Table) (id : ℕ) (v w : View) : Type 0 wh
 
 -- a step of the table that is an event of the pass in this seat
 pub reached_by : (k : Key) (s s' : Table) (h : List Entry) (id : ℕ) (v w : View) (event : Event) (answer : Played) →
-    IsReached k s h → IsOneSet k s s' id v w → HasKey event → CameAbout answer → player event ≡ v.first →
+    IsLedTo k s h → IsOneSet k s s' id v w → HasKey event → CameAbout answer → player event ≡ v.first →
     w.trail ≡ v.trail ++ step_of event answer (board_of k s).ticket → Next h (board_of k s) event answer (board_of k s')
-    → IsReached k s' (history_after h (board_of k s) event answer)
+    → IsLedTo k s' (history_after h (board_of k s) event answer)
 reached_by k s s' h id v w event answer r one key came mine trail next =
     let t : Turn = record { event = event; answer = answer; ticket = (board_of k s).ticket } in
     record {
@@ -161,13 +161,13 @@ reached_by k s s' h id v w event answer r one key came mine trail next =
     }
 
 -- the same board, with other seats
-pub reached_unseen : (k : Key) (s s' : Table) (h : List Entry) → (r : IsReached k s h) → board_of k s' ≡ board_of k s
+pub reached_unseen : (k : Key) (s s' : Table) (h : List Entry) → (r : IsLedTo k s h) → board_of k s' ≡ board_of k s
     → ((j : ℕ) (v : View) → get_elem? s'.views j ≡ some v → 0 < v.parts → EndsWith (steps_by v.first r.turns) v.trail) →
-    IsReached k s' h
+    IsLedTo k s' h
 reached_unseen k s s' h r e trails = record {
   began = r.began;
   turns = r.turns;
-  lead = subst (λ (x : BoardState). Leads (opening_of k) (opened_as k) r.turns h x) (sym e) r.lead;
+  lead = subst (λ (x : BoardState). LeadOn (opening_of k) (opened_as k) r.turns h x) (sym e) r.lead;
   trails = trails;
 }
 
@@ -177,7 +177,7 @@ ends_empty l = (l, sym (append-nil l))
 
 -- a new table
 pub reached_first : (k : Key) (s : Table) (h : List Entry) → h ≡ opening_of k → board_of k s ≡ opened_as k →
-    IsGood (board_of k s) h → ((j : ℕ) (v : View) → get_elem? s.views j ≡ some v → v.trail ≡ []) → IsReached k s h
+    IsGood (board_of k s) h → ((j : ℕ) (v : View) → get_elem? s.views j ≡ some v → v.trail ≡ []) → IsLedTo k s h
 reached_first k s h e f good none_yet = record {
   began = subst (λ (x : BoardState × List Entry). IsGood x.0 x.1) (λ i. (f i, e i)) good;
   turns = [];
@@ -192,10 +192,10 @@ said : (o : Option board.View) (v : board.View) (P : board.View → Type 0) → 
 said o v P e p = subst (λ (x : Option board.View). IsSomeAnd x P) (sym e) p
 
 -- a claim that was done
-pub reached_claim : (k : Key) (s s' : Table) (h : List Entry) (id b : ℕ) (v w : View) → IsReached k s h →
+pub reached_claim : (k : Key) (s s' : Table) (h : List Entry) (id b : ℕ) (v w : View) → IsLedTo k s h →
     IsOneSet k s s' id v w → w.trail ≡ v.trail ++ DidClaim b ∷ [] → view_at (board_of k s) v.first ≡ Some (plain v) →
     b < length (board_of k s).words → bucket_at v.held b ≡ None → word_of (board_of k s) b ≡ 0
-    → board_of k s' ≡ claimed (board_of k s) v.first b → IsReached k s' h
+    → board_of k s' ≡ claimed (board_of k s) v.first b → IsLedTo k s' h
 reached_claim k s s' h id b v w r one trail there inside lacks word event =
     reached_by k s s' h id v w (Claim v.first b) Done r one tt tt refl trail (
       (inside, said (view_at (board_of k s) v.first) (plain v) (λ u. bucket_at u.held b ≡ None) there lacks),
@@ -204,11 +204,11 @@ reached_claim k s s' h id b v w r one trail there inside lacks word event =
     )
 
 -- a claim that found the bucket away
-pub reached_miss : (k : Key) (s s' : Table) (h : List Entry) (id b word : ℕ) (v w : View) → IsReached k s h →
+pub reached_miss : (k : Key) (s s' : Table) (h : List Entry) (id b word : ℕ) (v w : View) → IsLedTo k s h →
     IsOneSet k s s' id v w → w.trail ≡ v.trail ++ DidMiss b word ∷ [] → view_at (board_of k s) v.first
     ≡ Some (plain v) → b < length (board_of k s).words → bucket_at v.held b ≡ None → word ≢ 0 →
     word ≡ word_of (board_of k s) b
-    → board_of k s' ≡ board_of k s → IsReached k s' h
+    → board_of k s' ≡ board_of k s → IsLedTo k s' h
 reached_miss k s s' h id b word v w r one trail there inside lacks away is event =
     reached_by k s s' h id v w (Claim v.first b) (Taken word) r one tt tt refl trail (
       (inside, said (view_at (board_of k s) v.first) (plain v) (λ u. bucket_at u.held b ≡ None) there lacks),
@@ -219,11 +219,11 @@ reached_miss k s s' h id b word v w r one trail there inside lacks away is event
 
 -- a commit, which adds its entry to the history
 pub reached_commit : (k : Key) (s s' : Table) (h : List Entry) (id tag : ℕ) (edit : Edit) (v w : View) →
-    IsReached k s h → IsOneSet k s s' id v w → w.trail ≡ v.trail ++ DidCommit (board_of k s).ticket ∷ [] →
+    IsLedTo k s h → IsOneSet k s s' id v w → w.trail ≡ v.trail ++ DidCommit (board_of k s).ticket ∷ [] →
     view_at (board_of k s) v.first ≡ Some (plain v) → HasKeys edit → 0 < v.left →
     HoldTouched k.grid (replay h) edit v.held
     → board_of k s' ≡ committed h (board_of k s) v.first tag edit →
-    IsReached k s' (h ++ entry_after h (board_of k s).ticket v.first tag edit ∷ [])
+    IsLedTo k s' (h ++ entry_after h (board_of k s).ticket v.first tag edit ∷ [])
 reached_commit k s s' h id tag edit v w r one trail there key left touched event =
     reached_by k s s' h id v w (Commit v.first tag edit) Done r one key tt refl trail (
       said (view_at (board_of k s) v.first) (plain v) (λ u. (0 < u.left) × HoldTouched k.grid (replay h) edit u.held)
@@ -232,28 +232,28 @@ reached_commit k s s' h id tag edit v w r one trail there key left touched event
     )
 
 -- a release
-pub reached_release : (k : Key) (s s' : Table) (h : List Entry) (id b : ℕ) (v w : View) → IsReached k s h →
+pub reached_release : (k : Key) (s s' : Table) (h : List Entry) (id b : ℕ) (v w : View) → IsLedTo k s h →
     IsOneSet k s s' id v w → w.trail ≡ v.trail ++ DidRelease b ∷ [] → view_at (board_of k s) v.first ≡ Some (plain v) →
     IsSome (bucket_at v.held b)
-    → board_of k s' ≡ released (board_of k s) v.first b → IsReached k s' h
+    → board_of k s' ≡ released (board_of k s) v.first b → IsLedTo k s' h
 reached_release k s s' h id b v w r one trail there holds event =
     reached_by k s s' h id v w (Release v.first b) Done r one tt tt refl trail
     (said (view_at (board_of k s) v.first) (plain v) (λ u. IsSome (bucket_at u.held b)) there holds, event)
 
 -- a look
-pub reached_look : (k : Key) (s s' : Table) (h : List Entry) (id : ℕ) (v w : View) → IsReached k s h →
+pub reached_look : (k : Key) (s s' : Table) (h : List Entry) (id : ℕ) (v w : View) → IsLedTo k s h →
     IsOneSet k s s' id v w → w.trail ≡ v.trail ++ DidLook (board_of k s).ticket ∷ [] → view_at (board_of k s) v.first
     ≡ Some (plain v)
-    → board_of k s' ≡ looked (board_of k s) v.first → IsReached k s' h
+    → board_of k s' ≡ looked (board_of k s) v.first → IsLedTo k s' h
 reached_look k s s' h id v w r one trail there event =
     reached_by k s s' h id v w (Look v.first) Done r one tt tt refl trail
     (is_there (view_at (board_of k s) v.first) (plain v) there, event)
 
 -- a split, which leaves nothing in the trail
-pub reached_split : (k : Key) (s s' : Table) (h : List Entry) (id parts left : ℕ) (v w : View) → IsReached k s h →
+pub reached_split : (k : Key) (s s' : Table) (h : List Entry) (id parts left : ℕ) (v w : View) → IsLedTo k s h →
     IsOneSet k s s' id v w → w.trail ≡ v.trail → view_at (board_of k s) v.first ≡ Some (plain v) →
     HoldsNothing (plain v) → 0 < parts → parts < v.parts → left ≤ v.left
-    → board_of k s' ≡ split (board_of k s) v.first parts left → IsReached k s' h
+    → board_of k s' ≡ split (board_of k s) v.first parts left → IsLedTo k s' h
 reached_split k s s' h id parts left v w r one trail there nothing some_parts fewer less event =
     reached_by k s s' h id v w (Split v.first parts left) Done r one tt tt refl (trail ∙ sym (append-nil v.trail)) (
       said (view_at (board_of k s) v.first) (plain v) (λ u. HoldsNothing u × (0 < parts) × (parts < u.parts)
@@ -262,12 +262,12 @@ reached_split k s s' h id parts left v w r one trail there nothing some_parts fe
     )
 
 -- The second pass's seat is spent.
-pub reached_join : (k : Key) (s s' : Table) (h : List Entry) (id other : ℕ) (v both w : View) → IsReached k s h →
+pub reached_join : (k : Key) (s s' : Table) (h : List Entry) (id other : ℕ) (v both w : View) → IsLedTo k s h →
     AreDistinct (firsts (passes_in (buckets_of k) s.views)) → get_elem? s.views id ≡ some v → 0 < v.parts →
     both.first ≡ v.first → both.trail ≡ v.trail → s'.views ≡ slice_set (slice_set s.views id both) other no_pass
     → view_at (board_of k s) v.first ≡ Some (plain v) → view_at (board_of k s) w.first ≡ Some (plain w) →
     HoldsNothing (plain v) → HoldsNothing (plain w) → w.first ≡ v.first + v.parts
-    → board_of k s' ≡ joined (board_of k s) v.first w.first → IsReached k s' h
+    → board_of k s' ≡ joined (board_of k s) v.first w.first → IsLedTo k s' h
 reached_join k s s' h id other v both w r d at live first trail views there there' nothing nothing' next event =
     let t : Turn = record { event = Join v.first w.first; answer = Done; ticket = (board_of k s).ticket } in
     record {
@@ -305,7 +305,7 @@ pub every_state : EveryStateIsReached
 every_state k s rule = (rule.0, rule.1.good, rule.1.reached)
 
 -- each event comes next for the one history with which the board before it is good
-runs_of : (h h' : List Entry) (s s' : BoardState) (turns : List Turn) → IsGood s h → Leads h s turns h' s' →
+runs_of : (h h' : List Entry) (s s' : BoardState) (turns : List Turn) → IsGood s h → LeadOn h s turns h' s' →
     Runs s (map (λ (t : Turn). t.event) turns) s'
 runs_of h h' s s' [] good l = l.1
 runs_of h h' s s' (t ∷ turns) good l =

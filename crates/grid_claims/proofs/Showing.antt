@@ -20,7 +20,7 @@ use Rattle.grid_claims.specs.Trails.{in_hand}
 use Rattle.grid_claims.specs.Passes.{Carries}
 use Rattle.grid_claims.specs.Plays.{Seated, HandStands, Shown}
 use Rattle.grid_claims.specs.Claiming.{empty_places, AreHands}
-use Rattle.grid_claims.specs.Looking.{HasMore}
+use Rattle.grid_claims.specs.Looking.{HasClaimedMore}
 use Rattle.grid_claims.specs.Showing.{IsClaimingAll, HasClaimedAll}
 use Rattle.grid_claims.proofs.Counted.{is_counted}
 use Rattle.grid_claims.proofs.Looks.{shows_keep}
@@ -42,7 +42,7 @@ stands_some id n w a s = (s.0, stands_in id n w a s.0 s.1)
 
 -- with the next bucket claimed, one more has been
 pub claiming_goes_on : (id : TableId) (n b : ℕ) (old now next : Hands) → IsClaimingAll id n old now b →
-    HasMore id n now next → next.order.items ≡ now.order.items ++ b ∷ [] → StandsForSome next.hold →
+    HasClaimedMore id n now next → next.order.items ≡ now.order.items ++ b ∷ [] → StandsForSome next.hold →
     IsClaimingAll id n old next (b + 1)
 claiming_goes_on id n b old now next i m order stands = record {
   hands = m.hands;

@@ -41,7 +41,7 @@ use Rattle.grid_claims.specs.declared.refused.Refused.TheVariants.{Spent, Busy, 
 use Rattle.grid_claims.specs.declared.view.Act.{Act}
 use Rattle.grid_claims.specs.declared.view.Act.TheVariants.{Claim, Miss, Commit}
 use Rattle.grid_claims.specs.declared.view.View.{View}
-use Rattle.grid_claims.specs.Trails.{AreTouched}
+use Rattle.grid_claims.specs.Trails.{AreAllTouched}
 use Rattle.grid_claims.specs.Passes.{Standing, standing}
 use Rattle.grid_claims.specs.Plays.{entry_of}
 use Rattle.grid_claims.specs.Tries.{AreClaimsAround, IsEdited, IsAsBefore, IsRefused, IsStill}
@@ -156,7 +156,7 @@ tried_edited id n tag number edit reply w mid u some wide a b d none c f =
         right = f.right;
         touched = subst (λ (t : ℕ × List ℕ). (b : ℕ) → IsTouched t.0 (replay f.history) edit b → IsIn b t.1)
             (λ i. ((c.view i).grid, same i)) f.touched;
-        exact = λ x. subst (λ (t : ℕ × List ℕ). AreTouched t.0 (replay f.history) edit t.1)
+        exact = λ x. subst (λ (t : ℕ × List ℕ). AreAllTouched t.0 (replay f.history) edit t.1)
             (λ i. ((c.view i).grid, same i)) (f.exact x);
       };
       new_is = λ i. standing (table i) (view i);

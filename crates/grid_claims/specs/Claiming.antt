@@ -40,7 +40,7 @@ use Rattle.grid_claims.specs.declared.view.Act.TheVariants.{Claim, Miss, Commit,
 use Rattle.grid_claims.specs.declared.view.View.{View}
 use Rattle.grid_claims.specs.Passes.{Carries, IsAtRest}
 use Rattle.grid_claims.specs.Plays.{Seated, IsOthers, IsReady, entry_of}
-use Rattle.grid_claims.specs.Trails.{IsExact, AreTouched}
+use Rattle.grid_claims.specs.Trails.{IsExact, AreAllTouched}
 use Rattle.claim_rule.specs.Good.{StartsWith}
 use Rattle.edit_history.specs.declared.history.Reply.{Reply}
 use Rattle.edit_history.specs.Histories.{replay, IsLegal}
@@ -134,7 +134,7 @@ pub record IsFinished (tag : ℕ) (edit : Edit) (reply : Reply) (number : ℕ) (
   pub count : length history ≡ number
   pub right : reply ≡ reply_to (replay history) edit
   pub touched : (b : ℕ) → IsTouched old.place.me.0.grid (replay history) edit b → IsIn b old.order.items
-  pub exact : IsExact edit reply → AreTouched old.place.me.0.grid (replay history) edit old.order.items
+  pub exact : IsExact edit reply → AreAllTouched old.place.me.0.grid (replay history) edit old.order.items
   pub view : new.place.me.0 ≡ record old.place.me.0 {
     held = new.hold.places;
     left = old.place.me.0.left - 1;

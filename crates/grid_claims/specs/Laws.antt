@@ -8,17 +8,17 @@ use Rattle.claim_rule.specs.Laws.{Runs}
 use Rattle.grid_claims.specs.declared.view.Key.{Key}
 use Rattle.grid_claims.specs.declared.view.View.{View}
 use Rattle.grid_claims.specs.Faces.{board_of}
-use Rattle.grid_claims.specs.Reached.{Turn, opened_as, IsReached}
+use Rattle.grid_claims.specs.Reached.{Turn, opened_as, IsLedTo}
 use Rattle.grid_claims.specs.Rule.{Rule}
 
 -- Every state that meets the rule is a good board, and events led to it from the board with which the table began.
 abbrev pub EveryStateIsReached : Type 0
 EveryStateIsReached =
     (k : Key) (s : State (Option BucketContent) View) → Rule k s →
-    (h : List Entry) × IsGood (board_of k s) h × IsReached k s h
+    (h : List Entry) × IsGood (board_of k s) h × IsLedTo k s h
 
 -- Those events are a run of the board, so the laws of runs hold of it.
 abbrev pub ReachedByARun : Type 0
 ReachedByARun =
-    (k : Key) (s : State (Option BucketContent) View) (h : List Entry) → (r : IsReached k s h) →
+    (k : Key) (s : State (Option BucketContent) View) (h : List Entry) → (r : IsLedTo k s h) →
     Runs (opened_as k) (map (λ (t : Turn). t.event) r.turns) (board_of k s)

@@ -13,7 +13,7 @@ use Rattle.grid_claims.specs.declared.hands.Hands.{Hands}
 use Rattle.grid_claims.specs.Claiming.{AreHands, HasClaimed, ShowsOne}
 
 -- Buckets were claimed, and what is in hand stands for some history.
-pub record HasMore (id : TableId) (buckets : ℕ) (old now : Hands) : Type 0 where
+pub record HasClaimedMore (id : TableId) (buckets : ℕ) (old now : Hands) : Type 0 where
   pub hands : AreHands id buckets now
   pub claimed : HasClaimed old now []
   pub among : AreAmong old.hold now.hold
@@ -26,7 +26,7 @@ HoldsExact hold edit =
 
 -- The claims of an edit: its planner stands right in each set that the hold shows.
 pub record IsPlanning (id : TableId) (buckets : ℕ) (edit : Edit) (old now : Hands) (planner : Planner) : Type 0 where
-  pub more : HasMore id buckets old now
+  pub more : HasClaimedMore id buckets old now
   pub same : edit_of planner ≡ edit
   pub stands : (s : List ℕ) → Shows now.hold s → IsPlannerIn now.hold s planner
   pub exact : HoldsExact now.hold edit

@@ -38,11 +38,11 @@ CameAbout (Taken word) = Unit {0}
 CameAbout Short = ⊥
 
 -- These turns, each an event that comes next, lead from a board with one history to a board with another.
-abbrev pub Leads : List Entry → BoardState → List Turn → List Entry → BoardState → Type 0
-Leads h s [] h' s' = (h' ≡ h) × (s' ≡ s)
-Leads h s (t ∷ turns) h' s' =
+abbrev pub LeadOn : List Entry → BoardState → List Turn → List Entry → BoardState → Type 0
+LeadOn h s [] h' s' = (h' ≡ h) × (s' ≡ s)
+LeadOn h s (t ∷ turns) h' s' =
     (m : BoardState) × HasKey t.event × CameAbout t.answer × (t.ticket ≡ s.ticket) × Next h s t.event t.answer m
-    × Leads (history_after h s t.event t.answer) m turns h' s'
+    × LeadOn (history_after h s t.event t.answer) m turns h' s'
 
 -- whose event it is
 abbrev pub player : Event → ℕ
@@ -79,9 +79,9 @@ opened_as k = opening_board k.grid k.parts (k.most - length (opening_of k)) (ope
 
 -- The board with which the table began was good, and events lead from it to the one that it is now, and make its
 -- history; and each live pass's trail is the end of what those of its number were.
-pub record IsReached (k : Key) (s : State (Option BucketContent) View) (h : List Entry) : Type 0 where
+pub record IsLedTo (k : Key) (s : State (Option BucketContent) View) (h : List Entry) : Type 0 where
   pub began : IsGood (opened_as k) (opening_of k)
   pub turns : List Turn
-  pub lead : Leads (opening_of k) (opened_as k) turns h (board_of k s)
+  pub lead : LeadOn (opening_of k) (opened_as k) turns h (board_of k s)
   pub trails : (j : ℕ) (v : View) → get_elem? s.views j ≡ some v → 0 < v.parts →
       EndsWith (steps_by v.first turns) v.trail

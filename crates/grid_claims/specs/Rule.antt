@@ -32,7 +32,7 @@ use Rattle.grid_claims.specs.declared.view.View.{View}
 use Rattle.grid_claims.specs.declared.view.Child.{Child}
 use Rattle.grid_claims.specs.Faces.{buckets_of, opening_of, passes_in, board_of}
 use Rattle.grid_claims.specs.Trails.{in_hand, AreSteps}
-use Rattle.grid_claims.specs.Reached.{IsReached}
+use Rattle.grid_claims.specs.Reached.{IsLedTo}
 
 -- what a pass that was split off and has no seat has made
 pub record IsChildInOrder (k : Key) (h : List Entry) (c : Child) : Type 0 where
@@ -62,7 +62,7 @@ pub record IsRule (k : Key) (s : State (Option BucketContent) View) (h : List En
   pub apart : AreDistinct (map (λ (v : board.View). v.first) (passes_in (buckets_of k) s.views))
   pub below : All (λ (v : board.View). v.first < k.parts) (passes_in (buckets_of k) s.views)
   pub seats : (j : ℕ) (v : View) → get_elem? s.views j ≡ some v → IsSeatInOrder k h v
-  pub reached : IsReached k s h
+  pub reached : IsLedTo k s h
 
 abbrev pub Rule : Key → State (Option BucketContent) View → Type 0
 Rule k s = (h : List Entry) × IsRule k s h

@@ -30,14 +30,15 @@ unfoldable pub in_hand : List Act → List ℕ
 in_hand trail = in_hand_from [] trail
 
 -- these are exactly the buckets that the edit touches
-abbrev pub AreTouched : ℕ → List ℕ → Edit → List ℕ → Type 0
-AreTouched g s edit bs = (b : ℕ) → IsIn b bs ↔ IsTouched g s edit b
+abbrev pub AreAllTouched : ℕ → List ℕ → Edit → List ℕ → Type 0
+AreAllTouched g s edit bs = (b : ℕ) → IsIn b bs ↔ IsTouched g s edit b
 
 -- A commit found number n with these buckets in hand: there is such an entry, and where it is exact the buckets are
 -- those that it touched.
 pub record IsCommitOf (g : ℕ) (h : List Entry) (bs : List ℕ) (n : ℕ) : Type 0 where
   pub below : n < length h
-  pub exact : (e : Entry) → get_elem? h n ≡ some e → IsExact e.edit e.reply → AreTouched g (replay (take n h)) e.edit bs
+  pub exact : (e : Entry) → get_elem? h n ≡ some e → IsExact e.edit e.reply →
+      AreAllTouched g (replay (take n h)) e.edit bs
 
 -- a step, with these buckets in hand, is one of the history
 abbrev pub IsStepOf : ℕ → List Entry → List ℕ → Act → Type 0

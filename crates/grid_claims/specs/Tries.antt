@@ -37,7 +37,7 @@ use Rattle.cell_store.specs.Meshes.{by_number}
 use Rattle.cell_store.specs.Touches.{IsTouched}
 use Rattle.point_order.specs.Sets.{IsIn}
 use Rattle.grid_claims.specs.Lists.{entries_by, longer}
-use Rattle.grid_claims.specs.Trails.{IsExact, AreTouched}
+use Rattle.grid_claims.specs.Trails.{IsExact, AreAllTouched}
 use Rattle.grid_claims.specs.Passes.{Opened, Standing}
 use Rattle.grid_claims.specs.Plays.{entry_of}
 
@@ -80,7 +80,7 @@ pub record IsCommittedAfter (g : ℕ) (edit : Edit) (number : ℕ) (reply : Repl
   pub count : length h ≡ number
   pub right : reply ≡ reply_to (replay h) edit
   pub touched : (b : ℕ) → IsTouched g (replay h) edit b → IsIn b claims
-  pub exact : IsExact edit reply → AreTouched g (replay h) edit claims
+  pub exact : IsExact edit reply → AreAllTouched g (replay h) edit claims
 
 -- The edit was made: the pass has one entry more, of this number and reply, it has so much less left, it has seen the
 -- entry, and it took these

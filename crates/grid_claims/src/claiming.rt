@@ -5,7 +5,7 @@ ghost use Rattle.cell_store.specs.Buckets.{bucket_at};
 ghost use Rattle.cell_store.specs.Meshes.{StandsForSome};
 ghost use Rattle.grid_claims.specs.Faces.{buckets_of};
 ghost use Rattle.grid_claims.specs.Claiming.{AreHands, HasClaimed, HasStopped, IsReadyPlan, HasRoomFor};
-ghost use Rattle.grid_claims.specs.Looking.{HasMore};
+ghost use Rattle.grid_claims.specs.Looking.{HasClaimedMore};
 
 use crate::hands::{Hands, take_in};
 use crate::refused::Refused;
@@ -22,7 +22,7 @@ pub(crate) fn ask(board: &Board, hands: &mut Hands, b: u32) -> Result<(), Refuse
     ensures hands { AreHands board.now.shared.table_id (buckets_of board.now.shared.key) hands.new }
     ensures order { OnOk result (hands.new.order.items ≡ hands.old.order.items ++ b ∷ []) }
     ensures more { OnOk result
-        (HasMore board.now.shared.table_id (buckets_of board.now.shared.key) hands.old hands.new) }
+        (HasClaimedMore board.now.shared.table_id (buckets_of board.now.shared.key) hands.old hands.new) }
     ensures stands { OnOk result (StandsForSome hands.new.hold) }
     ensures stopped { IfErr result (λ why. HasStopped hands.old hands.new why) }
 {
@@ -45,7 +45,7 @@ fn plan_for(board: &Board, hands: &mut Hands, alloc: Global, edit: Edit) -> Resu
     requires none { hands.old.order.items ≡ [] }
     ensures hands { AreHands board.now.shared.table_id (buckets_of board.now.shared.key) hands.new }
     ensures more { OnOk result
-        (HasMore board.now.shared.table_id (buckets_of board.now.shared.key) hands.old hands.new) }
+        (HasClaimedMore board.now.shared.table_id (buckets_of board.now.shared.key) hands.old hands.new) }
     ensures plan { IfOk result (λ plan. IsReadyPlan hands.new.place.me.0 hands.new.hold edit plan) }
     ensures stopped { IfErr result (λ why. HasStopped hands.old hands.new why) }
 {

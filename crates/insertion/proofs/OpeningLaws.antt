@@ -74,7 +74,7 @@ use Rattle.insertion.specs.Opening.{
   inserted,
   inserted_from,
   opening_history,
-  AreIndependent,
+  AreFourIndependent,
   nothing,
   IsBare,
   HasCellsOfFour,
@@ -168,7 +168,7 @@ four_new a b c d f =
     )
 
 -- so the history with which a mesh begins is legal
-pub opening_legal : (four : List (ℕ × ℕ)) → AreIndependent four → IsLegal (opening_history four)
+pub opening_legal : (four : List (ℕ × ℕ)) → AreFourIndependent four → IsLegal (opening_history four)
 opening_legal (a ∷ b ∷ c ∷ d ∷ []) f = legal_from 0 [] (a ∷ b ∷ c ∷ d ∷ []) (four_new a b c d f)
 opening_legal [] f = absurd f
 opening_legal (a ∷ []) f = absurd f
@@ -346,7 +346,7 @@ NotedFour _ bare n0 n1 n2 n3 = ⊥
 
 -- once the four are noted and the five cells are in, the hold stands for the opening history
 pub opening_stands :
-    (g : ℕ) (four : List (ℕ × ℕ)) (bare n0 n1 n2 n3 mesh : InHand) → AreIndependent four →
+    (g : ℕ) (four : List (ℕ × ℕ)) (bare n0 n1 n2 n3 mesh : InHand) → AreFourIndependent four →
     ((p : ℕ × ℕ) → IsIn p four → IsKey p.1) → IsBare g bare →
     NotedFour four bare n0 n1 n2 n3 → HasCellsOfFour (points_of_lines four) n3 mesh → Stands mesh (opening_history four)
 opening_stands g (a ∷ b ∷ c ∷ d ∷ []) bare n0 n1 n2 n3 mesh f k e n s =
@@ -433,7 +433,7 @@ abbrev pub at : List (ℕ × ℕ) → ℕ → ℕ × ℕ → ℕ × ℕ
 at four i none = slice_index_or four i none
 
 -- so the four at the places of the list are four
-pub apart_by : (four : List (ℕ × ℕ)) (w x y z : ℕ × ℕ) → AreIndependent four →
+pub apart_by : (four : List (ℕ × ℕ)) (w x y z : ℕ × ℕ) → AreFourIndependent four →
     AreFour (at four 0 w).1 (at four 1 x).1 (at four 2 y).1 (at four 3 z).1
 apart_by [] w x y z f = absurd f
 apart_by (a ∷ []) w x y z f = absurd f
@@ -444,7 +444,7 @@ apart_by (a ∷ b ∷ c ∷ d ∷ e ∷ l) w x y z f = absurd f
 
 -- and so with four lines that are read at their places
 pub stands_by :
-    (g : ℕ) (four : List (ℕ × ℕ)) (s t u v w x y z : ℕ × ℕ) (bare n0 n1 n2 n3 mesh : InHand) → AreIndependent four →
+    (g : ℕ) (four : List (ℕ × ℕ)) (s t u v w x y z : ℕ × ℕ) (bare n0 n1 n2 n3 mesh : InHand) → AreFourIndependent four →
     IsKey (at four 0 w).1 → IsKey (at four 1 x).1 → IsKey (at four 2 y).1 → IsKey (at four 3 z).1 → IsBare g bare →
     IsNoted (inserted 0 ((at four 0 s).0, (at four 0 w).1)) bare n0 →
     IsNoted (inserted 1 ((at four 1 t).0, (at four 1 x).1)) n0 n1 →

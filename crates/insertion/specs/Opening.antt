@@ -40,9 +40,9 @@ abbrev pub opening_history : List (ℕ × ℕ) → List Entry
 opening_history four = inserted_from 0 four
 
 -- the points are four, and independent
-abbrev pub AreIndependent : List (ℕ × ℕ) → Type 0
-AreIndependent (a ∷ b ∷ c ∷ d ∷ []) = is_flat a.1 b.1 c.1 d.1 ≡ false
-AreIndependent _ = ⊥
+abbrev pub AreFourIndependent : List (ℕ × ℕ) → Type 0
+AreFourIndependent (a ∷ b ∷ c ∷ d ∷ []) = is_flat a.1 b.1 c.1 d.1 ≡ false
+AreFourIndependent _ = ⊥
 
 -- a bucket with nothing in it
 abbrev pub nothing : BucketContent

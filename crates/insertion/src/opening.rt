@@ -9,7 +9,7 @@ ghost use Rattle.insertion.specs.Opening.{
   five_cells,
   inserted,
   opening_history,
-  AreIndependent,
+  AreFourIndependent,
   IsBare,
   HasCellsOfFour,
 };
@@ -117,7 +117,7 @@ fn put_cells(
 /// # Errors
 /// Want of memory.
 pub fn open_mesh(alloc: Global, grid: Grid, four: [(u32, Point); 4]) -> Result<Mesh, AllocError>
-    requires { AreIndependent four }
+    requires { AreFourIndependent four }
     ensures { IfOk result (λ mesh. mesh ≡ record { grid = grid; history = opening_history four }) }
 {
     let [(first, a), (second, b), (third, c), (fourth, d)] = four;

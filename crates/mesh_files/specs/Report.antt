@@ -13,7 +13,7 @@ abbrev pub shapes_seen : List (ℕ × ShapeSlots) → List (ℕ × ShapeParts)
 shapes_seen shapes = map (λ s. (s.0, shape_seen s.1)) shapes
 
 -- the points by which each of the shapes counts ascend
-pub record AreCounted (shapes : List (ℕ × ShapeParts)) : Type 0 where
+pub record AreCountedInOrder (shapes : List (ℕ × ShapeParts)) : Type 0 where
   pub ascending : (s : ℕ × ShapeParts) → IsIn s shapes → IsAscending (counted s.1)
 
 abbrev pub parts_of : Report → ReportParts

@@ -13,12 +13,12 @@ abbrev pub count_line : List ℕ → ℕ → List ℕ
 count_line word n = word ++ codes " " ++ decimal n ++ codes "\n"
 
 -- how many of the replies have this word
-abbrev pub count_of : List Reply → List ℕ → ℕ
-count_of replies word = count_by (λ reply. bytes_eq (reply_word reply) word) replies
+abbrev pub replies_with : List Reply → List ℕ → ℕ
+replies_with replies word = count_by (λ reply. bytes_eq (reply_word reply) word) replies
 
 -- the word of a reply, and how many of the replies have it
 abbrev pub reply_count_line : List Reply → Reply → List ℕ
-reply_count_line replies reply = count_line (reply_word reply) (count_of replies (reply_word reply))
+reply_count_line replies reply = count_line (reply_word reply) (replies_with replies (reply_word reply))
 
 -- the replies that a drawn file can have: none of its edits moves a point
 abbrev pub all_replies : List Reply

@@ -7,7 +7,7 @@ ghost use Rattle.std.specs.Io.KnownBytes.{Appends};
 ghost use Rattle.byte_ends.specs.Ends.{AppendsFront, HasCause, Rose};
 ghost use Rattle.text_sheets.specs.Lines.{block};
 ghost use Rattle.text_sheets.specs.Sheets.{Puts};
-ghost use Rattle.mesh_files.specs.Report.{AreCounted, parts_of, shapes_seen};
+ghost use Rattle.mesh_files.specs.Report.{AreCountedInOrder, parts_of, shapes_seen};
 ghost use Rattle.text_sheets.specs.Indices.{indices_line};
 ghost use Rattle.mesh_files.specs.Text.{
   reply_line,
@@ -194,7 +194,7 @@ fn put_mesh<W: Way, O: Sink>(way: &W, sheet: &mut Sheet<O>, report: &Report)
 fn put_all<W: Way, O: Sink>(way: &W, sheet: &mut Sheet<O>, report: &Report)
     requires open { W.is_open way.now }
     requires points { IsAscending report.now.points.items }
-    requires shapes { AreCounted (shapes_seen report.now.shapes.items) }
+    requires shapes { AreCountedInOrder (shapes_seen report.now.shapes.items) }
     ensures { Puts O.holds O.faults sheet.old sheet.new (report_text (parts_of report.now)) }
 {
     sheet.put(b"mesh3-out 1\n");
@@ -214,7 +214,7 @@ fn put_all<W: Way, O: Sink>(way: &W, sheet: &mut Sheet<O>, report: &Report)
 /// `Failed` where the sink failed. Then it has taken a front of the text.
 pub fn put_report<O: Sink>(out: &mut O, report: &Report) -> Result<(), Failed>
     requires points { IsAscending report.now.points.items }
-    requires shapes { AreCounted (shapes_seen report.now.shapes.items) }
+    requires shapes { AreCountedInOrder (shapes_seen report.now.shapes.items) }
     ensures whole { OnOk result (Appends (O.holds out.old) (O.holds out.new) (report_text (parts_of report.now))) }
     ensures front { AppendsFront (O.holds out.old) (O.holds out.new) (report_text (parts_of report.now)) }
     ensures cause { HasCause (O.faults out.old) (O.faults out.new) result }
@@ -239,7 +239,7 @@ pub fn put_report_by_threads<R: Threads + Sync, O: Sink>(
     report: &Report,
 ) -> Result<(), Failed>
     requires points { IsAscending report.now.points.items }
-    requires shapes { AreCounted (shapes_seen report.now.shapes.items) }
+    requires shapes { AreCountedInOrder (shapes_seen report.now.shapes.items) }
     ensures whole { OnOk result (Appends (O.holds out.old) (O.holds out.new) (report_text (parts_of report.now))) }
     ensures front { AppendsFront (O.holds out.old) (O.holds out.new) (report_text (parts_of report.now)) }
     ensures cause { HasCause (O.faults out.old) (O.faults out.new) result }
@@ -258,7 +258,7 @@ pub fn put_report_by_threads<R: Threads + Sync, O: Sink>(
 /// `AllocError` where there is no memory for the text.
 pub fn mesh_text(alloc: Global, report: &Report) -> Result<Vec<u8>, AllocError>
     requires points { IsAscending report.now.points.items }
-    requires shapes { AreCounted (shapes_seen report.now.shapes.items) }
+    requires shapes { AreCountedInOrder (shapes_seen report.now.shapes.items) }
     ensures { IfOk result (λ text. text.items ≡ report_text (parts_of report.now)) }
 {
     let mut text = WholeText::new(alloc);

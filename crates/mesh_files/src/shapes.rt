@@ -24,7 +24,7 @@ ghost use Rattle.alpha_complex.specs.Shapes.{shape_seen};
 ghost use Rattle.alpha_complex.specs.Slots.{held};
 ghost use Rattle.text_sheets.specs.Lines.{block};
 ghost use Rattle.text_sheets.specs.Sheets.{Puts};
-ghost use Rattle.mesh_files.specs.Report.{AreCounted, shapes_seen};
+ghost use Rattle.mesh_files.specs.Report.{AreCountedInOrder, shapes_seen};
 ghost use Rattle.text_sheets.specs.Indices.{index_of, indices_line};
 ghost use Rattle.text_sheets.specs.Lines.{held_line};
 ghost use Rattle.mesh_files.specs.Text.{
@@ -117,7 +117,7 @@ fn put_shape<W: Way, O: Sink>(way: &W, sheet: &mut Sheet<O>, radius: u64, shape:
 // Puts one block for each radius.
 pub(crate) fn put_shapes<W: Way, O: Sink>(way: &W, sheet: &mut Sheet<O>, shapes: &[(u64, Shape)])
     requires open { W.is_open way.now }
-    requires counted { AreCounted (shapes_seen shapes.now) }
+    requires counted { AreCountedInOrder (shapes_seen shapes.now) }
     ensures { Puts O.holds O.faults sheet.old sheet.new (shape_blocks (shapes_seen shapes.now)) }
 {
     for (radius, shape) in shapes {

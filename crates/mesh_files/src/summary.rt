@@ -8,7 +8,7 @@ ghost use Rattle.alpha_complex.specs.Shapes.{shape_seen};
 ghost use Rattle.text_sheets.specs.Sheets.{Puts};
 ghost use Rattle.mesh_files.specs.Report.{parts_of, shapes_seen};
 ghost use Rattle.mesh_files.specs.Summary.{
-  count_of as count_of_word,
+  replies_with as count_of_word,
   reply_count_line,
   mesh_counts,
   shape_line,

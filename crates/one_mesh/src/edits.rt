@@ -3,7 +3,7 @@
 ghost use Rattle.std.specs.Prelude.{◌≡◌, ◌<◌, ◌^◌, length, IfOk, OnOk, OnErr};
 ghost use Rattle.edit_history.specs.Edits.{reply_to};
 ghost use Rattle.edit_history.specs.Histories.{replay};
-ghost use Rattle.insertion.specs.Opening.{opening_history, AreIndependent};
+ghost use Rattle.insertion.specs.Opening.{opening_history, AreFourIndependent};
 ghost use Rattle.one_mesh.specs.Applied.{edited};
 
 use cell_store::{Grid, Mesh};
@@ -19,7 +19,7 @@ use std::alloc::{AllocError, Global};
 /// # Errors
 /// Want of memory.
 pub fn begin(alloc: Global, grid: Grid, four: [(u32, Point); 4]) -> Result<Mesh, AllocError>
-    requires { AreIndependent four }
+    requires { AreFourIndependent four }
     ensures { IfOk result (λ mesh. mesh ≡ record { grid = grid; history = opening_history four }) }
 {
     open_mesh(alloc, grid, four)

@@ -3,7 +3,7 @@
 ghost use Rattle.std.specs.Prelude.{◌≡◌, ◌↔◌, ◌<◌, ◌≤◌, ◌^◌, false, Some, length, slice_index, option_map, IfOk, IsErr};
 ghost use Rattle.point_order.specs.Solid.{is_solid};
 ghost use Rattle.edit_history.specs.Opening.{opening_four};
-ghost use Rattle.insertion.specs.Opening.{AreIndependent};
+ghost use Rattle.insertion.specs.Opening.{AreFourIndependent};
 ghost use Rattle.one_mesh.specs.Opened.{tagged_at};
 
 use edit_history::{NotSolid, find_four};
@@ -29,7 +29,7 @@ fn tagged_point(points: &[Point], i: usize) -> (u32, Point)
 pub fn opening_points(points: &[Point]) -> Result<[(u32, Point); 4], NotSolid>
     requires { length points.now ≤ 2 ^ 32 }
     ensures four { IfOk result (λ four. option_map (tagged_at points.now) (opening_four points.now) ≡ Some four) }
-    ensures independent { IfOk result AreIndependent }
+    ensures independent { IfOk result AreFourIndependent }
     ensures refused { IsErr result ↔ (is_solid points.now ≡ false) }
 {
     let four = find_four(points)?;

@@ -50,7 +50,17 @@ use Rattle.list_laws.proofs.Cited.{
 use Rattle.solid_parts.specs.declared.links.Link.{Link}
 use Rattle.solid_parts.specs.declared.climb.Climb.{Climb}
 use Rattle.solid_parts.specs.Groups.{AreMerged, AreTogether, IsMerged, LeadDown, LeadTo, label_at, merged, moved}
-use Rattle.solid_parts.specs.Links.{AreBelow, ClimbsTo, IsClimbed, IsPast, IsWithin, Rise, count_to, link_at, own_count}
+use Rattle.solid_parts.specs.Links.{
+  AreLinksBelow,
+  ClimbsTo,
+  IsClimbed,
+  IsExhausted,
+  IsBounded,
+  Rise,
+  count_to,
+  link_at,
+  own_count,
+}
 use Rattle.solid_parts.proofs.Leading.{each_itself, equal_or_not}
 use Rattle.solid_parts.proofs.Merging.{label_moved, merges}
 
@@ -158,7 +168,7 @@ count_after true i j labels new count e m f l = let k = own_left i j labels new 
 count_after false i j labels new count e m f l = let k = own_same i j labels new m (f refl) in omega (arith, e, l, k)
 
 module _ (links : List Link) (climb : Climb) (labels leads : List ℕ) (apart : Bool) (within : climb.next < length links)
-    (below : AreBelow (length labels) links) (m : IsMerged (link_at links climb.next).one
+    (below : AreLinksBelow (length labels) links) (m : IsMerged (link_at links climb.next).one
     (link_at links climb.next).other labels apart leads)
     (c : IsClimbed links climb labels) where
   -- the two cells of a link are numbers with labels
@@ -192,12 +202,12 @@ module _ (links : List Link) (climb : Climb) (labels leads : List ℕ) (apart : 
 -- where some links were taken
 pub record ClimbSoFar (old leads : List ℕ) (links : List Link) (climb now : Climb) : Type 0 where
   pub count : length leads ≡ length old
-  pub within : IsWithin links now
+  pub within : IsBounded links now
   pub down : LeadDown leads
   pub climbs : (labels : List ℕ) → LeadTo old labels → IsClimbed links climb labels → ClimbsTo links now leads
 
 -- before the first link nothing is taken
-pub none_climbed : (leads : List ℕ) (links : List Link) (climb : Climb) → IsWithin links climb → LeadDown leads
+pub none_climbed : (leads : List ℕ) (links : List Link) (climb : Climb) → IsBounded links climb → LeadDown leads
     → ClimbSoFar leads leads links climb climb
 none_climbed leads links climb w d = record {
   count = refl;
@@ -209,7 +219,7 @@ none_climbed leads links climb w d = record {
 -- the next link is taken, and counted where its two were apart
 pub one_taken : (old leads new : List ℕ) (links : List Link) (climb now more : Climb) (apart : Bool) →
     now.next < length links
-    → AreBelow (length old) links → more.next ≡ now.next + 1 → more.merges ≡ now.merges + added apart
+    → AreLinksBelow (length old) links → more.next ≡ now.next + 1 → more.merges ≡ now.merges + added apart
     → length new ≡ length leads → LeadDown new → ((labels : List ℕ) → LeadTo leads labels →
     IsMerged (link_at links now.next).one (link_at links now.next).other labels apart new)
     → ClimbSoFar old leads links climb now → ClimbSoFar old new links climb more
@@ -224,7 +234,7 @@ one_taken old leads new links climb now more apart h below f g c d m s = record 
         labels = z.new;
         leads_to = z.leads_to;
         climbed = climb_more links now r.labels new apart h
-            (subst (λ n. AreBelow n links) (sym (r.leads_to.count ∙ s.count)) below) z r.climbed more f g;
+            (subst (λ n. AreLinksBelow n links) (sym (r.leads_to.count ∙ s.count)) below) z r.climbed more f g;
       };
 }
   where
@@ -234,13 +244,14 @@ one_taken old leads new links climb now more apart h below f g c d m s = record 
 
 -- where the next link is left, all are
 pub all_past : (links : List Link) (climb : Climb) (alpha : ℕ) → Rise links → alpha < (link_at links climb.next).alpha
-    → IsPast links climb alpha
+    → IsExhausted links climb alpha
 all_past links climb alpha r l t h k =
     let up = r climb.next t (record { alpha = 0; one = 0; other = 0 }) h k in
     omega (arith, l, up)
 
 -- where no link is left, all are past
-pub none_left : (links : List Link) (climb : Climb) (alpha : ℕ) → length links ≤ climb.next → IsPast links climb alpha
+pub none_left : (links : List Link) (climb : Climb) (alpha : ℕ) → length links ≤ climb.next →
+    IsExhausted links climb alpha
 none_left links climb alpha l t h k = absurd (omega (arith, l, h, k))
 
 -- ---- numbers in order

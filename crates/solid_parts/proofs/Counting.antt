@@ -61,12 +61,12 @@ use Rattle.alpha_complex.specs.Leasts.{AreLeastOf, IsLeastOf}
 use Rattle.alpha_complex.proofs.Cited.{cells_are}
 use Rattle.solid_parts.specs.declared.links.Link.{Link}
 use Rattle.solid_parts.specs.declared.climb.Climb.{Climb}
-use Rattle.solid_parts.specs.Gathered.{IsNumberOf}
-use Rattle.solid_parts.specs.Groups.{AreTogether, IsMarked, LeadDown, LeadTo, label_at}
-use Rattle.solid_parts.specs.Labels.{AreAlike}
+use Rattle.solid_parts.specs.Gathered.{IsMarkedNumber}
+use Rattle.solid_parts.specs.Groups.{AreTogether, IsMarkedAt, LeadDown, LeadTo, label_at}
+use Rattle.solid_parts.specs.Labels.{HaveOneLabel}
 use Rattle.solid_parts.specs.LeastAlpha.{IsCompact}
-use Rattle.solid_parts.specs.Links.{AreLinked, ClimbsTo, IsClimbed, IsPast, IsWithin, count_to, link_of}
-use Rattle.solid_parts.specs.Parts.{AreParts, first_of}
+use Rattle.solid_parts.specs.Links.{AreLinked, ClimbsTo, IsClimbed, IsExhausted, IsBounded, count_to, link_between}
+use Rattle.solid_parts.specs.Parts.{AreSolidParts, first_of}
 use Rattle.solid_parts.proofs.Climbing.{first_climb}
 use Rattle.solid_parts.proofs.Few.{has_first}
 use Rattle.solid_parts.proofs.Gathered.{place_of}
@@ -107,7 +107,7 @@ le_from m n e = grind (arith, nat_tests)
 -- a marked cell is admitted from its number on
 marked_least : (cells : List Cell) (leasts : List ℕ) (alpha i : ℕ) → AreLeastOf is_small_cell cells leasts →
     alpha < 2 ^ 34
-    → IsMarked (map (is_small_cell alpha) cells) i → label_at leasts i ≤ alpha
+    → IsMarkedAt (map (is_small_cell alpha) cells) i → label_at leasts i ≤ alpha
 marked_least cells leasts alpha i z small m =
     let l = marked_below alpha cells i m in
     le_from (label_at leasts i) alpha (sym (least_is cells leasts z i l alpha small) ∙ sym (mark_is alpha cells i l) ∙
@@ -116,7 +116,7 @@ marked_least cells leasts alpha i z small m =
 -- and what is admitted by its number is marked
 least_marked : (cells : List Cell) (leasts : List ℕ) (alpha i : ℕ) → AreLeastOf is_small_cell cells leasts →
     alpha < 2 ^ 34
-    → i < length cells → nat_le (label_at leasts i) alpha ≡ true → IsMarked (map (is_small_cell alpha) cells) i
+    → i < length cells → nat_le (label_at leasts i) alpha ≡ true → IsMarkedAt (map (is_small_cell alpha) cells) i
 least_marked cells leasts alpha i z small l e = mark_is alpha cells i l ∙ least_is cells leasts z i l alpha small ∙ e
 
 -- ---- the links that were taken
@@ -128,12 +128,12 @@ greatest_below m n alpha h k = omega (arith, h, k)
 module _ (faces : FaceLists) (leasts : List ℕ) (alpha : ℕ) (links : List Link) (climb : Climb) (labels : List ℕ)
     (z : AreLeastOf is_small_cell faces.cells leasts) (small : alpha < 2 ^ 34)
     (linked : AreLinked faces leasts (length faces.triples) links) (c : IsClimbed links climb labels)
-    (past : IsPast links climb alpha) where
+    (past : IsExhausted links climb alpha) where
   -- two cells that are linked and both admitted have one label
-  linked_same : (u v : ℕ) → IsIn (link_of leasts u v) links → label_at leasts u ≤ alpha → label_at leasts v ≤ alpha
+  linked_same : (u v : ℕ) → IsIn (link_between leasts u v) links → label_at leasts u ≤ alpha → label_at leasts v ≤ alpha
       → AreTogether labels u v
   linked_same u v i h k =
-      let p = place_of links (link_of leasts u v) (record { alpha = 0; one = 0; other = 0 }) i in
+      let p = place_of links (link_between leasts u v) (record { alpha = 0; one = 0; other = 0 }) i in
       elim (cases_lt p.0 climb.next) [
         | inl l ↦ subst (λ (x : Link). AreTogether labels x.one x.other) p.2 (c.together p.0 l)
         | inr l ↦
@@ -147,7 +147,7 @@ module _ (faces : FaceLists) (leasts : List ℕ) (alpha : ℕ) (links : List Lin
 
   -- so the cells of each triple that are admitted have one label
   all_alike : (t : ℕ) → t < length faces.triples
-      → AreAlike faces (map (is_small_cell alpha) faces.cells) labels (get_or faces.triples t ([], []))
+      → HaveOneLabel faces (map (is_small_cell alpha) faces.cells) labels (get_or faces.triples t ([], []))
   all_alike t l =
       let k = linked t l in
       record {
@@ -214,11 +214,11 @@ by_places p (x ∷ xs) =
 record IsLabelOf (cells : List Cell) (marks : List Bool) (labels : List ℕ) (part : List (List ℕ)) (label : ℕ) : Type 0
   where
     pub number : ℕ
-    pub is_number : IsNumberOf cells marks (first_of part) number
+    pub is_number : IsMarkedNumber cells marks (first_of part) number
     pub is_label : label_at labels number ≡ label
 
 module _ (s : List ℕ) (faces : FaceLists) (labels : List ℕ) (alpha : ℕ) (g : Given s faces alpha labels)
-    (parts : List (List (List ℕ))) (a : AreParts (admitted s faces alpha labels g) parts) where
+    (parts : List (List (List ℕ))) (a : AreSolidParts (admitted s faces alpha labels g) parts) where
   -- the first cell of a part is an admitted one
   first_in : (part : List (List ℕ)) → IsIn part parts → IsIn (first_of part) (admitted s faces alpha labels g)
   first_in part i = (a.all (first_of part)).0 (in_flat (λ v. v) parts part (first_of part) i
@@ -234,7 +234,7 @@ module _ (s : List ℕ) (faces : FaceLists) (labels : List ℕ) (alpha : ℕ) (g
   -- an admitted cell that is its own label is the label of a part
   own_is_label : (ns : List ℕ) → ((part : List (List ℕ)) → IsIn part parts → (n : ℕ) × IsIn n ns
       × IsLabelOf faces.cells (map (is_small_cell alpha) faces.cells) labels part n)
-      → (i : ℕ) → IsMarked (map (is_small_cell alpha) faces.cells) i → label_at labels i ≡ i → IsIn i ns
+      → (i : ℕ) → IsMarkedAt (map (is_small_cell alpha) faces.cells) i → label_at labels i ≡ i → IsIn i ns
   own_is_label ns f i m e =
       let q = marked_cell s faces alpha labels g i m in
       let there = (a.all q.0).1 (admitted_from s faces alpha labels g q.0 i q.1) in
@@ -251,7 +251,7 @@ pub at_least : (s : List ℕ) (faces : FaceLists) (leasts : List ℕ) (links : L
     (alpha k : ℕ)
     → AreFacesOf s faces → AreLeastOf is_small_cell faces.cells leasts →
     AreLinked faces leasts (length faces.triples) links
-    → IsClimbed links climb labels → length labels ≡ length faces.cells → IsPast links climb alpha → alpha < 2 ^ 34
+    → IsClimbed links climb labels → length labels ≡ length faces.cells → IsExhausted links climb alpha → alpha < 2 ^ 34
     → IsCompact s k alpha → count_to leasts alpha ≤ k + climb.merges
 at_least s faces leasts links climb labels alpha k h z linked c n past small compact =
     let g : Given s faces alpha labels = record {
@@ -259,7 +259,8 @@ at_least s faces leasts links climb labels alpha k h z linked c n past small com
       joined =
           all_alike faces leasts alpha links climb labels z small linked c past;
     } in
-    let a = subst (λ (v : List (List ℕ)). AreParts v compact.parts) (sym (cells_are s faces alpha h)) compact.are_parts
+    let a = subst (λ (v : List (List ℕ)). AreSolidParts v compact.parts) (sym (cells_are s faces alpha h))
+    compact.are_parts
     in
     let ns = chosen (IsLabelOf faces.cells (map (is_small_cell alpha) faces.cells) labels) compact.parts
     (label_of_part s faces labels alpha g compact.parts a) in
@@ -309,7 +310,7 @@ at_least s faces leasts links climb labels alpha k h z linked c n past small com
 pub record IsClimbing (count : ℕ) (links : List Link) (climb : Climb) (leads : List ℕ) : Type 0 where
   pub count_is : length leads ≡ count
   pub down : LeadDown leads
-  pub within : IsWithin links climb
+  pub within : IsBounded links climb
   pub climbs : ClimbsTo links climb leads
 
 -- before the first link each cell leads to itself
@@ -325,7 +326,7 @@ starts_climbing n links leads e = subst (IsClimbing n links (record { next = 0; 
 -- what is made of it by the links up to a number
 pub climbs_on : (count : ℕ) (links taken : List Link) (climb now : Climb) (leads lent new : List ℕ) → taken ≡ links →
     lent ≡ leads
-    → IsWithin taken now → LeadDown new → ((labels : List ℕ) → LeadTo lent labels → IsClimbed taken climb labels →
+    → IsBounded taken now → LeadDown new → ((labels : List ℕ) → LeadTo lent labels → IsClimbed taken climb labels →
     ClimbsTo taken now new)
     → length new ≡ length lent → IsClimbing count links climb leads → IsClimbing count links now new
 climbs_on count links taken climb now leads lent new f e w d m l s =
@@ -342,13 +343,13 @@ pub apart_at_least : (s : List ℕ) (faces : FaceLists) (leasts : List ℕ) (lin
     (leads numbers lent : List ℕ)
     (alpha k count apart : ℕ) → AreFacesOf s faces → AreLeastOf is_small_cell faces.cells leasts
     → AreLinked faces leasts (length faces.triples) links → taken ≡ links → IsClimbing (length leasts) links climb leads
-    → IsPast taken climb alpha → alpha < 2 ^ 34 → IsCompact s k alpha → lent ≡ numbers →
+    → IsExhausted taken climb alpha → alpha < 2 ^ 34 → IsCompact s k alpha → lent ≡ numbers →
     count_to numbers alpha ≡ count_to leasts alpha
     → count ≡ count_to lent alpha → apart ≡ count - climb.merges → apart ≤ k
 apart_at_least s faces leasts links taken climb leads numbers lent alpha k count apart h z linked f c past small compact
     e same n m =
     let most = at_least s faces leasts links climb c.climbs.labels alpha k h z linked c.climbs.climbed
     (c.climbs.leads_to.count ∙ c.count_is ∙ least_count faces.cells leasts z)
-    (subst (λ (v : List Link). IsPast v climb alpha) f past) small compact in
+    (subst (λ (v : List Link). IsExhausted v climb alpha) f past) small compact in
     let counted = n ∙ ap (λ (v : List ℕ). count_to v alpha) e ∙ same in
     omega (arith, most, counted, m)

@@ -78,7 +78,7 @@ use Rattle.alpha_complex.specs.Shapes.{shape_of}
 use Rattle.alpha_complex.proofs.Cited.{cells_are}
 use Rattle.solid_parts.specs.LeastAlpha.{IsCompact, IsCovered, IsStart}
 use Rattle.solid_parts.specs.Levels.{AreLevels}
-use Rattle.solid_parts.specs.Parts.{AreParts, InOrder, first_of}
+use Rattle.solid_parts.specs.Parts.{AreSolidParts, InOrder, first_of}
 use Rattle.solid_parts.proofs.Gathered.{place_of}
 use Rattle.solid_parts.proofs.Solid.{small_full}
 
@@ -106,7 +106,7 @@ has_first [] h = absurd (omega (arith, h))
 has_first (q ∷ part) h = inl refl
 
 -- the first cell of a part is that of one in any other such list
-first_again : (cells : List (List ℕ)) (ps qs : List (List (List ℕ))) → AreParts cells ps → AreParts cells qs →
+first_again : (cells : List (List ℕ)) (ps qs : List (List (List ℕ))) → AreSolidParts cells ps → AreSolidParts cells qs →
     (x : List ℕ) → IsIn x (map first_of ps) → IsIn x (map first_of qs)
 first_again cells ps qs a b x i =
     let p = mapped_from first_of x ps i in
@@ -136,7 +136,8 @@ unmapped : (xs ys : List (List ℕ)) → map Full xs ≡ map Full ys → length 
 unmapped xs ys e = sym (length-map xs Full) ∙ ap length e ∙ length-map ys Full
 
 -- so any two such lists are equally long
-pub same_count : (cells : List (List ℕ)) (ps qs : List (List (List ℕ))) → AreParts cells ps → AreParts cells qs →
+pub same_count : (cells : List (List ℕ)) (ps qs : List (List (List ℕ))) → AreSolidParts cells ps →
+    AreSolidParts cells qs →
     length ps ≡ length qs
 same_count cells ps qs a b =
     let order = λ (xs : List (List ℕ)) (s : InOrder xs). sorted_map (slice_cmp nat_cmp) cell_cmp Full xs s (λ q r e. e)
@@ -166,7 +167,7 @@ le_false m n l = grind (arith, nat_tests)
 -- where every point is covered, few parts are few enough exactly where the test says so
 pub compact_test :
     (s : List ℕ) (k alpha start n : ℕ) (parts : List (List (List ℕ))) → alpha < 2 ^ 34 → start ≤ alpha →
-    IsStart s alpha start → AreParts (shape_of s alpha).cells parts → n ≡ length parts →
+    IsStart s alpha start → AreSolidParts (shape_of s alpha).cells parts → n ≡ length parts →
     IsTrue (nat_le n k) ↔ ((alpha < 2 ^ 34) × IsCompact s k alpha)
 compact_test s k alpha start n parts small from at a e = (
   λ t. (
@@ -340,7 +341,7 @@ from_number s ns k b solid z l c = elim (greatest ns b) [
         record {
           covered = λ p i. let q = c.covered p i in (q.0, subst (λ (v : List (List ℕ)). IsIn q.0 v) same q.1, q.2);
           parts = c.parts;
-          are_parts = subst (λ (v : List (List ℕ)). AreParts v c.parts) same c.are_parts;
+          are_parts = subst (λ (v : List (List ℕ)). AreSolidParts v c.parts) same c.are_parts;
           few = c.few;
         }
 

@@ -43,7 +43,7 @@ use Rattle.point_order.specs.CellOrder.{cell_cmp}
 use Rattle.point_order.proofs.Cited.{cell_self}
 use Rattle.face_list.specs.Tables.{cell_at}
 use Rattle.alpha_complex.specs.Slots.{marked_cell}
-use Rattle.solid_parts.specs.Gathered.{IsGathered, IsNumberOf, IsPut, part_at, place_at}
+use Rattle.solid_parts.specs.Gathered.{IsGathered, IsMarkedNumber, IsGroupedIn, cells_at_place, place_at}
 use Rattle.solid_parts.specs.Groups.{label_at}
 use Rattle.solid_parts.specs.Parts.{InOrder, first_of}
 use Rattle.solid_parts.proofs.Merging.{in_front, in_front_or_last, in_last}
@@ -52,14 +52,14 @@ use Rattle.solid_parts.proofs.Merging.{in_front, in_front_or_last, in_last}
 pub record SoFar (cells : List Cell) (marks : List Bool) (labels : List ℕ) (k : ℕ) (places : List (Option ℕ))
     (parts : List (List (List ℕ))) : Type 0 where
   pub size : length places ≡ length cells
-  pub put : (i : ℕ) (q : List ℕ) → i < k → IsNumberOf cells marks q i → (p : ℕ) × (p < length parts) ×
-      (place_at places (label_at labels i) ≡ Some p) × IsIn q (part_at parts p)
-  pub only : (p : ℕ) (q : List ℕ) → p < length parts → IsIn q (part_at parts p) → (i : ℕ) × (i < k) ×
-      IsNumberOf cells marks q i × (place_at places (label_at labels i) ≡ Some p)
+  pub put : (i : ℕ) (q : List ℕ) → i < k → IsMarkedNumber cells marks q i → (p : ℕ) × (p < length parts) ×
+      (place_at places (label_at labels i) ≡ Some p) × IsIn q (cells_at_place parts p)
+  pub only : (p : ℕ) (q : List ℕ) → p < length parts → IsIn q (cells_at_place parts p) → (i : ℕ) × (i < k) ×
+      IsMarkedNumber cells marks q i × (place_at places (label_at labels i) ≡ Some p)
   pub within : (l p : ℕ) → place_at places l ≡ Some p → p < length parts
   pub apart : (l m p : ℕ) → place_at places l ≡ Some p → place_at places m ≡ Some p → l ≡ m
-  pub filled : (p : ℕ) → p < length parts → 0 < length (part_at parts p)
-  pub ordered : (p : ℕ) → p < length parts → InOrder (part_at parts p)
+  pub filled : (p : ℕ) → p < length parts → 0 < length (cells_at_place parts p)
+  pub ordered : (p : ℕ) → p < length parts → InOrder (cells_at_place parts p)
   pub order : InOrder (map first_of parts)
 
 -- ---- numbers of cells
@@ -70,13 +70,14 @@ same_full q r e = cc
 
 -- cells stand in order by their numbers
 before : (cells : List Cell) (marks : List Bool) (q r : List ℕ) (i j : ℕ) → IsStrictlySortedBy cell_cmp cells →
-    IsNumberOf cells marks q i → IsNumberOf cells marks r j → i < j → j < length cells → slice_cmp nat_cmp q r ≡ Less
+    IsMarkedNumber cells marks q i → IsMarkedNumber cells marks r j → i < j → j < length cells →
+    slice_cmp nat_cmp q r ≡ Less
 before cells marks q r i j s a b l h = ap₂ cell_cmp (sym a.cell) (sym b.cell) ∙ Less-from_sorted cell_cmp cells i j
     (Full []) s l h
 
 -- so a cell has one number
 not_itself : (cells : List Cell) (marks : List Bool) (q : List ℕ) (i j : ℕ) → IsStrictlySortedBy cell_cmp cells →
-    IsNumberOf cells marks q i → IsNumberOf cells marks q j → i < j → j < length cells → ⊥
+    IsMarkedNumber cells marks q i → IsMarkedNumber cells marks q j → i < j → j < length cells → ⊥
 not_itself cells marks q i j s a b l h = clash (sym (cell_self (Full q)) ∙ before cells marks q q i j s a b l h)
   where
     clash : Equal ≡ Less → ⊥
@@ -84,7 +85,7 @@ not_itself cells marks q i j s a b l h = clash (sym (cell_self (Full q)) ∙ bef
 
 -- so it has one number in the list
 pub one_number : (cells : List Cell) (marks : List Bool) (q : List ℕ) (i j : ℕ) → IsStrictlySortedBy cell_cmp cells →
-    IsNumberOf cells marks q i → IsNumberOf cells marks q j → i < length cells → j < length cells → i ≡ j
+    IsMarkedNumber cells marks q i → IsMarkedNumber cells marks q j → i < length cells → j < length cells → i ≡ j
 one_number cells marks q i j s a b h k = elim (cases_lt i j) [
   | inl l ↦ absurd (not_itself cells marks q i j s a b l k)
   | inr m ↦ elim (cases_lt j i) [
@@ -111,8 +112,9 @@ first_stays [] q h = absurd (omega (arith, h))
 first_stays (r ∷ part) q h = refl
 
 -- so the first cells of all parts stay
-firsts_stay : (parts : List (List (List ℕ))) (p : ℕ) (q : List ℕ) → p < length parts → 0 < length (part_at parts p) →
-    map first_of (slice_set parts p (part_at parts p ++ q ∷ [])) ≡ map first_of parts
+firsts_stay : (parts : List (List (List ℕ))) (p : ℕ) (q : List ℕ) → p < length parts →
+    0 < length (cells_at_place parts p) →
+    map first_of (slice_set parts p (cells_at_place parts p ++ q ∷ [])) ≡ map first_of parts
 firsts_stay [] p q h l = absurd (omega (arith, h))
 firsts_stay (y ∷ parts) zero q h l = ap (λ (v : List ℕ). v ∷ map first_of parts) (first_stays y q l)
 firsts_stay (y ∷ parts) (suc p) q h l = ap (λ (v : List (List ℕ)). first_of y ∷ v)
@@ -166,14 +168,14 @@ below_or_at i k l = elim (cases_lt i k) [ inl h ↦ inl h | inr h ↦ inr (omega
 
 -- a cell that is not marked, or Open, changes nothing
 pub passed : (cells : List Cell) (marks : List Bool) (labels : List ℕ) (k : ℕ) (places : List (Option ℕ))
-    (parts : List (List (List ℕ))) → ((q : List ℕ) → IsNumberOf cells marks q k → ⊥) →
+    (parts : List (List (List ℕ))) → ((q : List ℕ) → IsMarkedNumber cells marks q k → ⊥) →
     SoFar cells marks labels k places parts → SoFar cells marks labels (k + 1) places parts
 passed cells marks labels k places parts none d = record {
   size = d.size;
   put = λ i q l n. elim (below_or_at i k l) [
     | inl h ↦ d.put i q h n
     | inr e ↦ absurd
-        (none q (subst (IsNumberOf cells marks q) e n))
+        (none q (subst (IsMarkedNumber cells marks q) e n))
   ];
   only = λ p q l i. let r = d.only p q l i in (r.0, omega (arith, r.1), r.2, r.3);
   within = d.within;
@@ -189,9 +191,9 @@ passed cells marks labels k places parts none d = record {
 put_behind :
     (cells : List Cell) (marks : List Bool) (labels : List ℕ) (k : ℕ) (places : List (Option ℕ))
     (parts : List (List (List ℕ))) (q : List ℕ) (p : ℕ) → IsStrictlySortedBy cell_cmp cells → k < length cells →
-    IsNumberOf cells marks q k → place_at places (label_at labels k) ≡ Some p →
+    IsMarkedNumber cells marks q k → place_at places (label_at labels k) ≡ Some p →
     SoFar cells marks labels k places parts →
-    SoFar cells marks labels (k + 1) places (slice_set parts p (part_at parts p ++ q ∷ []))
+    SoFar cells marks labels (k + 1) places (slice_set parts p (cells_at_place parts p ++ q ∷ []))
 put_behind cells marks labels k places parts q p s inside x e d = record {
   size = d.size;
   put = λ i r l n. elim (below_or_at i k l) [
@@ -200,14 +202,15 @@ put_behind cells marks labels k places parts q p s inside x e d = record {
       p,
       up p there,
       ap (λ m. place_at places (label_at labels m)) f ∙ e,
-      subst (λ (v : List ℕ). IsIn v (part_at new p)) (same_full q r (sym x.cell ∙ ap (cell_at cells) (sym f) ∙ n.cell))
+      subst (λ (v : List ℕ). IsIn v (cells_at_place new p)) (same_full q r (sym x.cell ∙ ap (cell_at cells) (sym f)
+          ∙ n.cell))
           last,
     )
   ];
   only = λ y r l i. elim (set_cases parts p y added [] there) [
-    | inl a ↦ elim (in_front_or_last (part_at parts p) q r (subst (λ (v : List (List ℕ)). IsIn r v) a.1 i)) [
+    | inl a ↦ elim (in_front_or_last (cells_at_place parts p) q r (subst (λ (v : List (List ℕ)). IsIn r v) a.1 i)) [
       | inl j ↦ let o = d.only p r there j in (o.0, omega (arith, o.1), o.2, o.3 ∙ ap Some (sym a.0))
-      | inr f ↦ (k, omega arith, subst (λ (v : List ℕ). IsNumberOf cells marks v k) f x, e ∙ ap Some (sym a.0))
+      | inr f ↦ (k, omega arith, subst (λ (v : List ℕ). IsMarkedNumber cells marks v k) f x, e ∙ ap Some (sym a.0))
     ]
     | inr b ↦ let o = d.only y r (down y l) (subst (λ (v : List (List ℕ)). IsIn r v) b i) in
         (o.0, omega (arith, o.1), o.2, o.3)
@@ -215,11 +218,11 @@ put_behind cells marks labels k places parts q p s inside x e d = record {
   within = λ l y f. up y (d.within l y f);
   apart = d.apart;
   filled = λ y l. elim (set_cases parts p y added [] there) [
-    | inl a ↦ subst (λ (v : List (List ℕ)). 0 < length v) (sym a.1) (more_than_none (part_at parts p) q)
+    | inl a ↦ subst (λ (v : List (List ℕ)). 0 < length v) (sym a.1) (more_than_none (cells_at_place parts p) q)
     | inr b ↦ subst (λ (v : List (List ℕ)). 0 < length v) (sym b) (d.filled y (down y l))
   ];
   ordered = λ y l. elim (set_cases parts p y added [] there) [
-    | inl a ↦ subst InOrder (sym a.1) (sorted_end (slice_cmp nat_cmp) (part_at parts p) q (d.ordered p there)
+    | inl a ↦ subst InOrder (sym a.1) (sorted_end (slice_cmp nat_cmp) (cells_at_place parts p) q (d.ordered p there)
         (λ r i. let o = d.only p r there i in before cells marks r q o.0 k s o.2 x o.1 inside))
     | inr b ↦ subst InOrder (sym b) (d.ordered y (down y l))
   ];
@@ -227,7 +230,7 @@ put_behind cells marks labels k places parts q p s inside x e d = record {
 }
   where
     added : List (List ℕ)
-    added = part_at parts p ++ q ∷ []
+    added = cells_at_place parts p ++ q ∷ []
 
     new : List (List (List ℕ))
     new = slice_set parts p added
@@ -241,24 +244,24 @@ put_behind cells marks labels k places parts q p s inside x e d = record {
     down : (y : ℕ) → y < length new → y < length parts
     down y l = subst (λ n. y < n) (len_set parts p added) l
 
-    kept : (y : ℕ) (r : List ℕ) → IsIn r (part_at parts y) → IsIn r (part_at new y)
+    kept : (y : ℕ) (r : List ℕ) → IsIn r (cells_at_place parts y) → IsIn r (cells_at_place new y)
     kept y r i = elim (set_cases parts p y added [] there) [
-      | inl a ↦ subst (λ (v : List (List ℕ)). IsIn r v) (sym a.1) (in_front (part_at parts p) q r
-          (subst (λ n. IsIn r (part_at parts n)) a.0 i))
+      | inl a ↦ subst (λ (v : List (List ℕ)). IsIn r v) (sym a.1) (in_front (cells_at_place parts p) q r
+          (subst (λ n. IsIn r (cells_at_place parts n)) a.0 i))
       | inr b ↦ subst (λ (v : List (List ℕ)). IsIn r v) (sym b) i
     ]
 
     at_place : (xs : List (List (List ℕ))) (y : ℕ) (v : List (List ℕ)) → y < length xs →
-        part_at (slice_set xs y v) y ≡ v
+        cells_at_place (slice_set xs y v) y ≡ v
     at_place [] y v h = absurd (omega (arith, h))
     at_place (z ∷ xs) zero v h = refl
     at_place (z ∷ xs) (suc y) v h = at_place xs y v (omega (arith, h))
 
-    last : IsIn q (part_at new p)
+    last : IsIn q (cells_at_place new p)
     last = elim (set_cases parts p p added [] there) [
-      | inl a ↦ subst (λ (v : List (List ℕ)). IsIn q v) (sym a.1) (in_last (part_at parts p) q)
+      | inl a ↦ subst (λ (v : List (List ℕ)). IsIn q v) (sym a.1) (in_last (cells_at_place parts p) q)
       | inr b ↦ subst (λ (v : List (List ℕ)). IsIn q v) (sym (at_place parts p added there))
-          (in_last (part_at parts p) q)
+          (in_last (cells_at_place parts p) q)
     ]
 
 -- ---- a cell that is the first of its label
@@ -267,7 +270,7 @@ put_behind cells marks labels k places parts q p s inside x e d = record {
 put_alone :
     (cells : List Cell) (marks : List Bool) (labels : List ℕ) (k : ℕ) (places : List (Option ℕ))
     (parts : List (List (List ℕ))) (q : List ℕ) → IsStrictlySortedBy cell_cmp cells → k < length cells →
-    IsNumberOf cells marks q k → label_at labels k < length places → place_at places (label_at labels k) ≡ None →
+    IsMarkedNumber cells marks q k → label_at labels k < length places → place_at places (label_at labels k) ≡ None →
     SoFar cells marks labels k places parts →
     SoFar cells marks labels (k + 1) (slice_set places (label_at labels k) (Some (length parts)))
     (parts ++ (q ∷ []) ∷ [])
@@ -291,8 +294,8 @@ put_alone cells marks labels k places parts q s inside x room e d = record {
   only = λ y r l i. elim (below_or_at y n (subst (λ m. y < m) count l)) [
     | inl h ↦ let o = d.only y r h (subst (λ (v : List (List ℕ)). IsIn r v) (old_part y h) i) in
         (o.0, omega (arith, o.1), o.2, still (label_at labels o.0) y o.3)
-    | inr f ↦ let g = single r (subst (λ (v : List (List ℕ)). IsIn r v) (ap (part_at new) f ∙ new_part) i) in
-        (k, omega arith, subst (λ (v : List ℕ). IsNumberOf cells marks v k) g x, here ∙ ap Some (sym f))
+    | inr f ↦ let g = single r (subst (λ (v : List (List ℕ)). IsIn r v) (ap (cells_at_place new) f ∙ new_part) i) in
+        (k, omega arith, subst (λ (v : List ℕ). IsMarkedNumber cells marks v k) g x, here ∙ ap Some (sym f))
   ];
   within = λ l y f. elim (set_cases places label l (Some n) None room) [
     | inl a ↦ subst (λ m. m < length new) (same_some n y (sym a.1 ∙ f)) itself
@@ -310,11 +313,11 @@ put_alone cells marks labels k places parts q s inside x room e d = record {
   ];
   filled = λ y l. elim (below_or_at y n (subst (λ m. y < m) count l)) [
     | inl h ↦ subst (λ (v : List (List ℕ)). 0 < length v) (sym (old_part y h)) (d.filled y h)
-    | inr f ↦ subst (λ (v : List (List ℕ)). 0 < length v) (sym (ap (part_at new) f ∙ new_part)) (omega arith)
+    | inr f ↦ subst (λ (v : List (List ℕ)). 0 < length v) (sym (ap (cells_at_place new) f ∙ new_part)) (omega arith)
   ];
   ordered = λ y l. elim (below_or_at y n (subst (λ m. y < m) count l)) [
     | inl h ↦ subst InOrder (sym (old_part y h)) (d.ordered y h)
-    | inr f ↦ subst InOrder (sym (ap (part_at new) f ∙ new_part)) (sorted_end (slice_cmp nat_cmp) [] q
+    | inr f ↦ subst InOrder (sym (ap (cells_at_place new) f ∙ new_part)) (sorted_end (slice_cmp nat_cmp) [] q
         (sorted_none (slice_cmp nat_cmp)) (λ y i. absurd i))
   ];
   order = subst InOrder (sym (map-append first_of parts ((q ∷ []) ∷ [])))
@@ -350,10 +353,10 @@ put_alone cells marks labels k places parts q s inside x room e d = record {
     itself : n < length new
     itself = subst (λ m. n < m) (sym count) (omega arith)
 
-    old_part : (y : ℕ) → y < n → part_at new y ≡ part_at parts y
+    old_part : (y : ℕ) → y < n → cells_at_place new y ≡ cells_at_place parts y
     old_part y l = get_or_append_left parts ((q ∷ []) ∷ []) [] y l
 
-    new_part : part_at new n ≡ q ∷ []
+    new_part : cells_at_place new n ≡ q ∷ []
     new_part = get_or-append_seam parts (q ∷ []) [] []
 
     at_place : (xs : List (Option ℕ)) (y : ℕ) (v : Option ℕ) → y < length xs → place_at (slice_set xs y v) y ≡ v
@@ -390,8 +393,8 @@ put_alone cells marks labels k places parts q s inside x room e d = record {
         slice_cmp nat_cmp y q ≡ Less
     earlier y r =
         let p = place_of parts r.0 [] r.1 in
-        let first = subst (λ (v : List ℕ). IsIn v (part_at parts p.0)) (ap first_of p.2 ∙ r.2)
-        (has_first (part_at parts p.0) (d.filled p.0 p.1)) in
+        let first = subst (λ (v : List ℕ). IsIn v (cells_at_place parts p.0)) (ap first_of p.2 ∙ r.2)
+        (has_first (cells_at_place parts p.0) (d.filled p.0 p.1)) in
         let o = d.only p.0 y p.1 first in
         before cells marks y q o.0 k s o.2 x o.1 inside
 
@@ -399,8 +402,8 @@ put_alone cells marks labels k places parts q s inside x room e d = record {
 pub put_next :
     (cells : List Cell) (marks : List Bool) (labels : List ℕ) (k : ℕ) (places new_places : List (Option ℕ))
     (parts new : List (List (List ℕ))) (q : List ℕ) → IsStrictlySortedBy cell_cmp cells → k < length cells →
-    IsNumberOf cells marks q k → label_at labels k < length places → SoFar cells marks labels k places parts →
-    IsPut (label_at labels k) q places new_places parts new → SoFar cells marks labels (k + 1) new_places new
+    IsMarkedNumber cells marks q k → label_at labels k < length places → SoFar cells marks labels k places parts →
+    IsGroupedIn (label_at labels k) q places new_places parts new → SoFar cells marks labels (k + 1) new_places new
 put_next cells marks labels k places new_places parts new q s inside x room d (inl t) =
     subst (λ (v : List (Option ℕ)). SoFar cells marks labels (k + 1) v new) (sym t.2)
     (subst (SoFar cells marks labels (k + 1) places) (sym t.3) (put_behind cells marks labels k places parts q t.0 s
@@ -429,7 +432,8 @@ gathered cells marks labels places parts s d = record {
       let y = d.put j r k n in
       let same : place_at places (label_at labels i) ≡ Some p = ap (λ v. place_at places (label_at labels v))
       (one_number cells marks q i o.0 s m o.2 h o.1) ∙ o.3 in
-      subst (λ v. IsIn r (part_at parts v)) (same_some y.0 p (sym y.2 ∙ ap (place_at places) (sym t) ∙ same)) y.3;
+      subst (λ v. IsIn r (cells_at_place parts v)) (same_some y.0 p (sym y.2 ∙ ap (place_at places) (sym t)
+      ∙ same)) y.3;
   apart = λ p i j q r l h k m n x y.
       let o = d.only p q l x in
       let z = d.only p r l y in
@@ -465,7 +469,7 @@ told_some (Open t) m q e = cc
 
 -- a cell that is told is a marked Full one, with its number
 pub number_told : (cells : List Cell) (marks : List Bool) (k : ℕ) (q : List ℕ) →
-    marked_cell (cell_at cells k) (get_or marks k false) ≡ Some q → IsNumberOf cells marks q k
+    marked_cell (cell_at cells k) (get_or marks k false) ≡ Some q → IsMarkedNumber cells marks q k
 number_told cells marks k q e = let t = told_some (cell_at cells k) (get_or marks k false) q e in record
     { marked = t.0; cell = t.1 }
 
@@ -477,5 +481,5 @@ told_none (Open t) m q e f g = cc
 
 -- so no Full cell has this number
 pub no_number_told : (cells : List Cell) (marks : List Bool) (k : ℕ) →
-    marked_cell (cell_at cells k) (get_or marks k false) ≡ None → (q : List ℕ) → IsNumberOf cells marks q k → ⊥
+    marked_cell (cell_at cells k) (get_or marks k false) ≡ None → (q : List ℕ) → IsMarkedNumber cells marks q k → ⊥
 no_number_told cells marks k e q n = told_none (cell_at cells k) (get_or marks k false) q e n.marked n.cell

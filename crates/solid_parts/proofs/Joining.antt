@@ -27,7 +27,7 @@ use Rattle.std.specs.Prelude.{Option, None, Some}
 use Rattle.std.proofs.lemmas.List.{take_all}
 use Rattle.list_laws.specs.Lists.{IsIn}
 use Rattle.list_laws.proofs.Cited.{take_next}
-use Rattle.solid_parts.specs.Groups.{AreAllJoined, AreJoinedAll, IsMarked, IsMerged, LeadDown, LeadTo}
+use Rattle.solid_parts.specs.Groups.{AreAllJoined, AreJoinedAll, IsMarkedAt, IsMerged, LeadDown, LeadTo}
 use Rattle.solid_parts.proofs.Merging.{
   DoneSoFar,
   IsFirst,
@@ -67,11 +67,11 @@ none_joined marks old d = record {
 }
 
 -- the number that was met first, after one more
-first_over : (marks : List Bool) (numbers : List ℕ) (x : ℕ) (first : Option ℕ) → (IsMarked marks x → ⊥)
+first_over : (marks : List Bool) (numbers : List ℕ) (x : ℕ) (first : Option ℕ) → (IsMarkedAt marks x → ⊥)
     → IsFirst marks numbers first → IsFirst marks (numbers ++ x ∷ []) first
 first_over marks numbers x None none never = λ u i m. elim (in_front_or_last numbers x u i) [
   | inl j ↦ never u j m
-  | inr e ↦ none (subst (λ n. IsMarked marks n) (sym e) m)
+  | inr e ↦ none (subst (λ n. IsMarkedAt marks n) (sym e) m)
 ]
 first_over marks numbers x (Some u) none some = (in_front numbers x u some.0, some.1)
 

@@ -40,22 +40,22 @@ use Rattle.point_order.specs.declared.cell.Cell.{Cell}
 use Rattle.face_list.specs.Seen.{FaceLists}
 use Rattle.face_list.specs.Tables.{numbered}
 use Rattle.solid_parts.specs.declared.links.Link.{Link}
-use Rattle.solid_parts.specs.Links.{AreBelow, AreLinked, HasLinks, IsLinked, Keeps, link_of}
+use Rattle.solid_parts.specs.Links.{AreLinksBelow, AreLinked, HasLinks, IsLinked, KeepsLinks, link_between}
 use Rattle.solid_parts.proofs.Merging.{own_value}
 
 -- where some links were put behind others
 pub record LinkedSoFar (leasts ones others : List ℕ) (old now : List Link) : Type 0 where
-  pub keeps : Keeps old now
+  pub keeps : KeepsLinks old now
   pub has : HasLinks leasts ones others now
-  pub below : AreBelow (length leasts) now
+  pub below : AreLinksBelow (length leasts) now
 
 -- before the first other cell no link is put
-pub no_others : (leasts : List ℕ) (one : ℕ) (old : List Link) → AreBelow (length leasts) old
+pub no_others : (leasts : List ℕ) (one : ℕ) (old : List Link) → AreLinksBelow (length leasts) old
     → LinkedSoFar leasts (one ∷ []) [] old old
 no_others leasts one old b = record { keeps = λ l i. i; has = λ u v i j. absurd j; below = b }
 
 -- nor before the first cell
-pub no_ones : (leasts others : List ℕ) (old : List Link) → AreBelow (length leasts) old
+pub no_ones : (leasts others : List ℕ) (old : List Link) → AreLinksBelow (length leasts) old
     → LinkedSoFar leasts [] others old old
 no_ones leasts others old b = record { keeps = λ l i. i; has = λ u v i. absurd i; below = b }
 
@@ -89,31 +89,34 @@ other_over leasts one others i old now new h l e s =
 -- the link to a greater one is put
 pub other_put : (leasts : List ℕ) (one : ℕ) (others : List ℕ) (i : ℕ) (old now new : List Link) (link : Link) →
     i < length others
-    → one < length leasts → All (λ n. n < length leasts) others → link ≡ link_of leasts one (get_or others i 0)
+    → one < length leasts → All (λ n. n < length leasts) others → link ≡ link_between leasts one (get_or others i 0)
     → new ≡ now ++ link ∷ [] → LinkedSoFar leasts (one ∷ []) (take i others) old now
     → LinkedSoFar leasts (one ∷ []) (take (i + 1) others) old new
 other_put leasts one others i old now new link h low high f e s =
     subst (LinkedSoFar leasts (one ∷ []) (take (i + 1) others) old) (sym (e ∙ ap (λ (l : Link). now ++ l ∷ []) f))
-    (next_others leasts one others i old (now ++ link_of leasts one (get_or others i 0) ∷ []) h (record {
-      keeps = λ l j. in_left l now (link_of leasts one (get_or others i 0) ∷ []) (s.keeps l j);
+    (next_others leasts one others i old (now ++ link_between leasts one (get_or others i 0) ∷ []) h (record {
+      keeps = λ l j. in_left l now (link_between leasts one (get_or others i 0) ∷ []) (s.keeps l j);
       has = λ u v j k m. elim (in_pushed (take i others) _ (get_or others i 0) v refl k) [
-        | inl n ↦ in_left (link_of leasts u v) now (link_of leasts one (get_or others i 0) ∷ []) (s.has u v j n m)
-        | inr n ↦ in_right (link_of leasts u v) now (link_of leasts one (get_or others i 0) ∷ []) (last u v j n)
+        | inl n ↦ in_left (link_between leasts u v) now (link_between leasts one (get_or others i 0) ∷ [])
+            (s.has u v j n m)
+        | inr n ↦ in_right (link_between leasts u v) now (link_between leasts one (get_or others i 0) ∷ [])
+            (last u v j n)
       ];
       below = all_of_each (λ (l : Link). (l.one < length leasts) × (l.other < length leasts))
-          (now ++ link_of leasts one (get_or others i 0) ∷ [])
-          (λ l j. elim (from_append l now (link_of leasts one (get_or others i 0) ∷ []) j) [
+          (now ++ link_between leasts one (get_or others i 0) ∷ [])
+          (λ l j. elim (from_append l now (link_between leasts one (get_or others i 0) ∷ []) j) [
             | inl k ↦ each_of_all (λ (l : Link). (l.one < length leasts) × (l.other < length leasts)) now s.below l k
             | inr k ↦ within l k
           ]);
     }))
   where
     last : (u v : ℕ) → IsIn u (one ∷ []) → get_or others i 0 ≡ v →
-        IsIn (link_of leasts u v) (link_of leasts one (get_or others i 0) ∷ [])
-    last u v (inl g) n = inl (ap (λ m. link_of leasts m (get_or others i 0)) g ∙ ap (λ m. link_of leasts u m) n)
+        IsIn (link_between leasts u v) (link_between leasts one (get_or others i 0) ∷ [])
+    last u v (inl g) n = inl (ap (λ m. link_between leasts m (get_or others i 0)) g
+        ∙ ap (λ m. link_between leasts u m) n)
     last u v (inr none) n = absurd none
 
-    within : (l : Link) → IsIn l (link_of leasts one (get_or others i 0) ∷ []) → (l.one < length leasts) ×
+    within : (l : Link) → IsIn l (link_between leasts one (get_or others i 0) ∷ []) → (l.one < length leasts) ×
         (l.other < length leasts)
     within l (inl g) = subst (λ (m : Link). (m.one < length leasts) × (m.other < length leasts)) g (low, high i 0 h)
     within l (inr none) = absurd none
@@ -126,15 +129,16 @@ others_done leasts one others i old now h s =
 
 -- one cell more is linked with all
 pub one_more : (leasts ones : List ℕ) (i : ℕ) (old now new : List Link) → i < length ones
-    → LinkedSoFar leasts (take i ones) ones old now → Keeps now new → HasLinks leasts (get_or ones i 0 ∷ []) ones new
-    → AreBelow (length leasts) new → LinkedSoFar leasts (take (i + 1) ones) ones old new
+    → LinkedSoFar leasts (take i ones) ones old now → KeepsLinks now new →
+    HasLinks leasts (get_or ones i 0 ∷ []) ones new
+    → AreLinksBelow (length leasts) new → LinkedSoFar leasts (take (i + 1) ones) ones old new
 one_more leasts ones i old now new h s keeps has below =
     subst (λ (v : List ℕ). LinkedSoFar leasts v ones old new) (sym
     (take_next ones i (get_or ones i 0) h (own_value ones i h)))
     (record {
       keeps = λ l j. keeps l (s.keeps l j);
       has = λ u v j k m. elim (from_append u (take i ones) (get_or ones i 0 ∷ []) j) [
-        | inl n ↦ keeps (link_of leasts u v) (s.has u v n k m)
+        | inl n ↦ keeps (link_between leasts u v) (s.has u v n k m)
         | inr n ↦ has u v n k m
       ];
       below = below;
@@ -150,32 +154,33 @@ ones_done leasts ones i old now h s = subst (λ (v : List ℕ). LinkedSoFar leas
 -- where the first triples are done
 pub record TriplesSoFar (faces : FaceLists) (leasts : List ℕ) (k : ℕ) (links : List Link) : Type 0 where
   pub linked : AreLinked faces leasts k links
-  pub below : AreBelow (length leasts) links
+  pub below : AreLinksBelow (length leasts) links
 
 -- before the first triple there is no link
 pub no_triples : (faces : FaceLists) (leasts : List ℕ) (links : List Link) → links ≡ [] →
     TriplesSoFar faces leasts 0 links
 no_triples faces leasts links e = record {
   linked = λ t l. absurd (omega (arith, l));
-  below = subst (AreBelow (length leasts)) (sym e)
+  below = subst (AreLinksBelow (length leasts)) (sym e)
       (all_of_each (λ (l : Link). (l.one < length leasts) × (l.other < length leasts)) [] (λ l i. absurd i));
 }
 
 -- a triple whose cells are linked is so with more links
-still_linked : (faces : FaceLists) (leasts : List ℕ) (old new : List Link) (triple : List ℕ × List Cell) → Keeps old new
+still_linked : (faces : FaceLists) (leasts : List ℕ) (old new : List Link) (triple : List ℕ × List Cell) →
+    KeepsLinks old new
     → IsLinked faces leasts old triple → IsLinked faces leasts new triple
 still_linked faces leasts old new triple keeps l = record {
   numbers = l.numbers;
   around = l.around;
   below = l.below;
-  has = λ u v i j m. keeps (link_of leasts u v) (l.has u v i j m);
+  has = λ u v i j m. keeps (link_between leasts u v) (l.has u v i j m);
 }
 
 -- with the links of the next triple, one triple more is linked
 pub triple_more : (faces : FaceLists) (leasts : List ℕ) (k : ℕ) (numbers : List ℕ) (old new : List Link)
     → numbered faces.cells numbers ≡ (get_or faces.triples k ([], [])).1 → All (λ n. n < length faces.cells) numbers
-    → TriplesSoFar faces leasts k old → Keeps old new → HasLinks leasts numbers numbers new →
-    AreBelow (length leasts) new
+    → TriplesSoFar faces leasts k old → KeepsLinks old new → HasLinks leasts numbers numbers new →
+    AreLinksBelow (length leasts) new
     → TriplesSoFar faces leasts (k + 1) new
 triple_more faces leasts k numbers old new e below s keeps has b = record {
   linked = λ t l. elim (cases_lt t k) [

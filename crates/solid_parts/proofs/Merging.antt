@@ -31,7 +31,16 @@ use Rattle.std.proofs.lemmas.Bool.Decides.{nat_tests}
 use Rattle.std.proofs.lemmas.List.{length-map}
 use Rattle.list_laws.specs.Lists.{IsIn}
 use Rattle.list_laws.proofs.Cited.{each_of_all, in_take, take_next}
-use Rattle.solid_parts.specs.Groups.{AreJoinedAll, AreMerged, AreTogether, IsMarked, Reaches, label_at, merged, moved}
+use Rattle.solid_parts.specs.Groups.{
+  AreJoinedAll,
+  AreMerged,
+  AreTogether,
+  IsMarkedAt,
+  MeetsMarked,
+  label_at,
+  merged,
+  moved,
+}
 
 -- ---- one merge
 
@@ -130,8 +139,8 @@ merges u v old new (inr e) = subst (λ (w : List ℕ). Merges u v old w) (sym e)
 
 -- the marked number that was met first, if any was
 abbrev pub IsFirst : List Bool → List ℕ → Option ℕ → Type 0
-IsFirst marks numbers None = (u : ℕ) → IsIn u numbers → IsMarked marks u → ⊥
-IsFirst marks numbers (Some u) = IsIn u numbers × IsMarked marks u
+IsFirst marks numbers None = (u : ℕ) → IsIn u numbers → IsMarkedAt marks u → ⊥
+IsFirst marks numbers (Some u) = IsIn u numbers × IsMarkedAt marks u
 
 -- where the first i numbers are done
 pub record DoneSoFar (marks : List Bool) (numbers old now : List ℕ) (first : Option ℕ) : Type 0 where
@@ -171,12 +180,12 @@ in_last [] x = inl refl
 in_last (z ∷ xs) x = inr (in_last xs x)
 
 -- what a marked number of the list reaches, one of the longer does
-reaches_more : (old : List ℕ) (marks : List Bool) (numbers : List ℕ) (x i : ℕ) → Reaches old marks numbers i →
-    Reaches old marks (numbers ++ x ∷ []) i
+reaches_more : (old : List ℕ) (marks : List Bool) (numbers : List ℕ) (x i : ℕ) → MeetsMarked old marks numbers i →
+    MeetsMarked old marks (numbers ++ x ∷ []) i
 reaches_more old marks numbers x i r = (r.0, in_front numbers x r.0 r.1, r.2, r.3)
 
 -- a number that is not marked is passed over
-pub passed_over : (marks : List Bool) (numbers old now : List ℕ) (first : Option ℕ) (x : ℕ) → (IsMarked marks x → ⊥) →
+pub passed_over : (marks : List Bool) (numbers old now : List ℕ) (first : Option ℕ) (x : ℕ) → (IsMarkedAt marks x → ⊥) →
     DoneSoFar marks numbers old now first → DoneSoFar marks (numbers ++ x ∷ []) old now first
 passed_over marks numbers old now first x none d = record {
   is_first = still first d.is_first;
@@ -193,11 +202,11 @@ passed_over marks numbers old now first x none d = record {
   };
 }
   where
-    before : (u : ℕ) → IsIn u (numbers ++ x ∷ []) → IsMarked marks u → IsIn u numbers
+    before : (u : ℕ) → IsIn u (numbers ++ x ∷ []) → IsMarkedAt marks u → IsIn u numbers
     before u i m = elim (in_front_or_last numbers x u i) [
       | inl j ↦ j
       | inr e ↦ absurd
-          (none (subst (λ n. IsMarked marks n) (sym e) m))
+          (none (subst (λ n. IsMarkedAt marks n) (sym e) m))
     ]
 
     still : (f : Option ℕ) → IsFirst marks numbers f → IsFirst marks (numbers ++ x ∷ []) f
@@ -205,7 +214,7 @@ passed_over marks numbers old now first x none d = record {
     still (Some u) some = (in_front numbers x u some.0, some.1)
 
 -- the first that is marked is kept
-pub kept_first : (marks : List Bool) (numbers old now : List ℕ) (x : ℕ) → IsMarked marks x →
+pub kept_first : (marks : List Bool) (numbers old now : List ℕ) (x : ℕ) → IsMarkedAt marks x →
     DoneSoFar marks numbers old now None → DoneSoFar marks (numbers ++ x ∷ []) old now (Some x)
 kept_first marks numbers old now x mark d = record {
   is_first = (in_last numbers x, mark);
@@ -222,12 +231,12 @@ kept_first marks numbers old now x mark d = record {
   };
 }
   where
-    itself : (u : ℕ) → IsIn u (numbers ++ x ∷ []) → IsMarked marks u → x ≡ u
+    itself : (u : ℕ) → IsIn u (numbers ++ x ∷ []) → IsMarkedAt marks u → x ≡ u
     itself u i m = elim (in_front_or_last numbers x u i) [ inl j ↦ absurd (d.is_first u j m) | inr e ↦ e ]
 
 -- one that is marked is merged with the first
 pub merged_next : (marks : List Bool) (numbers old now new : List ℕ) (f x : ℕ) →
-    ((u : ℕ) → IsIn u numbers → u < length old) → x < length old → IsMarked marks x →
+    ((u : ℕ) → IsIn u numbers → u < length old) → x < length old → IsMarkedAt marks x →
     DoneSoFar marks numbers old now (Some f) → AreMerged f x now new
     → DoneSoFar marks (numbers ++ x ∷ []) old new (Some f)
 merged_next marks numbers old now new f x within inside mark d e = record {
@@ -260,26 +269,26 @@ merged_next marks numbers old now new f x within inside mark d e = record {
     first_in : f < length old
     first_in = within f d.is_first.0
 
-    with_first : (u : ℕ) → IsIn u (numbers ++ x ∷ []) → IsMarked marks u → AreTogether new u f
+    with_first : (u : ℕ) → IsIn u (numbers ++ x ∷ []) → IsMarkedAt marks u → AreTogether new u f
     with_first u i p = elim (in_front_or_last numbers x u i) [
       | inl j ↦ m.kept u f (up u (within u j)) (up f first_in) (d.joins.joined u f j d.is_first.0 p d.is_first.1)
       | inr g ↦ subst (λ n. AreTogether new n f) g (sym (m.both (up f first_in) (up x inside)))
     ]
 
-    to_first : (i : ℕ) → i < length old → AreTogether now i f → Reaches old marks (numbers ++ x ∷ []) i
+    to_first : (i : ℕ) → i < length old → AreTogether now i f → MeetsMarked old marks (numbers ++ x ∷ []) i
     to_first i h t = elim (d.joins.only i f h first_in t) [
       | inl s ↦ (f, in_front numbers x f d.is_first.0, d.is_first.1, s)
       | inr r ↦ reaches_more old marks numbers x i r.0
     ]
 
-    to_last : (i : ℕ) → i < length old → AreTogether now i x → Reaches old marks (numbers ++ x ∷ []) i
+    to_last : (i : ℕ) → i < length old → AreTogether now i x → MeetsMarked old marks (numbers ++ x ∷ []) i
     to_last i h t = elim (d.joins.only i x h inside t) [
       | inl s ↦ (x, in_last numbers x, mark, s)
       | inr r ↦ reaches_more old marks numbers x i r.0
     ]
 
     reached : (i : ℕ) → i < length old → AreTogether now i f ⊎ AreTogether now i x →
-        Reaches old marks (numbers ++ x ∷ []) i
+        MeetsMarked old marks (numbers ++ x ∷ []) i
     reached i h (inl t) = to_first i h t
     reached i h (inr t) = to_last i h t
 
@@ -302,5 +311,5 @@ pub within_front : (numbers : List ℕ) (i n : ℕ) → All (λ m. m < n) number
 within_front numbers i n a u k = each_of_all (λ m. m < n) numbers a u (in_take i numbers u k)
 
 -- a number that is not marked
-pub not_marked_here : (marks : List Bool) (x : ℕ) → get_or marks x false ≡ false → IsMarked marks x → ⊥
+pub not_marked_here : (marks : List Bool) (x : ℕ) → get_or marks x false ≡ false → IsMarkedAt marks x → ⊥
 not_marked_here marks x e m = cc

@@ -34,8 +34,8 @@ use Rattle.list_laws.proofs.Cited.{at_in, each_of_all}
 use Rattle.point_order.specs.declared.cell.Cell.{Cell}
 use Rattle.face_list.specs.Seen.{FaceLists}
 use Rattle.face_list.specs.Tables.{cell_at, numbered}
-use Rattle.solid_parts.specs.Groups.{AreAllJoined, AreJoinedAll, IsMarked, LeadDown, LeadTo, Reaches, label_at}
-use Rattle.solid_parts.specs.Labels.{AreAlike, AreBeside, AreLabels, IsPath}
+use Rattle.solid_parts.specs.Groups.{AreAllJoined, AreJoinedAll, IsMarkedAt, LeadDown, LeadTo, MeetsMarked, label_at}
+use Rattle.solid_parts.specs.Labels.{HaveOneLabel, AreBeside, AreLabels, IsPath}
 use Rattle.solid_parts.proofs.Leading.{each_down, each_itself}
 
 -- the other way
@@ -94,8 +94,8 @@ written_back n before lent ys v k a =
 
 -- marked cells that shared a label still do
 alike_after : (faces : FaceLists) (marks : List Bool) (numbers old new : List ℕ) (triple : List ℕ × List Cell) →
-    length old ≡ length faces.cells → AreJoinedAll marks numbers old new → AreAlike faces marks old triple →
-    AreAlike faces marks new triple
+    length old ≡ length faces.cells → AreJoinedAll marks numbers old new → HaveOneLabel faces marks old triple →
+    HaveOneLabel faces marks new triple
 alike_after faces marks numbers old new triple n j a = record {
   numbers = a.numbers;
   around = a.around;
@@ -118,7 +118,7 @@ labels_next faces marks k numbers old new h e below l j = record {
       (l.below a.0 a.1);
   joined = λ t m. elim (cases_lt t k) [
     | inl b ↦ alike_after faces marks numbers old new _ l.count j (l.joined t b)
-    | inr b ↦ subst (λ t. AreAlike faces marks new (get_or faces.triples t ([], []))) (last t m b) here
+    | inr b ↦ subst (λ t. HaveOneLabel faces marks new (get_or faces.triples t ([], []))) (last t m b) here
   ];
   only = λ i m p q s. elim (j.only i m (up i p) (up m q) s) [
     | inl r ↦ l.only i m p q r
@@ -135,10 +135,10 @@ labels_next faces marks k numbers old new h e below l j = record {
     within : (u : ℕ) → IsIn u numbers → u < length faces.cells
     within u i = each_of_all (λ c. c < length faces.cells) numbers below u i
 
-    here : AreAlike faces marks new (get_or faces.triples k ([], []))
+    here : HaveOneLabel faces marks new (get_or faces.triples k ([], []))
     here = record { numbers = numbers; around = e; below = below; alike = j.joined }
 
-    beside : (u v : ℕ) → IsIn u numbers → IsIn v numbers → IsMarked marks u → IsMarked marks v →
+    beside : (u v : ℕ) → IsIn u numbers → IsIn v numbers → IsMarkedAt marks u → IsMarkedAt marks v →
         AreBeside faces marks u v
     beside u v i m p q = record {
       triple = get_or faces.triples k ([], []);
@@ -149,8 +149,8 @@ labels_next faces marks k numbers old new h e below l j = record {
       second_marked = q;
     }
 
-    across : (i m : ℕ) → i < length faces.cells → m < length faces.cells → Reaches old marks numbers i →
-        Reaches old marks numbers m → (path : List ℕ) × IsPath faces marks i path m
+    across : (i m : ℕ) → i < length faces.cells → m < length faces.cells → MeetsMarked old marks numbers i →
+        MeetsMarked old marks numbers m → (path : List ℕ) × IsPath faces marks i path m
     across i m p q r s =
         let u = r.0 in
         let v = s.0 in

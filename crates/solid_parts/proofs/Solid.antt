@@ -72,11 +72,11 @@ use Rattle.alpha_complex.specs.Condition.{AreFacesOf}
 use Rattle.alpha_complex.specs.Judged.{is_small_cell}
 use Rattle.alpha_complex.specs.Shapes.{shape_of}
 use Rattle.alpha_complex.proofs.Cited.{cells_are}
-use Rattle.solid_parts.specs.Gathered.{IsGathered, IsNumberOf, part_at}
-use Rattle.solid_parts.specs.Groups.{AreTogether, IsMarked, label_at}
-use Rattle.solid_parts.specs.Joined.{AreJoined, IsChain, ShareTriple}
-use Rattle.solid_parts.specs.Labels.{AreAlike, AreBeside, AreLabels, IsPath}
-use Rattle.solid_parts.specs.Parts.{AreParts, InOrder, all_cells}
+use Rattle.solid_parts.specs.Gathered.{IsGathered, IsMarkedNumber, cells_at_place}
+use Rattle.solid_parts.specs.Groups.{AreTogether, IsMarkedAt, label_at}
+use Rattle.solid_parts.specs.Joined.{AreChained, IsChain, ShareTriple}
+use Rattle.solid_parts.specs.Labels.{HaveOneLabel, AreBeside, AreLabels, IsPath}
+use Rattle.solid_parts.specs.Parts.{AreSolidParts, InOrder, cells_of_parts}
 use Rattle.solid_parts.proofs.Gathered.{one_number, place_of}
 
 -- ---- lists of lists
@@ -104,12 +104,12 @@ distinct_append (x ∷ l) m a b f = (
 
 -- lists of which each has no cell twice, and no two a cell in common
 distinct_flat :
-    (parts : List (List (List ℕ))) → ((p : ℕ) → p < length parts → AreDistinct (part_at parts p)) →
-    ((p y : ℕ) (q : List ℕ) → p < length parts → y < length parts → IsIn q (part_at parts p) →
-    IsIn q (part_at parts y) → p ≡ y) → AreDistinct (all_cells parts)
+    (parts : List (List (List ℕ))) → ((p : ℕ) → p < length parts → AreDistinct (cells_at_place parts p)) →
+    ((p y : ℕ) (q : List ℕ) → p < length parts → y < length parts → IsIn q (cells_at_place parts p) →
+    IsIn q (cells_at_place parts y) → p ≡ y) → AreDistinct (cells_of_parts parts)
 distinct_flat [] d f = tt
 distinct_flat (part ∷ parts) d f =
-    distinct_append part (all_cells parts) (d 0 (omega arith))
+    distinct_append part (cells_of_parts parts) (d 0 (omega arith))
     (distinct_flat parts (λ p l. d (suc p) (omega (arith, l))) (λ p y q l h i j. less
     (f (suc p) (suc y) q (omega (arith, l)) (omega (arith, h)) i j)))
     (λ q i j.
@@ -131,7 +131,7 @@ marks_of : (alpha : ℕ) (cells : List Cell) → List Bool
 marks_of alpha cells = map (is_small_cell alpha) cells
 
 -- what is marked is a cell of the list
-pub marked_below : (alpha : ℕ) (cells : List Cell) (i : ℕ) → IsMarked (map (is_small_cell alpha) cells) i →
+pub marked_below : (alpha : ℕ) (cells : List Cell) (i : ℕ) → IsMarkedAt (map (is_small_cell alpha) cells) i →
     i < length cells
 marked_below alpha [] i e = cc
 marked_below alpha (c ∷ cells) zero e = omega arith
@@ -171,7 +171,7 @@ full_ascends s q a i = elim (from_append (Full q) (map Full (filter (is_full s) 
 pub record Given (s : List ℕ) (faces : FaceLists) (alpha : ℕ) (labels : List ℕ) : Type 0 where
   pub faces_of : AreFacesOf s faces
   pub joined : (t : ℕ) → t < length faces.triples
-      → AreAlike faces (map (is_small_cell alpha) faces.cells) labels (get_or faces.triples t ([], []))
+      → HaveOneLabel faces (map (is_small_cell alpha) faces.cells) labels (get_or faces.triples t ([], []))
 
 module _ (s : List ℕ) (faces : FaceLists) (alpha : ℕ) (labels : List ℕ) (g : Given s faces alpha labels) where
   -- the marks of the cells
@@ -187,7 +187,7 @@ module _ (s : List ℕ) (faces : FaceLists) (alpha : ℕ) (labels : List ℕ) (g
   sorted = subst (IsStrictlySortedBy cell_cmp) (sym g.faces_of.cells) (complex_is_sorted s g.faces_of.ascending)
 
   -- a marked cell is admitted
-  pub admitted_from : (q : List ℕ) (i : ℕ) → IsNumberOf faces.cells marks q i → IsIn q admitted
+  pub admitted_from : (q : List ℕ) (i : ℕ) → IsMarkedNumber faces.cells marks q i → IsIn q admitted
   admitted_from q i n =
       let l = marked_below alpha faces.cells i n.marked in
       filtered_true (is_within alpha) (full_cells faces.cells) q
@@ -197,18 +197,18 @@ module _ (s : List ℕ) (faces : FaceLists) (alpha : ℕ) (labels : List ℕ) (g
 
   -- and an admitted one has a number
   pub numbered_from : (q : List ℕ) → IsIn q admitted → (i : ℕ) × (i < length faces.cells) ×
-      IsNumberOf faces.cells marks q i
+      IsMarkedNumber faces.cells marks q i
   numbered_from q j =
       let f = filtered_from (is_within alpha) (full_cells faces.cells) q j in
       let p = place_of faces.cells (Full q) (Full []) (listed_is_full_cell faces.cells q f.0) in
       (p.0, p.1, record { marked = mark_is alpha faces.cells p.0 p.1 ∙ ap (is_small_cell alpha) p.2 ∙ f.1; cell = p.2 })
 
   -- the number of a cell is below their count
-  number_below : (q : List ℕ) (i : ℕ) → IsNumberOf faces.cells marks q i → i < length faces.cells
+  number_below : (q : List ℕ) (i : ℕ) → IsMarkedNumber faces.cells marks q i → i < length faces.cells
   number_below q i n = marked_below alpha faces.cells i n.marked
 
   -- its points ascend
-  ascends : (q : List ℕ) (i : ℕ) → IsNumberOf faces.cells marks q i → IsAscending q
+  ascends : (q : List ℕ) (i : ℕ) → IsMarkedNumber faces.cells marks q i → IsAscending q
   ascends q i n =
       full_ascends s q g.faces_of.ascending
       (subst (IsIn (Full q)) g.faces_of.cells (subst (λ (c : Cell). IsIn c faces.cells) n.cell
@@ -243,7 +243,7 @@ module _ (s : List ℕ) (faces : FaceLists) (alpha : ℕ) (labels : List ℕ) (g
   -- ---- paths and chains
 
   -- a cell beside another, told by its number
-  step_from : (q c : List ℕ) (i m : ℕ) → IsNumberOf faces.cells marks q i → IsNumberOf faces.cells marks c m →
+  step_from : (q c : List ℕ) (i m : ℕ) → IsMarkedNumber faces.cells marks q i → IsMarkedNumber faces.cells marks c m →
       AreBeside faces marks i m → ShareTriple q c
   step_from q c i m n k b =
       let r = triple_from b.triple b.listed in
@@ -255,14 +255,15 @@ module _ (s : List ℕ) (faces : FaceLists) (alpha : ℕ) (labels : List ℕ) (g
       )
 
   -- the cell of a marked number
-  pub marked_cell : (m : ℕ) → IsMarked marks m → (c : List ℕ) × IsNumberOf faces.cells marks c m
+  pub marked_cell : (m : ℕ) → IsMarkedAt marks m → (c : List ℕ) × IsMarkedNumber faces.cells marks c m
   marked_cell m e =
       let l = marked_below alpha faces.cells m e in
       let f = small_full alpha (cell_at faces.cells m) (sym (mark_is alpha faces.cells m l) ∙ e) in
       (f.0, record { marked = e; cell = f.1 })
 
   -- cells with one number are one
-  same_cell : (q r : List ℕ) (i j : ℕ) → IsNumberOf faces.cells marks q i → IsNumberOf faces.cells marks r j → i ≡ j →
+  same_cell : (q r : List ℕ) (i j : ℕ) → IsMarkedNumber faces.cells marks q i → IsMarkedNumber faces.cells marks r j →
+      i ≡ j →
       q ≡ r
   same_cell q r i j n k e = same (sym n.cell ∙ ap (cell_at faces.cells) e ∙ k.cell)
     where
@@ -270,8 +271,8 @@ module _ (s : List ℕ) (faces : FaceLists) (alpha : ℕ) (labels : List ℕ) (g
       same f = cc
 
   -- a path over numbers is a chain of cells
-  chain_from : (q r : List ℕ) (i : ℕ) (path : List ℕ) (j : ℕ) → IsNumberOf faces.cells marks q i →
-      IsPath faces marks i path j → IsNumberOf faces.cells marks r j → AreJoined admitted q r
+  chain_from : (q r : List ℕ) (i : ℕ) (path : List ℕ) (j : ℕ) → IsMarkedNumber faces.cells marks q i →
+      IsPath faces marks i path j → IsMarkedNumber faces.cells marks r j → AreChained admitted q r
   chain_from q r i [] j n e k = record { chain = []; joins = same_cell q r i j n k e }
   chain_from q r i (m ∷ path) j n p k =
       let c = marked_cell m p.0.second_marked in
@@ -284,10 +285,11 @@ module _ (s : List ℕ) (faces : FaceLists) (alpha : ℕ) (labels : List ℕ) (g
   number_in q numbers i = mapped_from (cell_at faces.cells) (Full q) numbers i
 
   -- cells that share a triple have one label
-  alike : (q c : List ℕ) (i m : ℕ) → IsNumberOf faces.cells marks q i → IsNumberOf faces.cells marks c m →
+  alike : (q c : List ℕ) (i m : ℕ) → IsMarkedNumber faces.cells marks q i → IsMarkedNumber faces.cells marks c m →
       ShareTriple q c → AreTogether labels i m
   alike q c i m n k t =
-      let listed = λ (x : List ℕ) (y : ℕ) (z : IsNumberOf faces.cells marks x y). subst (IsIn (Full x)) g.faces_of.cells
+      let listed = λ (x : List ℕ) (y : ℕ) (z : IsMarkedNumber faces.cells marks x y). subst (IsIn (Full x))
+      g.faces_of.cells
       (subst (λ (v : Cell). IsIn v faces.cells) z.cell (at_in faces.cells y (Full []) (number_below x y z))) in
       let part = part_is_listed 3 (complex s) t.0 (record { q = q; listed = listed q i n; part = t.1 }) in
       let face = mapped_true (λ x. (x, cells_with x (complex s))) t.0 (parts_in 3 (complex s)) part in
@@ -302,14 +304,14 @@ module _ (s : List ℕ) (faces : FaceLists) (alpha : ℕ) (labels : List ℕ) (g
       (has_around t.0 c (listed c m k) t.2)) in
       let first = same_number q i u.0 n u.2 (below a u.0 u.1) in
       let second = same_number c m v.0 k v.2 (below a v.0 v.1) in
-      ap (label_at labels) first ∙ a.alike u.0 v.0 u.1 v.1 (subst (IsMarked marks) first n.marked)
-      (subst (IsMarked marks) second k.marked) ∙ ap (label_at labels) (sym second)
+      ap (label_at labels) first ∙ a.alike u.0 v.0 u.1 v.1 (subst (IsMarkedAt marks) first n.marked)
+      (subst (IsMarkedAt marks) second k.marked) ∙ ap (label_at labels) (sym second)
     where
-      below : {f : List ℕ × List Cell} → (a : AreAlike faces marks labels f) → (u : ℕ) → IsIn u a.numbers →
+      below : {f : List ℕ × List Cell} → (a : HaveOneLabel faces marks labels f) → (u : ℕ) → IsIn u a.numbers →
           u < length faces.cells
       below a u i = each_of_all (λ n. n < length faces.cells) a.numbers a.below u i
 
-      same_number : (x : List ℕ) (y z : ℕ) → IsNumberOf faces.cells marks x y → cell_at faces.cells z ≡ Full x →
+      same_number : (x : List ℕ) (y z : ℕ) → IsMarkedNumber faces.cells marks x y → cell_at faces.cells z ≡ Full x →
           z < length faces.cells → y ≡ z
       same_number x y z n e l =
           let l2 = number_below x y n in
@@ -320,10 +322,10 @@ module _ (s : List ℕ) (faces : FaceLists) (alpha : ℕ) (labels : List ℕ) (g
           }) l2 l
 
   -- so do those that a chain joins
-  pub alike_along : (q r : List ℕ) (chain : List (List ℕ)) (i j : ℕ) → IsNumberOf faces.cells marks q i →
-      IsNumberOf faces.cells marks r j → IsChain admitted q chain r → AreTogether labels i j
+  pub alike_along : (q r : List ℕ) (chain : List (List ℕ)) (i j : ℕ) → IsMarkedNumber faces.cells marks q i →
+      IsMarkedNumber faces.cells marks r j → IsChain admitted q chain r → AreTogether labels i j
   alike_along q r [] i j n k e = ap (label_at labels) (one_number faces.cells marks r i j sorted
-      (subst (λ (v : List ℕ). IsNumberOf faces.cells marks v i) e n) k (number_below q i n) (number_below r j k))
+      (subst (λ (v : List ℕ). IsMarkedNumber faces.cells marks v i) e n) k (number_below q i n) (number_below r j k))
   alike_along q r (c ∷ chain) i j n k t =
       let m = numbered_from c t.0 in
       alike q c i m.0 n m.2 t.1 ∙ alike_along c r chain m.0 j m.2 k t.2
@@ -332,9 +334,9 @@ module _ (s : List ℕ) (faces : FaceLists) (alpha : ℕ) (labels : List ℕ) (g
 
   -- so what is gathered by right labels is the parts of the admitted cells
   are_parts : (parts : List (List (List ℕ))) → AreLabels faces marks (length faces.triples) labels
-      → IsGathered faces.cells marks labels (length faces.cells) parts → AreParts admitted parts
+      → IsGathered faces.cells marks labels (length faces.cells) parts → AreSolidParts admitted parts
   are_parts parts labelled d = record {
-    once = distinct_flat parts (λ p l. distinct_in_order (part_at parts p) (d.ordered p l)) d.once;
+    once = distinct_flat parts (λ p l. distinct_in_order (cells_at_place parts p) (d.ordered p l)) d.once;
     all = λ q. (
       λ i.
           let f = flat_from (λ v. v) parts q i in
@@ -344,7 +346,7 @@ module _ (s : List ℕ) (faces : FaceLists) (alpha : ℕ) (labels : List ℕ) (g
       λ i.
           let n = numbered_from q i in
           let o = d.put n.0 q n.1 n.2 in
-          in_flat (λ v. v) parts (part_at parts o.0) q (at_in parts o.0 [] o.1) o.2,
+          in_flat (λ v. v) parts (cells_at_place parts o.0) q (at_in parts o.0 [] o.1) o.2,
     );
     joined = λ part q r m i j.
         let p = place_of parts part [] m in
@@ -368,9 +370,9 @@ module _ (s : List ℕ) (faces : FaceLists) (alpha : ℕ) (labels : List ℕ) (g
 pub parts_are : (s : List ℕ) (faces : FaceLists) (alpha : ℕ) (labels : List ℕ) (parts : List (List (List ℕ))) →
     AreFacesOf s faces → AreLabels faces (map (is_small_cell alpha) faces.cells) (length faces.triples) labels
     → IsGathered faces.cells (map (is_small_cell alpha) faces.cells) labels (length faces.cells) parts →
-    AreParts (shape_of s alpha).cells parts
+    AreSolidParts (shape_of s alpha).cells parts
 parts_are s faces alpha labels parts h l d =
-    subst (λ (v : List (List ℕ)). AreParts v parts) (cells_are s faces alpha h)
+    subst (λ (v : List (List ℕ)). AreSolidParts v parts) (cells_are s faces alpha h)
     (are_parts s faces alpha labels (record { faces_of = h; joined = l.joined }) parts l d)
 
 -- what holds of an answer where there is one

@@ -60,20 +60,21 @@ pub record IsMerged (i j : ℕ) (labels : List ℕ) (apart : Bool) (leads : List
   pub same : apart ≡ false → AreTogether labels i j
 
 -- a number is marked
-abbrev pub IsMarked : List Bool → ℕ → Type 0
-IsMarked marks i = slice_index_or marks i false ≡ true
+abbrev pub IsMarkedAt : List Bool → ℕ → Type 0
+IsMarkedAt marks i = slice_index_or marks i false ≡ true
 
 -- a number was in one group with a marked number of a list
-abbrev pub Reaches : List ℕ → List Bool → List ℕ → ℕ → Type 0
-Reaches labels marks numbers i = (u : ℕ) × IsIn u numbers × IsMarked marks u × AreTogether labels i u
+abbrev pub MeetsMarked : List ℕ → List Bool → List ℕ → ℕ → Type 0
+MeetsMarked labels marks numbers i = (u : ℕ) × IsIn u numbers × IsMarkedAt marks u × AreTogether labels i u
 
 -- The groups that the marked numbers of a list reach are one from now on, and nothing else changes.
 pub record AreJoinedAll (marks : List Bool) (numbers old new : List ℕ) : Type 0 where
   pub count : length new ≡ length old
   pub kept : (i j : ℕ) → i < length old → j < length old → AreTogether old i j → AreTogether new i j
-  pub joined : (u v : ℕ) → IsIn u numbers → IsIn v numbers → IsMarked marks u → IsMarked marks v → AreTogether new u v
+  pub joined : (u v : ℕ) → IsIn u numbers → IsIn v numbers → IsMarkedAt marks u → IsMarkedAt marks v →
+      AreTogether new u v
   pub only : (i j : ℕ) → i < length old → j < length old → AreTogether new i j →
-      AreTogether old i j ⊎ (Reaches old marks numbers i × Reaches old marks numbers j)
+      AreTogether old i j ⊎ (MeetsMarked old marks numbers i × MeetsMarked old marks numbers j)
   pub among : (i : ℕ) → i < length old → (j : ℕ) × (j < length old) × (label_at new i ≡ label_at old j)
 
 -- The numbers lead to such labels.

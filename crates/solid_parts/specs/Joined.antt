@@ -14,6 +14,6 @@ IsChain cells q [] r = q ≡ r
 IsChain cells q (c ∷ chain) r = IsIn c cells × ShareTriple q c × IsChain cells c chain r
 
 -- A chain of cells of the list joins two cells.
-pub record AreJoined (cells : List (List ℕ)) (q r : List ℕ) : Type 0 where
+pub record AreChained (cells : List (List ℕ)) (q r : List ℕ) : Type 0 where
   pub chain : List (List ℕ)
   pub joins : IsChain cells q chain r

@@ -4,7 +4,7 @@ use Rattle.point_order.specs.declared.cell.Cell.{Cell}
 use Rattle.list_laws.specs.Lists.{IsIn}
 use Rattle.face_list.specs.Seen.{FaceLists}
 use Rattle.face_list.specs.Tables.{cell_at, numbered}
-use Rattle.solid_parts.specs.Groups.{AreTogether, IsMarked, label_at}
+use Rattle.solid_parts.specs.Groups.{AreTogether, IsMarkedAt, label_at}
 
 -- two marked cells, told by their numbers, share a triple that is listed
 pub record AreBeside (faces : FaceLists) (marks : List Bool) (i j : ℕ) : Type 0 where
@@ -12,8 +12,8 @@ pub record AreBeside (faces : FaceLists) (marks : List Bool) (i j : ℕ) : Type 
   pub listed : IsIn triple faces.triples
   pub first : IsIn (cell_at faces.cells i) triple.1
   pub second : IsIn (cell_at faces.cells j) triple.1
-  pub first_marked : IsMarked marks i
-  pub second_marked : IsMarked marks j
+  pub first_marked : IsMarkedAt marks i
+  pub second_marked : IsMarkedAt marks j
 
 -- numbers of cells lead from one to another, each beside the one before it
 abbrev pub IsPath : FaceLists → List Bool → ℕ → List ℕ → ℕ → Type 0
@@ -21,12 +21,12 @@ IsPath faces marks i [] j = i ≡ j
 IsPath faces marks i (m ∷ path) j = AreBeside faces marks i m × IsPath faces marks m path j
 
 -- The numbers are those of the cells around a triple, and all marked ones have one label.
-pub record AreAlike (faces : FaceLists) (marks : List Bool) (labels : List ℕ) (triple : List ℕ × List Cell) : Type 0
+pub record HaveOneLabel (faces : FaceLists) (marks : List Bool) (labels : List ℕ) (triple : List ℕ × List Cell) : Type 0
   where
     pub numbers : List ℕ
     pub around : numbered faces.cells numbers ≡ triple.1
     pub below : All (λ n. n < length faces.cells) numbers
-    pub alike : (u v : ℕ) → IsIn u numbers → IsIn v numbers → IsMarked marks u → IsMarked marks v →
+    pub alike : (u v : ℕ) → IsIn u numbers → IsIn v numbers → IsMarkedAt marks u → IsMarkedAt marks v →
         AreTogether labels u v
 
 -- Where the first k triples are done: marked cells around one of them have one label, and where two cells have one
@@ -34,6 +34,6 @@ pub record AreAlike (faces : FaceLists) (marks : List Bool) (labels : List ℕ) 
 pub record AreLabels (faces : FaceLists) (marks : List Bool) (k : ℕ) (labels : List ℕ) : Type 0 where
   pub count : length labels ≡ length faces.cells
   pub below : (i : ℕ) → i < length labels → label_at labels i < length faces.cells
-  pub joined : (t : ℕ) → t < k → AreAlike faces marks labels (slice_index_or faces.triples t ([], []))
+  pub joined : (t : ℕ) → t < k → HaveOneLabel faces marks labels (slice_index_or faces.triples t ([], []))
   pub only : (i j : ℕ) → i < length faces.cells → j < length faces.cells → AreTogether labels i j →
       (path : List ℕ) × IsPath faces marks i path j

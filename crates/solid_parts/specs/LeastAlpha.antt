@@ -2,7 +2,7 @@
 use Rattle.std.specs.Prelude.{◌≤◌, ◌<◌, ◌^◌, ◌↔◌, ℕ, List, length, Option, None, Some}
 use Rattle.point_order.specs.Sets.{IsIn}
 use Rattle.alpha_complex.specs.Shapes.{shape_of}
-use Rattle.solid_parts.specs.Parts.{AreParts}
+use Rattle.solid_parts.specs.Parts.{AreSolidParts}
 
 -- an admitted cell has the point
 abbrev pub IsCovered : List ℕ → ℕ → ℕ → Type 0
@@ -16,7 +16,7 @@ IsStart s alpha start = (start ≤ alpha) ↔ ((p : ℕ) → IsIn p s → IsCove
 pub record IsCompact (s : List ℕ) (k alpha : ℕ) : Type 0 where
   pub covered : (p : ℕ) → IsIn p s → IsCovered s alpha p
   pub parts : List (List (List ℕ))
-  pub are_parts : AreParts (shape_of s alpha).cells parts
+  pub are_parts : AreSolidParts (shape_of s alpha).cells parts
   pub few : length parts ≤ k
 
 -- the least alpha at which that holds, or none

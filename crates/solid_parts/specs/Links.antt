@@ -11,8 +11,8 @@ use Rattle.solid_parts.specs.declared.climb.Climb.{Climb}
 use Rattle.solid_parts.specs.Groups.{AreTogether, LeadTo, label_at}
 
 -- two cells by their numbers, and the least alpha at which both are admitted
-abbrev pub link_of : List ℕ → ℕ → ℕ → Link
-link_of leasts u v = record { alpha = max (label_at leasts u) (label_at leasts v); one = u; other = v }
+abbrev pub link_between : List ℕ → ℕ → ℕ → Link
+link_between leasts u v = record { alpha = max (label_at leasts u) (label_at leasts v); one = u; other = v }
 
 -- the link of an index
 abbrev pub link_at : List Link → ℕ → Link
@@ -21,15 +21,15 @@ link_at links t = slice_index_or links t (record { alpha = 0; one = 0; other = 0
 -- the link of each number of one list with each greater one of another is among some links
 abbrev pub HasLinks : List ℕ → List ℕ → List ℕ → List Link → Type 0
 HasLinks leasts ones others links =
-    (u v : ℕ) → IsIn u ones → IsIn v others → u < v → IsIn (link_of leasts u v) links
+    (u v : ℕ) → IsIn u ones → IsIn v others → u < v → IsIn (link_between leasts u v) links
 
 -- the links that were there are there
-abbrev pub Keeps : List Link → List Link → Type 0
-Keeps old new = (l : Link) → IsIn l old → IsIn l new
+abbrev pub KeepsLinks : List Link → List Link → Type 0
+KeepsLinks old new = (l : Link) → IsIn l old → IsIn l new
 
 -- both cells of each link are below a count
-abbrev pub AreBelow : ℕ → List Link → Type 0
-AreBelow count links = All (λ l. (l.one < count) × (l.other < count)) links
+abbrev pub AreLinksBelow : ℕ → List Link → Type 0
+AreLinksBelow count links = All (λ l. (l.one < count) × (l.other < count)) links
 
 -- The numbers are those of the cells around a triple, and the links between them are there.
 pub record IsLinked (faces : FaceLists) (leasts : List ℕ) (links : List Link)
@@ -57,8 +57,8 @@ pub record IsClimbed (links : List Link) (climb : Climb) (labels : List ℕ) : T
   pub counted : length labels ≤ own_count labels + climb.merges
 
 -- no more was taken than there is, and no more merged than taken
-abbrev pub IsWithin : List Link → Climb → Type 0
-IsWithin links climb = (climb.next ≤ length links) × (climb.merges ≤ climb.next)
+abbrev pub IsBounded : List Link → Climb → Type 0
+IsBounded links climb = (climb.next ≤ length links) × (climb.merges ≤ climb.next)
 
 -- Numbers lead to labels of the links that were taken.
 pub record ClimbsTo (links : List Link) (climb : Climb) (leads : List ℕ) : Type 0 where
@@ -67,8 +67,8 @@ pub record ClimbsTo (links : List Link) (climb : Climb) (leads : List ℕ) : Typ
   pub climbed : IsClimbed links climb labels
 
 -- no link is left whose alpha is at most a number
-abbrev pub IsPast : List Link → Climb → ℕ → Type 0
-IsPast links climb alpha = (t : ℕ) → climb.next ≤ t → t < length links → alpha < (link_at links t).alpha
+abbrev pub IsExhausted : List Link → Climb → ℕ → Type 0
+IsExhausted links climb alpha = (t : ℕ) → climb.next ≤ t → t < length links → alpha < (link_at links t).alpha
 
 -- how many numbers are at most one
 abbrev pub count_to : List ℕ → ℕ → ℕ

@@ -3,7 +3,15 @@
 ghost use Rattle.std.specs.Prelude.{◌≡◌, ◌≤◌, ℕ, List, length};
 ghost use Rattle.std.specs.List.Sorted.{IsNonDecreasingBy};
 ghost use Rattle.solid_parts.specs.Groups.{LeadDown, LeadTo};
-ghost use Rattle.solid_parts.specs.Links.{AreBelow, ClimbsTo, IsClimbed, IsPast, IsWithin, Rise, count_to as count_of};
+ghost use Rattle.solid_parts.specs.Links.{
+  AreLinksBelow,
+  ClimbsTo,
+  IsClimbed,
+  IsExhausted,
+  IsBounded,
+  Rise,
+  count_to as count_of,
+};
 
 use crate::groups::merge;
 use crate::links::Link;
@@ -19,15 +27,15 @@ pub struct Climb {
 
 /// Joins the cells of the links that are left whose alpha is at most a number.
 pub fn climb_to(leads: &mut [u32], links: &[Link], climb: Climb, alpha: u64) -> Climb
-    requires within { IsWithin links.now climb }
-    requires below { AreBelow (length leads.old) links.now }
+    requires within { IsBounded links.now climb }
+    requires below { AreLinksBelow (length leads.old) links.now }
     requires rise { Rise links.now }
     requires down { LeadDown leads.old }
-    ensures within { IsWithin links.now result }
+    ensures within { IsBounded links.now result }
     ensures down { LeadDown leads.new }
     ensures climbs { (labels : List ℕ) → LeadTo leads.old labels → IsClimbed links.now climb labels →
         ClimbsTo links.now result leads.new }
-    ensures past { IsPast links.now result alpha }
+    ensures past { IsExhausted links.now result alpha }
 {
     let mut now = climb;
     while now.next < links.len() && links[now.next].alpha <= alpha {

@@ -5,7 +5,7 @@ ghost use Rattle.std.specs.List.Sorted.{IsStrictlySortedBy};
 ghost use Rattle.point_order.specs.CellOrder.{cell_cmp};
 ghost use Rattle.face_list.specs.Tables.{cell_at};
 ghost use Rattle.alpha_complex.specs.Slots.{marked_cell};
-ghost use Rattle.solid_parts.specs.Gathered.{IsGathered, IsPut, place_at};
+ghost use Rattle.solid_parts.specs.Gathered.{IsGathered, IsGroupedIn, place_at};
 ghost use Rattle.solid_parts.specs.Groups.{AreLabelsBelow};
 ghost use Rattle.solid_parts.specs.Seen.{parts_seen};
 
@@ -31,7 +31,7 @@ fn put_cell(
 ) -> Result<(), AllocError>
     requires label { label < length places.old.items }
     requires place { (p : ℕ) → place_at places.old.items label ≡ Some p → p < length parts.old.items }
-    ensures { OnOk result (IsPut label quad places.old.items places.new.items (parts_seen parts.old.items)
+    ensures { OnOk result (IsGroupedIn label quad places.old.items places.new.items (parts_seen parts.old.items)
         (parts_seen parts.new.items)) }
 {
     match place_of(places, label) {

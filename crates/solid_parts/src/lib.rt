@@ -23,7 +23,7 @@ ghost use Rattle.alpha_complex.specs.Shapes.{shape_of};
 ghost use Rattle.point_order.specs.Complex.{complex};
 ghost use Rattle.solid_parts.specs.Boundary.{boundary_of};
 ghost use Rattle.solid_parts.specs.LeastAlpha.{IsCompact, IsLeastAlpha, IsStart};
-ghost use Rattle.solid_parts.specs.Parts.{AreParts};
+ghost use Rattle.solid_parts.specs.Parts.{AreSolidParts};
 ghost use Rattle.solid_parts.specs.Seen.{parts_seen};
 ghost use Rattle.solid_parts.specs.Text.{size_of};
 
@@ -69,7 +69,7 @@ pub fn parts(alloc: Global, faces: &Faces, alpha: u64) -> Result<Vec<Part>, Allo
     requires faces { AreFaces faces.now }
     requires alpha { alpha < 2 ^ 34 }
     ensures { IfOk result (λ parts. (s : List ℕ) → AreFacesOf s faces.now →
-        AreParts (shape_of s alpha).cells (parts_seen parts.items)) }
+        AreSolidParts (shape_of s alpha).cells (parts_seen parts.items)) }
 {
     let marks = marks_of(alloc, faces.cells(), alpha)?;
     let labels = labels_of(alloc, faces, &marks)?;

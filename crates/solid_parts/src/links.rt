@@ -2,7 +2,7 @@
 
 ghost use Rattle.std.specs.Prelude.{◌≡◌, ◌∷◌, ◌<◌, [], All, length, IfOk, OnOk};
 ghost use Rattle.solid_parts.specs.Groups.{label_at};
-ghost use Rattle.solid_parts.specs.Links.{AreBelow, AreLinked, HasLinks, Keeps, Rise, link_of};
+ghost use Rattle.solid_parts.specs.Links.{AreLinksBelow, AreLinked, HasLinks, KeepsLinks, Rise, link_between};
 
 use crate::labels::around;
 use crate::least::greater;
@@ -32,7 +32,7 @@ fn least_at(leasts: &[u64], number: u32) -> u64
 fn between(leasts: &[u64], one: u32, other: u32) -> Link
     requires one { one < length leasts.now }
     requires other { other < length leasts.now }
-    ensures { result ≡ link_of leasts.now one other }
+    ensures { result ≡ link_between leasts.now one other }
 {
     let alpha = greater(least_at(leasts, one), least_at(leasts, other));
     Link { alpha, one, other }
@@ -47,10 +47,10 @@ fn put_links_of(
 ) -> Result<(), AllocError>
     requires one { one < length leasts.now }
     requires others { All (λ n. n < length leasts.now) others.now }
-    requires below { AreBelow (length leasts.now) links.old.items }
-    ensures keeps { OnOk result (Keeps links.old.items links.new.items) }
+    requires below { AreLinksBelow (length leasts.now) links.old.items }
+    ensures keeps { OnOk result (KeepsLinks links.old.items links.new.items) }
     ensures has { OnOk result (HasLinks leasts.now (one ∷ []) others.now links.new.items) }
-    ensures below { OnOk result (AreBelow (length leasts.now) links.new.items) }
+    ensures below { OnOk result (AreLinksBelow (length leasts.now) links.new.items) }
 {
     for other in others {
         if one < *other {
@@ -63,10 +63,10 @@ fn put_links_of(
 // Puts the links between the cells around a triple.
 fn put_links_around(links: &mut Vec<Link>, leasts: &[u64], around: &[u32]) -> Result<(), AllocError>
     requires around { All (λ n. n < length leasts.now) around.now }
-    requires below { AreBelow (length leasts.now) links.old.items }
-    ensures keeps { OnOk result (Keeps links.old.items links.new.items) }
+    requires below { AreLinksBelow (length leasts.now) links.old.items }
+    ensures keeps { OnOk result (KeepsLinks links.old.items links.new.items) }
     ensures has { OnOk result (HasLinks leasts.now around.now around.now links.new.items) }
-    ensures below { OnOk result (AreBelow (length leasts.now) links.new.items) }
+    ensures below { OnOk result (AreLinksBelow (length leasts.now) links.new.items) }
 {
     for one in around {
         put_links_of(links, leasts, *one, around)?;
@@ -78,7 +78,7 @@ fn put_links_around(links: &mut Vec<Link>, leasts: &[u64], around: &[u32]) -> Re
 fn all_links(alloc: Global, faces: &Faces, leasts: &[u64]) -> Result<Vec<Link>, AllocError>
     requires { length leasts.now ≡ length faces.now.cells }
     ensures linked { IfOk result (λ links. AreLinked faces.now leasts.now (length faces.now.triples) links.items) }
-    ensures below { IfOk result (λ links. AreBelow (length leasts.now) links.items) }
+    ensures below { IfOk result (λ links. AreLinksBelow (length leasts.now) links.items) }
 {
     let mut links = Vec::new(alloc);
     for index in 0..faces.triples().len() {
@@ -94,7 +94,7 @@ fn all_links(alloc: Global, faces: &Faces, leasts: &[u64]) -> Result<Vec<Link>, 
 pub fn links_of(alloc: Global, faces: &Faces, leasts: &[u64]) -> Result<Vec<Link>, AllocError>
     requires { length leasts.now ≡ length faces.now.cells }
     ensures linked { IfOk result (λ links. AreLinked faces.now leasts.now (length faces.now.triples) links.items) }
-    ensures below { IfOk result (λ links. AreBelow (length leasts.now) links.items) }
+    ensures below { IfOk result (λ links. AreLinksBelow (length leasts.now) links.items) }
     ensures rise { IfOk result (λ links. Rise links.items) }
 {
     let mut links = all_links(alloc, faces, leasts)?;

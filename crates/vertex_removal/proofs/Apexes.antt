@@ -61,7 +61,7 @@ use Rattle.del_laws.proofs.Cited.{
   orientation_same23,
   out_is,
 }
-use Rattle.vertex_removal.specs.Wraps.{leader_of, IsApex, Leads}
+use Rattle.vertex_removal.specs.Wraps.{leader_of, IsApex, LeadsAbove}
 
 -- ---- points above a plane
 
@@ -147,8 +147,8 @@ cell_point t a b c d h e m =
 
 module _ (t met : List ℕ) (a b c : ℕ) (within : (x : ℕ) → IsIn x met → IsIn x t) (e : ℕ) (here : IsIn e t) where
   -- a point that is met but is not above leaves the one that leads
-  pub next_below : (o : Option ℕ) → ¬ (pos 0 <ℤ orientation a b c e) → Leads t met a b c o →
-      Leads t (met ++ e ∷ []) a b c o
+  pub next_below : (o : Option ℕ) → ¬ (pos 0 <ℤ orientation a b c e) → LeadsAbove t met a b c o →
+      LeadsAbove t (met ++ e ∷ []) a b c o
   next_below None n l = λ y m h. elim (from_append y met (e ∷ []) m) [
     | inl k ↦ l y k h
     | inr k ↦ elim k [ inl q ↦ n (subst (λ (x : ℕ). pos 0 <ℤ orientation a b c x) (sym q) h) | inr none ↦ none ]
@@ -193,8 +193,9 @@ module _ (t met : List ℕ) (a b c : ℕ) (within : (x : ℕ) → IsIn x met →
     }
 
     -- a point above
-    pub next_above : (o : Option ℕ) → IfSome o (λ d. (pos 0 <ℤ orientation a b c d) × (d ≢ e)) → Leads t met a b c o →
-        Leads t (met ++ e ∷ []) a b c (Some (leader_of a b c o e))
+    pub next_above : (o : Option ℕ) → IfSome o (λ d. (pos 0 <ℤ orientation a b c d) × (d ≢ e)) →
+        LeadsAbove t met a b c o →
+        LeadsAbove t (met ++ e ∷ []) a b c (Some (leader_of a b c o e))
     next_above None n l = takes (λ y m h f. l y m h)
     next_above (Some d) n l = by (is_outside a b c d e) refl
       where
@@ -212,7 +213,7 @@ module _ (t met : List ℕ) (a b c : ℕ) (within : (x : ℕ) → IsIn x met →
             (none_of a b c d e high (λ x. apart (sym x)))) q))
 
 -- the one that leads is another than a point that was not met
-pub lead_apart : (t met : List ℕ) (a b c : ℕ) (o : Option ℕ) (e : ℕ) → Leads t met a b c o → ¬ (IsIn e met) →
+pub lead_apart : (t met : List ℕ) (a b c : ℕ) (o : Option ℕ) (e : ℕ) → LeadsAbove t met a b c o → ¬ (IsIn e met) →
     IfSome o (λ d. (pos 0 <ℤ orientation a b c d) × (d ≢ e))
 lead_apart t met a b c None e l n = tt
 lead_apart t met a b c (Some d) e l n = (l.above, λ q. n (subst (λ (x : ℕ). IsIn x met) q l.inside))

@@ -10,11 +10,11 @@ use Rattle.point_order.specs.Sets.{IsIn}
 use Rattle.hole_laws.specs.Edits.{IsSet}
 use Rattle.cell_store.specs.Others.{IsOtherOf}
 use Rattle.cell_conflict.proofs.Cited.{one_of_two}
-use Rattle.vertex_removal.specs.Near.{AreAdded, IsOneOf, IsOfOne}
+use Rattle.vertex_removal.specs.Near.{AreAdded, IsListedOf, IsOfOne}
 
 module _ (s : List ℕ) (v : ℕ) where
   -- where nothing was crossed, nothing needs to be added
-  pub none_crossed : (cell : Cell) (old : List Cell) → AreAdded s v (IsOneOf cell []) old old
+  pub none_crossed : (cell : Cell) (old : List Cell) → AreAdded s v (IsListedOf cell []) old old
   none_crossed cell old = record { kept = λ c m. m; listed = λ c m. inl m; across = λ here f c r o n. absurd r.1 }
 
   -- a list with nothing added is itself
@@ -36,8 +36,8 @@ module _ (s : List ℕ) (v : ℕ) where
     ]
 
     -- the cell across the next facet is added
-    pub one_added : (old now : List Cell) → AreAdded s v (IsOneOf cell (take n facets)) old now →
-        AreAdded s v (IsOneOf cell (take (n + 1) facets)) old (now ++ other ∷ [])
+    pub one_added : (old now : List Cell) → AreAdded s v (IsListedOf cell (take n facets)) old now →
+        AreAdded s v (IsListedOf cell (take (n + 1) facets)) old (now ++ other ∷ [])
     one_added old now a = record {
       kept = λ c m. in_left c now (other ∷ []) (a.kept c m);
       listed = λ c m. elim (from_append c now (other ∷ []) m) [
@@ -53,7 +53,8 @@ module _ (s : List ℕ) (v : ℕ) where
 
     -- or it has v
     pub one_passed : (old now : List Cell) → IsIn v (points_of other) →
-        AreAdded s v (IsOneOf cell (take n facets)) old now → AreAdded s v (IsOneOf cell (take (n + 1) facets)) old now
+        AreAdded s v (IsListedOf cell (take n facets)) old now → AreAdded s v (IsListedOf cell (take (n + 1) facets))
+        old now
     one_passed old now has a = record {
       kept = a.kept;
       listed = a.listed;
@@ -68,7 +69,7 @@ module _ (s : List ℕ) (v : ℕ) where
   -- one more cell is met
   pub one_met : (star : List Cell) (n : ℕ) (cell : Cell) (old now new : List Cell) → n < length star →
       cell ≡ slice_index_or star n cell → AreAdded s v (IsOfOne (take n star)) old now →
-      AreAdded s v (IsOneOf cell (facets_of cell)) now new → AreAdded s v (IsOfOne (take (n + 1) star)) old new
+      AreAdded s v (IsListedOf cell (facets_of cell)) now new → AreAdded s v (IsOfOne (take (n + 1) star)) old new
   one_met star n cell old now new h is a b = record {
     kept = λ c m. b.kept c (a.kept c m);
     listed = λ c m. elim (b.listed c m) [ inl k ↦ a.listed c k | inr k ↦ inr k ];

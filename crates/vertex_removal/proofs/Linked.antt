@@ -11,7 +11,7 @@ use Rattle.del_laws.proofs.Cited.{listed_inside, listed_is_cell}
 use Rattle.hole_laws.specs.Lists.{AreJoined}
 use Rattle.hole_laws.specs.Edits.{IsSet, IsLinkSet, IsPointAcross}
 use Rattle.hole_laws.proofs.Cited.{solid_near, without_true}
-use Rattle.vertex_removal.specs.Near.{IsStar, HasPoint, ArePointsBut, AreAdded, IsOfOne}
+use Rattle.vertex_removal.specs.Near.{IsStar, SomeHasPoint, ArePointsBut, AreAdded, IsOfOne}
 
 module _ (s : List ℕ) (v : ℕ) (i : IsSet s) (m : IsIn v s) (star : List Cell) (k : IsStar s v star) (cells : List Cell)
     (listed : (c : Cell) → IsIn c cells → IsIn c (complex s)) (among : (c : Cell) → IsIn c star → IsIn c cells)
@@ -40,7 +40,8 @@ module _ (s : List ℕ) (v : ℕ) (i : IsSet s) (m : IsIn v s) (star : List Cell
   }
 
   -- and with the points across they are solid where the rest is
-  pub rest_flat : ((e : ℕ) → IsPointAcross s v e → HasPoint cells e) → is_solid t ≡ false → is_solid (without_point v s)
+  pub rest_flat : ((e : ℕ) → IsPointAcross s v e → SomeHasPoint cells e) → is_solid t ≡ false →
+      is_solid (without_point v s)
       ≡ false
   rest_flat across h =
       false_if (is_solid (without_point v s)) (λ d. not_both (is_solid t)
@@ -49,7 +50,7 @@ module _ (s : List ℕ) (v : ℕ) (i : IsSet s) (m : IsIn v s) (star : List Cell
 
 -- the cells around have the points across
 pub has_across : (s : List ℕ) (v : ℕ) (star around : List Cell) → IsStar s v star →
-    AreAdded s v (IsOfOne star) star around → (e : ℕ) → IsPointAcross s v e → HasPoint around e
+    AreAdded s v (IsOfOne star) star around → (e : ℕ) → IsPointAcross s v e → SomeHasPoint around e
 has_across s v star around k a e x = record {
   cell = x.there;
   among = a.across x.here x.f x.there ((k x.here).1 (x.here_listed, x.here_has), x.of_here)

@@ -11,12 +11,12 @@ use Rattle.cell_store.specs.Ready.{AreHeld}
 use Rattle.cell_store.specs.Missing.{IsCellMissing}
 use Rattle.vertex_removal.specs.Near.{IsStar, AreTaken}
 use Rattle.vertex_removal.specs.Refills.{IsRefilled}
-use Rattle.vertex_removal.specs.Turns.{IsNeeded, NoneIsNeeded}
+use Rattle.vertex_removal.specs.Turns.{IsNeededAround, NoneIsNeededAround}
 use Rattle.vertex_removal.proofs.Holes.{hole_filled, fresh_held}
 
 -- a bucket that is missing for the cells at v is needed
 pub star_needs : (hold : InHand) (s : List ℕ) (v : ℕ) (star : List Cell) (b : ℕ) → IsStar s v star →
-    IsCellMissing hold star b → IsNeeded hold s v b
+    IsCellMissing hold star b → IsNeededAround hold s v b
 star_needs hold s v star b k m =
     let r = (k m.cell).0 m.among in
     record {
@@ -31,7 +31,7 @@ star_needs hold s v star b k m =
 
 -- and where none is missing, none is
 pub none_needed : (hold : InHand) (s : List ℕ) (v : ℕ) (star : List Cell) → IsStar s v star → AreHeld hold star →
-    NoneIsNeeded hold s v
+    NoneIsNeededAround hold s v
 none_needed hold s v star k held b n =
     none_there (bucket_at hold.places b) n.absent (subst (λ (x : ℕ). IsSome (bucket_at hold.places x)) (sym n.number)
     (held n.cell ((k n.cell).1 (n.listed, n.has_v)) n.point n.has))
@@ -39,7 +39,8 @@ none_needed hold s v star k held b n =
 -- when the hole is filled
 pub refill_done : (hold : InHand) (s : List ℕ) (v : ℕ) (t : List ℕ) (star fresh : List Cell) → IsSet s → IsIn v s →
     IsLinkSet s v t → IsStar s v star → AreDistinct star → AreHeld hold star →
-    AreTaken t v fresh → NoneIsNeeded hold s v × IsRefilled s v star fresh × AreHeld hold star × AreHeld hold fresh
+    AreTaken t v fresh → NoneIsNeededAround hold s v × IsRefilled s v star fresh × AreHeld hold star
+    × AreHeld hold fresh
 refill_done hold s v t star fresh i m l k once held f =
     let r = hole_filled s v i m t l star fresh k once f in
     (none_needed hold s v star k held, r, held, fresh_held hold s v star fresh i m r held)

@@ -76,7 +76,7 @@ use Rattle.vertex_removal.specs.Wraps.{
   AreSidesOf,
   IsOpen,
   AreMet,
-  AreInOrder,
+  IsFacetOn,
   LeaderIsApex,
   OuterIsRim,
 }
@@ -87,7 +87,7 @@ use Rattle.vertex_removal.proofs.Apexes.{cell_above, cell_point}
 
 module _ (t : List ℕ) (i : IsSet t) where
   -- the one that leads makes a cell
-  apex_is : (f : Facet) (a b c d : ℕ) → AreInOrder f a b c → IsFacetIn (complex t) f → IsApex t t a b c d →
+  apex_is : (f : Facet) (a b c d : ℕ) → IsFacetOn f a b c → IsFacetIn (complex t) f → IsApex t t a b c d →
       is_full_cell t a b c d ≡ true
   apex_is f a b c d o m l =
       let r = cell_above t i.keys a b c over.last sides d l.inside l.above in

@@ -24,7 +24,7 @@ pub record ShowsStar (hold : InHand) (v : ℕ) (star : List Cell) : Type 0 where
   pub star_is : IsStar set v star
 
 -- one of the cells has the point
-pub record HasPoint (cells : List Cell) (e : ℕ) : Type 0 where
+pub record SomeHasPoint (cells : List Cell) (e : ℕ) : Type 0 where
   pub cell : Cell
   pub among : IsIn cell cells
   pub has : IsIn e (points_of cell)
@@ -32,7 +32,7 @@ pub record HasPoint (cells : List Cell) (e : ℕ) : Type 0 where
 -- exactly the points of the cells other than v, ascending
 pub record ArePointsBut (cells : List Cell) (v : ℕ) (points : List ℕ) : Type 0 where
   pub order : IsAscending points
-  pub points_are : (e : ℕ) → IsIn e points ↔ (HasPoint cells e × (e ≢ v))
+  pub points_are : (e : ℕ) → IsIn e points ↔ (SomeHasPoint cells e × (e ≢ v))
 
 -- To the old cells were added cells of the complex of s, and among them are all those without v that lie
 -- across one of the crossed facets of a cell.
@@ -43,8 +43,8 @@ pub record AreAdded (s : List ℕ) (v : ℕ) (Crossed : Cell → Facet → Type 
       ¬ (IsIn v (points_of c)) → IsIn c new
 
 -- the facets of one cell that are listed
-abbrev pub IsOneOf : Cell → List Facet → Cell → Facet → Type 0
-IsOneOf cell facets here f = (here ≡ cell) × IsIn f facets
+abbrev pub IsListedOf : Cell → List Facet → Cell → Facet → Type 0
+IsListedOf cell facets here f = (here ≡ cell) × IsIn f facets
 
 -- all facets of listed cells
 abbrev pub IsOfOne : List Cell → Cell → Facet → Type 0

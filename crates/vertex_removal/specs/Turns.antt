@@ -18,7 +18,7 @@ abbrev pub ShowsWithPoint : InHand → ℕ → Type 0
 ShowsWithPoint hold v = (s : List ℕ) × Shows hold s × IsIn v s
 
 -- bucket b is not in hand, and has a finite point of a cell at v
-pub record IsNeeded (hold : InHand) (s : List ℕ) (v b : ℕ) : Type 0 where
+pub record IsNeededAround (hold : InHand) (s : List ℕ) (v b : ℕ) : Type 0 where
   pub absent : bucket_at hold.places b ≡ None
   pub cell : Cell
   pub listed : IsIn cell (complex s)
@@ -28,24 +28,24 @@ pub record IsNeeded (hold : InHand) (s : List ℕ) (v b : ℕ) : Type 0 where
   pub number : b ≡ bucket_of hold.grid point
 
 -- there is no such bucket
-abbrev pub NoneIsNeeded : InHand → List ℕ → ℕ → Type 0
-NoneIsNeeded hold s v = (b : ℕ) → IsNeeded hold s v b → ⊥
+abbrev pub NoneIsNeededAround : InHand → List ℕ → ℕ → Type 0
+NoneIsNeededAround hold s v = (b : ℕ) → IsNeededAround hold s v b → ⊥
 
 -- Need: a bucket that is needed. Flat where none is needed and the set without v is not solid. Done
 -- where none is needed and it is solid; then there are the cells that go and those that come, and
 -- the buckets of all their points are in hand.
 abbrev pub RefillGives : InHand → List ℕ → ℕ → RefillTurn → Type 0
 RefillGives hold s v (Done f) =
-    NoneIsNeeded hold s v × IsRefilled s v f.gone.items f.fresh.items × AreHeld hold f.gone.items
+    NoneIsNeededAround hold s v × IsRefilled s v f.gone.items f.fresh.items × AreHeld hold f.gone.items
     × AreHeld hold f.fresh.items
-RefillGives hold s v Flat = NoneIsNeeded hold s v × (is_solid (without_point v s) ≡ false)
-RefillGives hold s v (Need b) = IsNeeded hold s v b
+RefillGives hold s v Flat = NoneIsNeededAround hold s v × (is_solid (without_point v s) ≡ false)
+RefillGives hold s v (Need b) = IsNeededAround hold s v b
 
 -- the number that is asked for is one of n buckets
-abbrev pub AsksBelow : ℕ → RefillTurn → Type 0
-AsksBelow n (Done f) = Unit {0}
-AsksBelow n Flat = Unit {0}
-AsksBelow n (Need b) = b < n
+abbrev pub RefillAsksBelow : ℕ → RefillTurn → Type 0
+RefillAsksBelow n (Done f) = Unit {0}
+RefillAsksBelow n Flat = Unit {0}
+RefillAsksBelow n (Need b) = b < n
 
 -- no bucket is asked for
 abbrev pub AsksNothing : RefillTurn → Type 0

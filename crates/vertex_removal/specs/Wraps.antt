@@ -47,9 +47,9 @@ pub record IsApex (t met : List ℕ) (a b c d : ℕ) : Type 0 where
   pub only : (y : ℕ) → IsIn y met → pos 0 <ℤ orientation a b c y → is_full_cell t a b c y ≡ true → y ≡ d
 
 -- where none leads, none of those that were met is above the plane
-abbrev pub Leads : List ℕ → List ℕ → ℕ → ℕ → ℕ → Option ℕ → Type 0
-Leads t met a b c None = (e : ℕ) → IsIn e met → ¬ (pos 0 <ℤ orientation a b c e)
-Leads t met a b c (Some d) = IsApex t met a b c d
+abbrev pub LeadsAbove : List ℕ → List ℕ → ℕ → ℕ → ℕ → Option ℕ → Type 0
+LeadsAbove t met a b c None = (e : ℕ) → IsIn e met → ¬ (pos 0 <ℤ orientation a b c e)
+LeadsAbove t met a b c (Some d) = IsApex t met a b c d
 
 -- ---- facets
 
@@ -101,7 +101,7 @@ pub record IsPlaceOf (sides : List Side) (f : Facet) (i : ℕ) : Type 0 where
   pub at : (d : Side) → (slice_index_or sides i d).facet ≡ f
 
 -- the facet is the triple of the three, which ascend, but that the last two may have changed places
-pub record AreInOrder (f : Facet) (a b c : ℕ) : Type 0 where
+pub record IsFacetOn (f : Facet) (a b c : ℕ) : Type 0 where
   pub low : ℕ
   pub high : ℕ
   pub is : f ≡ Three (a ∷ low ∷ high ∷ [])
@@ -114,7 +114,7 @@ pub record AreInOrder (f : Facet) (a b c : ℕ) : Type 0 where
 -- Where a point leads of all points of a set above a facet of its complex, the facet and the point are a cell of it.
 abbrev pub LeaderIsApex : Type 0
 LeaderIsApex =
-    (t : List ℕ) (f : Facet) (a b c d : ℕ) → IsSet t → AreInOrder f a b c → IsFacetIn (complex t) f →
+    (t : List ℕ) (f : Facet) (a b c d : ℕ) → IsSet t → IsFacetOn f a b c → IsFacetIn (complex t) f →
     IsApex t t a b c d →
     IsIn (Full (ascending (a ∷ b ∷ c ∷ d ∷ []))) (complex t)
 

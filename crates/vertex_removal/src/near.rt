@@ -13,7 +13,7 @@ ghost use Rattle.cell_store.specs.Buckets.{bucket_at};
 ghost use Rattle.cell_store.specs.Grids.{bucket_of};
 ghost use Rattle.cell_store.specs.Shares.{Shows, ShowsWith};
 ghost use Rattle.cell_store.specs.Missing.{ArePointsHeld};
-ghost use Rattle.vertex_removal.specs.Near.{IsStar, ShowsStar, ArePointsBut, AreAdded, IsOneOf, IsOfOne};
+ghost use Rattle.vertex_removal.specs.Near.{IsStar, ShowsStar, ArePointsBut, AreAdded, IsListedOf, IsOfOne};
 
 use cell_store::Hold;
 use edit_history::find_four;
@@ -136,7 +136,7 @@ fn add_across(hold: &Hold, cell: &Cell, v: Point, around: &mut Vec<Cell>) -> Res
     requires shown { ShowsWith hold.now cell.now }
     requires held { ArePointsHeld hold.now (points_of cell.now) }
     ensures { OnOk result ((s : List ℕ) → Shows hold.now s → IsIn cell.now (complex s) →
-        AreAdded s v (IsOneOf cell.now (facets_of cell.now)) around.old.items around.new.items) }
+        AreAdded s v (IsListedOf cell.now (facets_of cell.now)) around.old.items around.new.items) }
 {
     let facets = cell.facets();
     for facet in &facets {

@@ -6,7 +6,7 @@ ghost use Rattle.cell_store.specs.Grids.{bucket_of};
 ghost use Rattle.cell_store.specs.Meshes.{AllInHand};
 ghost use Rattle.cell_store.specs.Shares.{Shows};
 ghost use Rattle.vertex_removal.specs.Near.{AreTaken};
-ghost use Rattle.vertex_removal.specs.Turns.{ShowsWithPoint, RefillGives, AsksBelow, AsksNothing};
+ghost use Rattle.vertex_removal.specs.Turns.{ShowsWithPoint, RefillGives, RefillAsksBelow, AsksNothing};
 ghost use Rattle.vertex_removal.specs.Wraps.{IsHole};
 
 use crate::near::{cells_once, near_set, star_of};
@@ -87,7 +87,7 @@ impl Refill {
         requires held { IsSome (bucket_at hold.now.places (bucket_of hold.now.grid self.old)) }
         ensures point { self.new ≡ self.old }
         ensures turn { IfOk result (λ turn. (s : List ℕ) → Shows hold.now s → RefillGives hold.now s self.old turn) }
-        ensures below { IfOk result (λ turn. AsksBelow (length hold.now.places) turn) }
+        ensures below { IfOk result (λ turn. RefillAsksBelow (length hold.now.places) turn) }
         ensures all { IfOk result (λ turn. AllInHand hold.now → AsksNothing turn) }
     {
         let v = self.point;

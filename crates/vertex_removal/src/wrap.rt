@@ -18,7 +18,7 @@ ghost use Rattle.vertex_removal.specs.Wraps.{
   AreSidesOf,
   AreMet,
   IsPlaceOf,
-  AreInOrder,
+  IsFacetOn,
 };
 
 use crate::apex::{apex_over, is_over};
@@ -120,7 +120,7 @@ fn sides_of_hole(alloc: Global, star: &[Cell], v: Point) -> Result<Option<Vec<Si
 
 // The points of a triple, in the order in which the side is above them.
 fn turned(side: &Side) -> Option<(Point, Point, Point)>
-    ensures { IfSome result (λ t. AreInOrder side.now.facet t.0 t.1 t.2) }
+    ensures { IfSome result (λ t. IsFacetOn side.now.facet t.0 t.1 t.2) }
 {
     match side.facet {
         Facet::Three(tri) => {

@@ -23,7 +23,7 @@ use Rattle.list_laws.proofs.Cited.{all_of_each, later_pairs}
 use Rattle.point_order.specs.Sets.{IsIn}
 use Rattle.edit_history.specs.Edits.{is_move, share_point}
 use Rattle.plain_laws.specs.Running.{Pair, HaveNoPoint, clash}
-use Rattle.edit_workers.specs.Dealing.{AreAscending, CanBeDone, count_all}
+use Rattle.edit_workers.specs.Dealing.{AreTagsAscending, CanBeDone, count_all}
 
 -- one of a list of one
 only : {X : Type 0} (P : X → Type 0) (x : X) → P x → (y : X) → IsIn y (x ∷ []) → P y
@@ -35,19 +35,19 @@ pub two_done : (one two : Pair) → share_point one.1 two.1 ≡ false → CanBeD
 two_done one two apart = record {
   some = omega arith;
   short = omega arith;
-  tags = all_of_each AreAscending ((one ∷ []) ∷ (two ∷ []) ∷ []) each;
+  tags = all_of_each AreTagsAscending ((one ∷ []) ∷ (two ∷ []) ∷ []) each;
   apart = later_pairs HaveNoPoint ((one ∷ []) ∷ (two ∷ []) ∷ [])
       (only (HaveNoPoint (one ∷ [])) (two ∷ []) across, ((λ y i. absurd i), tt));
   alone = later_pairs (λ (x y : Pair). clash x y ≡ false) (one ∷ two ∷ [])
       (only (λ (y : Pair). clash one y ≡ false) two calm, ((λ y i. absurd i), tt));
 }
   where
-    single : (x : Pair) → AreAscending (x ∷ [])
+    single : (x : Pair) → AreTagsAscending (x ∷ [])
     single x = later_pairs (λ (a b : Pair). a.0 < b.0) (x ∷ []) ((λ y i. absurd i), tt)
 
-    each : (l : List Pair) → IsIn l ((one ∷ []) ∷ (two ∷ []) ∷ []) → AreAscending l
-    each l (inl e) = subst AreAscending e (single one)
-    each l (inr i) = only AreAscending (two ∷ []) (single two) l i
+    each : (l : List Pair) → IsIn l ((one ∷ []) ∷ (two ∷ []) ∷ []) → AreTagsAscending l
+    each l (inl e) = subst AreTagsAscending e (single one)
+    each l (inr i) = only AreTagsAscending (two ∷ []) (single two) l i
 
     across : HaveNoPoint (one ∷ []) (two ∷ [])
     across a b i j =

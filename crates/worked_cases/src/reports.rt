@@ -1,7 +1,7 @@
 //! Reports of replies, tags and points.
 
 ghost use Rattle.point_order.specs.Sets.{IsAscending};
-ghost use Rattle.mesh_files.specs.Report.{AreCounted, shapes_seen};
+ghost use Rattle.mesh_files.specs.Report.{AreCountedInOrder, shapes_seen};
 
 use crate::ends::end_of;
 use crate::reading::list_at;
@@ -15,7 +15,7 @@ use std::alloc::Global;
 // The report's summary and its text, and how its writing to an end ends.
 fn put_texts(alloc: Global, answer: &mut Answer, report: &Report, end: &str) -> Option<()>
     requires points { IsAscending report.now.points.items }
-    requires shapes { AreCounted (shapes_seen report.now.shapes.items) }
+    requires shapes { AreCountedInOrder (shapes_seen report.now.shapes.items) }
 {
     put_made(answer, summary_text(alloc, report));
     answer.put("; ");

@@ -1,5 +1,5 @@
 use Rattle.std.proofs.Common.{ap, subst, ◌∙◌, arith}
-use Rattle.cavity.specs.Tables.{IsReached, cell_number, home_under}
+use Rattle.cavity.specs.Tables.{IsReachedFrom, cell_number, home_under}
 use Rattle.cavity.specs.declared.cell_table.Mark.TheVariants.{Gone}
 use Rattle.cavity.proofs.Tables.{marked_all, marked_next, marked_none}
 use Rattle.cavity.proofs.cell_table.table_of.Goals as goal
@@ -12,7 +12,7 @@ loop-i-preserved c =
     marked_next c.args.mask c.loop-i.marks.items c.put.new.marks.items c.args.goes.now c.loop-i.i c.index-goes-i.result
     c.loop-i-test.true c.index-goes-i.is
     c.loop-i.invariant c.put.ensures.kept c.put.ensures.longer
-    (subst (λ home. IsReached c.put.new.marks.items home (Gone c.loop-i.i))
+    (subst (λ home. IsReachedFrom c.put.new.marks.items home (Gone c.loop-i.i))
     (c.home_of-home.ensures.home ∙ ap (home_under c.args.mask) (c.number_of.ensures ∙ ap cell_number c.cell.ensures))
     c.in_ok-put.ensures.reached)
 

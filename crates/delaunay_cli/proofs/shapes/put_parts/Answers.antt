@@ -1,5 +1,5 @@
 use Rattle.std.proofs.Common.{sym, subst}
-use Rattle.mesh_files.specs.Report.{AreCounted, shapes_seen}
+use Rattle.mesh_files.specs.Report.{AreCountedInOrder, shapes_seen}
 use Rattle.delaunay_cli.proofs.Unwritten.{unwritten}
 use Rattle.delaunay_cli.proofs.ShapesOfSet.{shapes_counted, shapes_lent}
 use Rattle.delaunay_cli.proofs.shapes.put_parts.Goals as goal
@@ -13,7 +13,8 @@ put-requires-clause-shapes g c κs within =
     let parts = c.args.parts in
     let e = shapes_lent parts.version (shapes_seen c.in_ok-shapes.shapes.items) parts.points.items c.deref-4.result.now
     parts.radii.items c.deref-5.result.now c.in_ok-shapes.ensures c.deref-4.ensures.value c.deref-5.ensures.value in
-    subst AreCounted (sym e) (shapes_counted parts.version parts.radii.items parts.points.items c.requires.ascending)
+    subst AreCountedInOrder (sym e) (shapes_counted parts.version parts.radii.items parts.points.items
+    c.requires.ascending)
 
 pub returns-clause-whole : goal.returns-clause-whole
 returns-clause-whole g c =

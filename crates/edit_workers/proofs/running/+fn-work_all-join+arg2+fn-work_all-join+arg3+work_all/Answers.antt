@@ -17,17 +17,17 @@ halves-requires-clause-several g t c =
 -- each half of the pass can run its half of the lists
 pub join-a-requires-after_bounds : goal.join-a-requires-after_bounds
 join-a-requires-after_bounds g t c κs =
-    let halves = c.in_ok-halves.ensures in
+    let halves = c.in_ok-other.ensures in
     λ ls. (search rules, search rules)
 
 -- what both halves did and left over is the work of the whole pass
 pub returns : goal.returns
 returns g t c =
-    let halves = c.in_ok-halves.ensures.halves in
-    let first = IfOk-at_ok (λ r. AreWorked (pairs_in c.in_ok-halves.field-0.1.now) r.1.pairs.items c.halves.new.pass r.0)
-    c.in_ok-a.was c.join-a.ensures.first in
-    let second = IfOk-at_ok (λ r. AreWorked (pairs_in c.in_ok-halves.field-0.2.now) r.1.pairs.items
-    c.in_ok-halves.field-0.0 r.0) c.in_ok-b.was c.join-a.ensures.second in
+    let halves = c.in_ok-other.ensures.halves in
+    let first = IfOk-at_ok (λ r. AreWorked (pairs_in c.in_ok-other.low.now) r.1.pairs.items c.halves.new.pass
+    r.0) c.in_ok-a.was c.join-a.ensures.first in
+    let second = IfOk-at_ok (λ r. AreWorked (pairs_in c.in_ok-other.high.now) r.1.pairs.items
+    c.in_ok-other.other r.0) c.in_ok-b.was c.join-a.ensures.second in
     let both = halves.both c.in_ok-a.field-0.1.pairs.items c.in_ok-b.field-0.1.pairs.items c.in_ok-a.field-0.0
     c.in_ok-b.field-0.0 first second in
     of_answer (λ p l. AreWorked (pairs_in c.args.lists.now) l c.args.pass p) c.together.result _ _ both.worked
@@ -36,11 +36,11 @@ returns g t c =
 -- the halves are passes of the table, and the second's parts come next
 pub together-requires : goal.together-requires
 together-requires g t c =
-    let halves = c.in_ok-halves.ensures.halves in
-    let first = IfOk-at_ok (λ r. AreWorked (pairs_in c.in_ok-halves.field-0.1.now) r.1.pairs.items c.halves.new.pass r.0)
-    c.in_ok-a.was c.join-a.ensures.first in
-    let second = IfOk-at_ok (λ r. AreWorked (pairs_in c.in_ok-halves.field-0.2.now) r.1.pairs.items
-    c.in_ok-halves.field-0.0 r.0) c.in_ok-b.was c.join-a.ensures.second in
+    let halves = c.in_ok-other.ensures.halves in
+    let first = IfOk-at_ok (λ r. AreWorked (pairs_in c.in_ok-other.low.now) r.1.pairs.items c.halves.new.pass
+    r.0) c.in_ok-a.was c.join-a.ensures.first in
+    let second = IfOk-at_ok (λ r. AreWorked (pairs_in c.in_ok-other.high.now) r.1.pairs.items
+    c.in_ok-other.other r.0) c.in_ok-b.was c.join-a.ensures.second in
     let both = halves.both c.in_ok-a.field-0.1.pairs.items c.in_ok-b.field-0.1.pairs.items c.in_ok-a.field-0.0
     c.in_ok-b.field-0.0 first second in
     record { low = both.low; high = both.high; next = both.next }

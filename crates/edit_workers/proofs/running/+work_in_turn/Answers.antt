@@ -16,19 +16,19 @@ halves-requires-clause-several g t c =
 -- the first half of the pass can run the first half of the lists
 pub work_in_turn-requires : goal.work_in_turn-requires
 work_in_turn-requires g t c κs within =
-    let halves = c.in_ok-halves.ensures in
+    let halves = c.in_ok-other.ensures in
     (search rules, search rules)
 
 -- and the one that was split off the second
 pub work_in_turn-requires-2 : goal.work_in_turn-requires-2
 work_in_turn-requires-2 g t c κs within =
-    let halves = c.in_ok-halves.ensures in
+    let halves = c.in_ok-other.ensures in
     (search rules, search rules)
 
 -- what both halves did and left over is the work of the whole pass
 pub returns : goal.returns
 returns g t c =
-    let halves = c.in_ok-halves.ensures.halves in
+    let halves = c.in_ok-other.ensures.halves in
     let both = halves.both c.in_ok-a.a.1.pairs.items c.in_ok-b.b.1.pairs.items c.in_ok-a.a.0 c.in_ok-b.b.0
     c.in_ok-a.ensures c.in_ok-b.ensures in
     of_answer (λ p l. AreWorked (pairs_in c.args.lists.now) l c.args.pass p) c.together.result _ _ both.worked
@@ -37,7 +37,7 @@ returns g t c =
 -- the halves are passes of the table, and the second's parts come next
 pub together-requires : goal.together-requires
 together-requires g t c =
-    let halves = c.in_ok-halves.ensures.halves in
+    let halves = c.in_ok-other.ensures.halves in
     let both = halves.both c.in_ok-a.a.1.pairs.items c.in_ok-b.b.1.pairs.items c.in_ok-a.a.0 c.in_ok-b.b.0
     c.in_ok-a.ensures c.in_ok-b.ensures in
     record { low = both.low; high = both.high; next = both.next }

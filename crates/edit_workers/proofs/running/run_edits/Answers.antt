@@ -1,7 +1,7 @@
 use Rattle.std.proofs.Common.{rules, ◌≡◌, ◌<◌, ◌∙◌, arith, ap, get_or, length, subst, sym, List}
 use Rattle.edit_workers.specs.declared.lists.List as lists
 use Rattle.edit_workers.specs.declared.lists.Segment.{Segment}
-use Rattle.edit_workers.specs.Dealing.{CanBeDone, count_of, pairs_in}
+use Rattle.edit_workers.specs.Dealing.{CanBeDone, count_in_all, pairs_in}
 use Rattle.edit_workers.specs.Running.{IsSegmentRun}
 use Rattle.edit_workers.proofs.Segments.{of_segment, room_next, run_all, run_next, run_nothing}
 use Rattle.edit_workers.proofs.running.run_edits.Goals as goal
@@ -29,7 +29,7 @@ run_segment-requires-clause-room g c κs within =
     (subst (λ (l : List Segment). n < length l) c.deref-segment-items.ensures.value c.loop-segment-test.true)
     (subst (λ (l : List Segment). x ≡ get_or l n x) c.deref-segment-items.ensures.value c.segment-item.is)
     c.loop-segment.invariant.run c.requires.room in
-    omega (arith, room, ap (λ (l : List lists.List). count_of (pairs_in l)) c.deref.ensures.value)
+    omega (arith, room, ap (λ (l : List lists.List). count_in_all (pairs_in l)) c.deref.ensures.value)
 
 -- one segment more is done, and as many entries more are there as it has pairs
 pub loop-segment-preserved : goal.loop-segment-preserved

@@ -1,7 +1,7 @@
 use Rattle.std.proofs.Common.{sym, subst, List, ℕ, Some, take, ◌++◌, ◌∷◌, []}
 use Rattle.list_laws.proofs.Cited.{apart_place, at_place, distinct_ascending, in_take, not_both, take_next}
 use Rattle.vertex_removal.specs.Balls.{last_of}
-use Rattle.vertex_removal.specs.Wraps.{Leads}
+use Rattle.vertex_removal.specs.Wraps.{LeadsAbove}
 use Rattle.vertex_removal.proofs.Apexes.{lead_apart, next_below, next_above}
 use Rattle.vertex_removal.proofs.Balls.{ball_apart}
 use Rattle.vertex_removal.proofs.apex.apex_over.Goals.{then-is_over, else-is_over}
@@ -32,15 +32,16 @@ loop-p-preserved c =
     (apart_place t n e (distinct_ascending t c.requires) c.loop-p-test.true c.p-item.is) in
     elim c.if-is_over.branch [
       | then-is_over w ↦ rw w.best-is (
-        subst (λ (m : List ℕ). Leads t m c.args.a c.args.b c.args.c (Some w.leader.result.last))
+        subst (λ (m : List ℕ). LeadsAbove t m c.args.a c.args.b c.args.c (Some w.leader.result.last))
             (sym (take_next t n e c.loop-p-test.true c.p-item.is))
-            (subst (λ d. Leads t (take n t ++ e ∷ []) c.args.a c.args.b c.args.c (Some d)) (sym w.leader.ensures.leads)
+            (subst (λ d. LeadsAbove t (take n t ++ e ∷ []) c.args.a c.args.b c.args.c (Some d))
+            (sym w.leader.ensures.leads)
             (next_above t (take n t) c.args.a c.args.b c.args.c within e here
             (c.is_over.ensures.0 w.if-is_over.true) o apart c.loop-p.invariant.0)),
         w.leader.ensures.ball,
       )
       | else-is_over w ↦ rw w.best-is (
-        subst (λ (m : List ℕ). Leads t m c.args.a c.args.b c.args.c o)
+        subst (λ (m : List ℕ). LeadsAbove t m c.args.a c.args.b c.args.c o)
             (sym (take_next t n e c.loop-p-test.true c.p-item.is))
             (next_below t (take n t) c.args.a c.args.b c.args.c within e here o
             (λ h. not_both c.is_over.result (c.is_over.ensures.1 h) w.if-is_over.false) c.loop-p.invariant.0),

@@ -1,7 +1,7 @@
 use Rattle.std.proofs.Common.{sym, ◌∙◌, ap, ◌≡◌, subst, length, ℕ, List}
 use Rattle.point_order.specs.declared.cell.Cell.{Cell}
 use Rattle.cavity.specs.declared.cell_table.Mark.TheVariants.{Gone}
-use Rattle.cavity.specs.Tables.{IsMarked, IsReached, cell_home, home_under}
+use Rattle.cavity.specs.Tables.{IsMarked, IsReachedFrom, cell_home, home_under}
 use Rattle.cavity.proofs.Tables.{goes_pushed, has_room, home_within, marked_more, marked_still}
 use Rattle.list_laws.proofs.Cited.{on_err}
 use Rattle.cavity.proofs.judged.Judged.push.Goals as goal
@@ -35,8 +35,8 @@ invariant_of-self-2 c =
     rw (c.in-Ok.ensures.items, c.reserve.ensures.items)
     (marked_more c.self.inside.mask c.self.inside.marks.items c.put.new.marks.items c.self.inside.goes.items c.args.cell
     c.self.invariant c.put.ensures.kept c.put.ensures.longer
-    (subst (λ (i : ℕ). IsReached c.put.new.marks.items (cell_home c.self.inside.mask c.args.cell) (Gone i)) n
-    (subst (λ (h : ℕ). IsReached c.put.new.marks.items h (Gone c.len.result))
+    (subst (λ (i : ℕ). IsReachedFrom c.put.new.marks.items (cell_home c.self.inside.mask c.args.cell) (Gone i)) n
+    (subst (λ (h : ℕ). IsReachedFrom c.put.new.marks.items h (Gone c.len.result))
     (c.home_of-home.ensures.home ∙ ap (home_under c.self.inside.mask) c.requires) c.in_ok-put.ensures.reached)))
 
 pub returns-clause-pushed : goal.returns-clause-pushed

@@ -4,7 +4,7 @@ use Rattle.list_laws.proofs.Cited.{if_some, len_set, of_some, some_holds, within
 use Rattle.point_order.specs.Sets.{is_among}
 use Rattle.cell_store.specs.Buckets.{StandAtPlaces, content_of, layout_at, points_in, shown}
 use Rattle.cell_store.specs.Grids.{bucket_of}
-use Rattle.cell_store.specs.Ready.{HasPlaceFor, HasRoom, IsNoteReady, IsPointReady, IsReady}
+use Rattle.cell_store.specs.Ready.{HasPlaceFor, HasRoom, IsNoteReady, IsPointReady, ArePlansReady}
 use Rattle.cell_store.proofs.Layouts.{shown_is, shown_len, shown_set}
 use Rattle.cell_store.proofs.NoteLaws.{
   content_dropped,
@@ -77,9 +77,11 @@ invariant_of-self c =
     let here = point_is b p true places r.before (ap (λ m. is_among p (points_in (shown places) m)) number ∙ known) was
     in (
       len_set places b new ∙ c.self.invariant.0,
-      if_some (λ e. IsReady e.turned i.grid e.gone.items e.fresh.items places e.plans.items)
-          (λ e. IsReady e.turned i.grid e.gone.items e.fresh.items (slice_set places b new) e.plans.items) i.exchange
-          (λ x q. subst (λ o. IsReady x.turned i.grid x.gone.items x.fresh.items (slice_set places b o) x.plans.items)
+      if_some (λ e. ArePlansReady e.turned i.grid e.gone.items e.fresh.items places e.plans.items)
+          (λ e. ArePlansReady e.turned i.grid e.gone.items e.fresh.items (slice_set places b new) e.plans.items)
+          i.exchange
+          (λ x q. subst (λ o. ArePlansReady x.turned i.grid x.gone.items x.fresh.items (slice_set places b o)
+          x.plans.items)
           (sym r.is) (ready_noted x.turned i.grid b x.gone.items x.fresh.items places x.plans.items r.before r.after
           h was r.cells q)) c.self.invariant.1,
       if_some (λ q. IsNoteReady i.grid places q) (λ q. IsNoteReady i.grid (slice_set places b new) q) i.note

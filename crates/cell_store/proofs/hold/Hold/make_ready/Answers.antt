@@ -4,7 +4,7 @@ use Rattle.list_laws.proofs.Cited.{front_is, if_some, on_err}
 use Rattle.point_order.specs.declared.cell.Cell.{Cell}
 use Rattle.cell_store.specs.Buckets.{BucketContent, StandAtPlaces, bucket_at, layout_at, shown}
 use Rattle.cell_store.specs.Grids.{bucket_of}
-use Rattle.cell_store.specs.Ready.{AllRoomier, IsNoteReady, IsPointReady, IsReady}
+use Rattle.cell_store.specs.Ready.{AllRoomier, IsNoteReady, IsPointReady, ArePlansReady}
 use Rattle.cell_store.proofs.NoteLaws.{all_noted, all_pointed, all_ready, all_shown, hold_with, ready_same}
 use Rattle.cell_store.proofs.RoomLaws.{held_in_hand, held_there, hold_finds}
 use Rattle.cell_store.proofs.hold.Hold.make_ready.Goals as goal
@@ -56,12 +56,12 @@ invariant_of-self c =
     let e = front_is after (drop (length after) places) i.places.len
     (i.places.ok.0 ∙ sym (ap length c.deref_mut.ensures.value) ∙ sym c.make_rooms.auto.places) in
     subst (λ ps. (length ps ≡ i.grid * i.grid * i.grid) × IfSome i.exchange
-    (λ y. IsReady y.turned i.grid y.gone.items y.fresh.items ps y.plans.items) ×
+    (λ y. ArePlansReady y.turned i.grid y.gone.items y.fresh.items ps y.plans.items) ×
     IfSome i.note (λ n. IsNoteReady i.grid ps n) × IfSome i.point (λ n. IsPointReady i.grid ps n) ×
     StandAtPlaces i.grid (shown ps)) (sym e) (
       m.count ∙ c.self.invariant.0,
-      if_some (λ y. IsReady y.turned i.grid y.gone.items y.fresh.items places y.plans.items)
-          (λ y. IsReady y.turned i.grid y.gone.items y.fresh.items after y.plans.items) i.exchange
+      if_some (λ y. ArePlansReady y.turned i.grid y.gone.items y.fresh.items places y.plans.items)
+          (λ y. ArePlansReady y.turned i.grid y.gone.items y.fresh.items after y.plans.items) i.exchange
           (λ y q. all_ready y.turned i.grid y.gone.items y.fresh.items places after y.plans.items m q)
           c.self.invariant.1,
       all_noted i.grid places after i.note m c.self.invariant.2,
@@ -105,7 +105,7 @@ invariant_of-self-2 c =
     let ready = ready_same x.turned c.grid-grid.result i.grid c.args.gone.now c.args.fresh.now x.gone.items
     x.fresh.items c.deref.result.now places x.plans.items grid (sym c.in_ok-exchange.ensures.gone)
     (sym c.in_ok-exchange.ensures.fresh) c.deref.ensures.value c.in_ok-exchange.ensures.ready in
-    subst (λ ps. (length ps ≡ i.grid * i.grid * i.grid) × IsReady x.turned i.grid x.gone.items x.fresh.items ps
+    subst (λ ps. (length ps ≡ i.grid * i.grid * i.grid) × ArePlansReady x.turned i.grid x.gone.items x.fresh.items ps
     x.plans.items × IfSome c.args.note (λ n. IsNoteReady i.grid ps n) ×
     IfSome c.args.point (λ n. IsPointReady i.grid ps n) × StandAtPlaces i.grid (shown ps)) (sym e) (
       m.count ∙ c.self.invariant.0,

@@ -4,7 +4,7 @@ use Rattle.list_laws.proofs.Cited.{if_some, len_set, some_holds, within_list}
 use Rattle.edit_history.specs.Edits.{point_of}
 use Rattle.cell_store.specs.Buckets.{StandAtPlaces, content_of, layout_at, shown}
 use Rattle.cell_store.specs.Grids.{bucket_of}
-use Rattle.cell_store.specs.Ready.{HasRoom, IsNoteReady, IsReady}
+use Rattle.cell_store.specs.Ready.{HasRoom, IsNoteReady, ArePlansReady}
 use Rattle.cell_store.proofs.Layouts.{shown_is, shown_len, shown_set}
 use Rattle.cell_store.proofs.NoteLaws.{ready_noted, noted_is, stand_noted}
 use Rattle.cell_store.proofs.hold.Hold.push_entry.Goals as goal
@@ -55,9 +55,11 @@ invariant_of-self c =
     let h : b < length places = subst (λ n. b < n) (shown_len places) n in
     let was = within_list places b c.index_mut.result.now None h c.index_mut.ensures.value ∙ r.was in (
       len_set places b new ∙ c.self.invariant.0,
-      if_some (λ e. IsReady e.turned i.grid e.gone.items e.fresh.items places e.plans.items)
-          (λ e. IsReady e.turned i.grid e.gone.items e.fresh.items (slice_set places b new) e.plans.items) i.exchange
-          (λ x q. subst (λ o. IsReady x.turned i.grid x.gone.items x.fresh.items (slice_set places b o) x.plans.items)
+      if_some (λ e. ArePlansReady e.turned i.grid e.gone.items e.fresh.items places e.plans.items)
+          (λ e. ArePlansReady e.turned i.grid e.gone.items e.fresh.items (slice_set places b new) e.plans.items)
+          i.exchange
+          (λ x q. subst (λ o. ArePlansReady x.turned i.grid x.gone.items x.fresh.items (slice_set places b o)
+          x.plans.items)
           (sym r.is) (ready_noted x.turned i.grid b x.gone.items x.fresh.items places x.plans.items r.before r.after h
           was r.cells q)) c.self.invariant.1,
       tt,

@@ -11,7 +11,7 @@ use Rattle.cell_store.specs.Buckets.{
   layout_at,
   shown,
 }
-use Rattle.cell_store.specs.Ready.{IsNoteReady, IsPointReady, IsReady}
+use Rattle.cell_store.specs.Ready.{IsNoteReady, IsPointReady, ArePlansReady}
 use Rattle.cell_store.proofs.Layouts.{map_none, shown_at, shown_set}
 use Rattle.cell_store.proofs.NoteLaws.{hold_keeps, note_put, point_put, ready_put, stand_put}
 use Rattle.cell_store.proofs.hold.Hold.put.Goals as goal
@@ -34,7 +34,7 @@ invariant_of-self c =
     c.requires.below in
     let set = shown_set places b x in (
       len_set places b x ∙ c.self.invariant.0,
-      if_some (λ e. IsReady e.turned i.grid e.gone.items e.fresh.items places e.plans.items) _ i.exchange
+      if_some (λ e. ArePlansReady e.turned i.grid e.gone.items e.fresh.items places e.plans.items) _ i.exchange
           (λ e r. ready_put e.turned i.grid b e.gone.items e.fresh.items places e.plans.items x absent r)
           c.self.invariant.1,
       if_some (λ n. IsNoteReady i.grid places n) _ i.note (λ n r. note_put i.grid b places n x absent r)

@@ -2,7 +2,7 @@ use Rattle.std.proofs.Common.{◌≡◌, ◌*◌, sym, ◌∙◌, ap, subst, len
 use Rattle.std.specs.Option.{option_map}
 use Rattle.list_laws.proofs.Cited.{front_is, same_pair, some_holds}
 use Rattle.cell_store.specs.Buckets.{StandAtPlaces, shown, swap_after}
-use Rattle.cell_store.specs.Ready.{FindsCells, IsAllowed, IsMade, IsNoteReady, IsPointReady, IsReady}
+use Rattle.cell_store.specs.Ready.{FindsCells, IsAllowed, IsExchangeMade, IsNoteReady, IsPointReady, ArePlansReady}
 use Rattle.cell_store.proofs.Layouts.{shown_len}
 use Rattle.cell_store.proofs.RoomLaws.{ready_allowed, swap_is}
 use Rattle.cell_store.proofs.SwapLaws.{next_room, room_after, swap_keeps, swap_shown}
@@ -13,7 +13,8 @@ pub made-requires-clause-allowed : goal.made-requires-clause-allowed
 made-requires-clause-allowed c =
     let x = c.in-Some.exchange in
     let i = c.self.inside in
-    let r = some_holds (λ e. IsReady e.turned i.grid e.gone.items e.fresh.items i.places.items e.plans.items) i.exchange
+    let r = some_holds (λ e. ArePlansReady e.turned i.grid e.gone.items e.fresh.items i.places.items e.plans.items)
+    i.exchange
     x c.in-Some.ensures.value c.self.invariant.1 in
     λ l k. subst (λ m. IsAllowed x.turned m l) (sym c.deref_mut.ensures.value)
     (ready_allowed x.turned i.grid x.gone.items x.fresh.items i.places.items x.plans.items r l k)
@@ -22,7 +23,8 @@ pub made-requires-clause-apart : goal.made-requires-clause-apart
 made-requires-clause-apart c =
     let x = c.in-Some.exchange in
     let i = c.self.inside in
-    (some_holds (λ e. IsReady e.turned i.grid e.gone.items e.fresh.items i.places.items e.plans.items) i.exchange x
+    (some_holds (λ e. ArePlansReady e.turned i.grid e.gone.items e.fresh.items i.places.items e.plans.items)
+    i.exchange x
     c.in-Some.ensures.value c.self.invariant.1).apart
 
 -- once the exchange is made what else was ready stays so, and the one back is ready where it can be made
@@ -34,10 +36,11 @@ invariant_of-self c =
     let places = i.places.items in
     let after = c.made.new.places in
     let known = c.in-Some.ensures.value in
-    let ready = some_holds (λ e. IsReady e.turned i.grid e.gone.items e.fresh.items places e.plans.items) i.exchange x
+    let ready = some_holds (λ e. ArePlansReady e.turned i.grid e.gone.items e.fresh.items places e.plans.items)
+    i.exchange x
     known c.self.invariant.1 in
-    let m : IsMade i.back x c.made.result places after =
-    subst (λ l. IsMade i.back x c.made.result l after) c.deref_mut.ensures.value c.made.ensures in
+    let m : IsExchangeMade i.back x c.made.result places after =
+    subst (λ l. IsExchangeMade i.back x c.made.result l after) c.deref_mut.ensures.value c.made.ensures in
     let pair = same_pair x.gone.items c.args.gone.now x.fresh.items c.args.fresh.now
     (ap (option_map (λ e. (e.gone.items, e.fresh.items))) known ∙ ap (λ h. h.room.swap) c.self.view_is
     ∙ c.requires.room) in
@@ -48,7 +51,7 @@ invariant_of-self c =
     (subst (λ l. FindsCells h c.args.gone.now l) (sym pair.1)
     (c.requires.found (sym (ap (λ k. k.room.back) c.self.view_is) ∙ s))) in
     subst (λ ps. (length ps ≡ i.grid * i.grid * i.grid)
-    × IfSome c.made.result (λ y. IsReady y.turned i.grid y.gone.items y.fresh.items ps y.plans.items)
+    × IfSome c.made.result (λ y. ArePlansReady y.turned i.grid y.gone.items y.fresh.items ps y.plans.items)
     × IfSome i.note (λ n. IsNoteReady i.grid ps n) × IfSome i.point (λ n. IsPointReady i.grid ps n)
     × StandAtPlaces i.grid (shown ps)) (sym e)
     (swap_keeps i.grid x c.made.result places after i.back ready c.self.invariant.4 m i.point i.note h
@@ -64,10 +67,11 @@ invariant_of-self-in-Some-2 c =
     let places = i.places.items in
     let after = c.made.new.places in
     let known = c.in-Some.ensures.value in
-    let ready = some_holds (λ e. IsReady e.turned i.grid e.gone.items e.fresh.items places e.plans.items) i.exchange x
+    let ready = some_holds (λ e. ArePlansReady e.turned i.grid e.gone.items e.fresh.items places e.plans.items)
+    i.exchange x
     known c.self.invariant.1 in
-    let m : IsMade i.back x c.made.result places after =
-    subst (λ l. IsMade i.back x c.made.result l after) c.deref_mut.ensures.value c.made.ensures in
+    let m : IsExchangeMade i.back x c.made.result places after =
+    subst (λ l. IsExchangeMade i.back x c.made.result l after) c.deref_mut.ensures.value c.made.ensures in
     let pair = same_pair x.gone.items c.args.gone.now x.fresh.items c.args.fresh.now
     (ap (option_map (λ e. (e.gone.items, e.fresh.items))) known ∙ ap (λ h. h.room.swap) c.self.view_is
     ∙ c.requires.room) in
@@ -78,7 +82,7 @@ invariant_of-self-in-Some-2 c =
     (subst (λ l. FindsCells h c.args.gone.now l) (sym pair.1)
     (c.requires.found (sym (ap (λ k. k.room.back) c.self.view_is) ∙ s))) in
     subst (λ ps. (length ps ≡ i.grid * i.grid * i.grid)
-    × IfSome c.made.result (λ y. IsReady y.turned i.grid y.gone.items y.fresh.items ps y.plans.items)
+    × IfSome c.made.result (λ y. ArePlansReady y.turned i.grid y.gone.items y.fresh.items ps y.plans.items)
     × IfSome i.note (λ n. IsNoteReady i.grid ps n) × IfSome i.point (λ n. IsPointReady i.grid ps n)
     × StandAtPlaces i.grid (shown ps)) (sym e)
     (swap_keeps i.grid x c.made.result places after i.back ready c.self.invariant.4 m i.point i.note h
@@ -95,10 +99,11 @@ returns-in-Some c = elim c.match-self-made.branch [
       let places = i.places.items in
       let after = c.made.new.places in
       let known = c.in-Some.ensures.value in
-      let ready = some_holds (λ e. IsReady e.turned i.grid e.gone.items e.fresh.items places e.plans.items) i.exchange x
+      let ready = some_holds (λ e. ArePlansReady e.turned i.grid e.gone.items e.fresh.items places e.plans.items)
+      i.exchange x
       known c.self.invariant.1 in
-      let m : IsMade i.back x c.made.result places after =
-      subst (λ l. IsMade i.back x c.made.result l after) c.deref_mut.ensures.value c.made.ensures in
+      let m : IsExchangeMade i.back x c.made.result places after =
+      subst (λ l. IsExchangeMade i.back x c.made.result l after) c.deref_mut.ensures.value c.made.ensures in
       let pair = same_pair x.gone.items c.args.gone.now x.fresh.items c.args.fresh.now
       (ap (option_map (λ e. (e.gone.items, e.fresh.items))) known ∙ ap (λ h. h.room.swap) c.self.view_is
       ∙ c.requires.room) in
@@ -124,10 +129,11 @@ returns-in-Some c = elim c.match-self-made.branch [
       let places = i.places.items in
       let after = c.made.new.places in
       let known = c.in-Some.ensures.value in
-      let ready = some_holds (λ e. IsReady e.turned i.grid e.gone.items e.fresh.items places e.plans.items) i.exchange x
+      let ready = some_holds (λ e. ArePlansReady e.turned i.grid e.gone.items e.fresh.items places e.plans.items)
+      i.exchange x
       known c.self.invariant.1 in
-      let m : IsMade i.back x c.made.result places after =
-      subst (λ l. IsMade i.back x c.made.result l after) c.deref_mut.ensures.value c.made.ensures in
+      let m : IsExchangeMade i.back x c.made.result places after =
+      subst (λ l. IsExchangeMade i.back x c.made.result l after) c.deref_mut.ensures.value c.made.ensures in
       let pair = same_pair x.gone.items c.args.gone.now x.fresh.items c.args.fresh.now
       (ap (option_map (λ e. (e.gone.items, e.fresh.items))) known ∙ ap (λ h. h.room.swap) c.self.view_is
       ∙ c.requires.room) in

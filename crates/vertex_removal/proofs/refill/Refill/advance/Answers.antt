@@ -9,7 +9,7 @@ use Rattle.cell_store.specs.Ready.{AreHeld}
 use Rattle.cell_store.specs.Missing.{IsCellMissing}
 use Rattle.cell_store.proofs.Cited.{solid_set}
 use Rattle.vertex_removal.specs.Near.{AreTaken, IsStar}
-use Rattle.vertex_removal.specs.Turns.{IsNeeded, RefillGives}
+use Rattle.vertex_removal.specs.Turns.{IsNeededAround, RefillGives}
 use Rattle.vertex_removal.specs.declared.refill.RefillTurn.TheVariants.{Done, Flat}
 use Rattle.vertex_removal.proofs.Holes.{still_there}
 use Rattle.vertex_removal.proofs.Star.{held_once, star_once}
@@ -19,7 +19,7 @@ use Rattle.vertex_removal.proofs.refill.Refill.advance.Goals as goal
 
 pub returns-in-Some-clause-turn : goal.returns-in-Some-clause-turn
 returns-in-Some-clause-turn c h st =
-    subst (λ (v : ℕ). IsNeeded c.args.hold.now h v c.in-Some.b) c.self.view_is
+    subst (λ (v : ℕ). IsNeededAround c.args.hold.now h v c.in-Some.b) c.self.view_is
     (star_needs c.args.hold.now h c.self.inside.point c.deref.result.now c.in-Some.b
     (subst (λ (l : List Cell). IsStar h c.self.inside.point l) (sym c.deref.ensures.value)
     (c.in_ok-star.ensures h st))
