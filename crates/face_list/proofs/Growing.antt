@@ -56,7 +56,8 @@ use Rattle.list_laws.proofs.Cited.{
 use Rattle.point_order.specs.declared.cell.Cell.{Cell}
 use Rattle.point_order.specs.Sets.{IsIn}
 use Rattle.face_list.specs.declared.around.Gathering.{Gathering}
-use Rattle.face_list.specs.Around.{AreGathered, BeginsWithin}
+use Rattle.face_list.specs.declared.table.Table.{Table}
+use Rattle.face_list.specs.Around.{AreGathered, BeginsWithin, GathersPoints}
 use Rattle.face_list.specs.Gather.{item_cmp, numbers_of, full_keys, is_full, items_from, AreItems, Gathers}
 use Rattle.face_list.specs.Tables.{cell_at, stretches, AreStops, IsTable}
 use Rattle.face_list.proofs.FaceLists.{items_more}
@@ -162,25 +163,6 @@ gathered_none {K} cmp cells all W g k e n c = record {
   stops = rw (n, e) refl;
   lists = rw (n, e, k) refl;
   numbers = λ i m. subst (IsIn i) n m;
-}
-
--- in a wider range
-pub gathered_wider :
-    {K : Type 0} (cmp : K → K → Ordering) (cells : List Cell) (all : List (K × ℕ)) (W V : K → Type 0)
-    (g : Gathering K) →
-    ((k : K) → W k → V k) → AreGathered cmp cells all W g → AreGathered cmp cells all V g
-gathered_wider cmp cells all W V g f a = record {
-  sorted = a.sorted;
-  order = a.order;
-  sound = a.sound;
-  ranged = λ i m. f i.0 (a.ranged i m);
-  counted = a.counted;
-  keys_order = a.keys_order;
-  keys = a.keys;
-  ends = a.ends;
-  stops = a.stops;
-  lists = a.lists;
-  numbers = a.numbers;
 }
 
 -- with some items more, the keys of which come behind the others
@@ -365,3 +347,22 @@ begins_lesser first_of points from middle to k l s w b c =
     let p = c.before in
     let a = later_above points b.index c.index s (omega (arith, m, n)) (omega (arith, p, w)) in
     omega (arith, a, b.is, c.is)
+
+-- by equal indices
+pub gathers_as :
+    {K : Type 0} (cmp : K → K → Ordering) (parts_of : Cell → List K) (first_of : K → ℕ) (cells : List Cell)
+    (points : Table ℕ) (from to low high : ℕ) (g : Gathering K) → from ≡ low → to ≡ high →
+    GathersPoints cmp parts_of first_of cells points from to g →
+    GathersPoints cmp parts_of first_of cells points low high g
+gathers_as cmp parts_of first_of cells points from to low high g e f a =
+    subst (λ (v : ℕ). GathersPoints cmp parts_of first_of cells points v high g) e
+    (subst (λ (v : ℕ). GathersPoints cmp parts_of first_of cells points from v g) f a)
+
+-- by its own indices
+pub gathers_own :
+    {K : Type 0} (cmp : K → K → Ordering) (parts_of : Cell → List K) (first_of : K → ℕ) (cells : List Cell)
+    (points : Table ℕ) (from to : ℕ) (g : Gathering K) →
+    GathersPoints cmp parts_of first_of cells points from to g →
+    GathersPoints cmp parts_of first_of cells points g.from g.to g
+gathers_own cmp parts_of first_of cells points from to g a =
+    gathers_as cmp parts_of first_of cells points from to g.from g.to g (sym a.begin) (sym a.end) a

@@ -42,7 +42,10 @@ pub record BeginsWithin {K : Type 0} (first_of : K → ℕ) (points : List ℕ) 
   pub is : first_of part ≡ slice_index_or points index 0
 
 -- gathered are items of cells, whose parts begin with the points of a table from one index to another
-abbrev pub GathersPoints : {K : Type 0} → (K → K → Ordering) → (Cell → List K) → (K → ℕ) → List Cell → Table ℕ → ℕ →
-    ℕ → Gathering K → Type 0
-GathersPoints cmp parts_of first_of cells points from to g =
-    AreGathered cmp cells (items_from 0 parts_of cells) (BeginsWithin first_of points.keys.items from to) g
+pub record GathersPoints {K : Type 0} (cmp : K → K → Ordering) (parts_of : Cell → List K) (first_of : K → ℕ)
+    (cells : List Cell) (points : Table ℕ) (from to : ℕ) (g : Gathering K) : Type 0 where
+  pub items : AreGathered cmp cells (items_from 0 parts_of cells) (BeginsWithin first_of points.keys.items from to) g
+  pub begin : g.from ≡ from
+  pub end : g.to ≡ to
+  pub order : from ≤ to
+  pub within : to ≤ length points.keys.items

@@ -22,7 +22,8 @@ ghost use Rattle.point_order.specs.declared.cell.Cell.{Cell};
 ghost use Rattle.point_order.specs.Facets.{points_of};
 ghost use Rattle.point_order.specs.Sets.{IsIn};
 ghost use Rattle.point_order.specs.Subsets.{subsets};
-ghost use Rattle.face_list.specs.Around.{AreGathered, ArePut, GathersPoints, first_point};
+ghost use Rattle.face_list.specs.declared.table.Table.{Table};
+ghost use Rattle.face_list.specs.Around.{ArePut, GathersPoints, first_point};
 ghost use Rattle.face_list.specs.Gather.{Gathers, items_from};
 ghost use Rattle.face_list.specs.Order.{before_by_first};
 ghost use Rattle.face_list.specs.Tables.{IsTable, cell_at};
@@ -175,11 +176,13 @@ fn part_count<K: Part>(cells: &[Cell]) -> Result<usize, AllocError>
     Ok(count)
 }
 
-/// What is gathered so far: a table, and how many items there were.
+/// What is gathered so far, of the points from one index to another: a table, and how many items there were.
 #[derive(Drop)]
 pub struct Gathering<K> {
     pub table: Table<K>,
     pub count: usize,
+    pub from: usize,
+    pub to: usize,
 }
 
 // The items of the parts that begin with a point, of the cells of some numbers.
@@ -201,25 +204,25 @@ fn items_around<K: Part>(
     Ok(items)
 }
 
-// Adds the items of the point of an index, behind those of the points from another index on.
+// Adds the items of the next point.
 fn add<K: Part>(
     alloc: Global,
     cells: &[Cell],
+    points: &Table<Point>,
     so_far: &mut Gathering<K>,
     items: Vec<(K, u32)>,
-    points: &Table<Point>,
-    from: usize,
-    index: usize,
 ) -> Result<(), AllocError>
     requires exact { CmpEqualImpliesEq K.cmp }
     requires order { IsStrictlySortedBy nat_cmp points.now.keys.items }
-    requires range { from ≤ index }
-    requires within { index < length points.now.keys.items }
-    requires so_far { GathersPoints K.cmp K.parts_of K.first_of cells.now points.now from index so_far.old }
+    requires so_far { GathersPoints K.cmp K.parts_of K.first_of cells.now points.now so_far.old.from so_far.old.to
+        so_far.old }
+    requires left { so_far.old.to < length points.now.keys.items }
     requires items { (i : K × ℕ) → IsIn i items.items →
         IsIn i (items_from 0 K.parts_of cells.now)
-        × (K.first_of i.0 ≡ slice_index_or points.now.keys.items index 0) }
-    ensures { OnOk result (GathersPoints K.cmp K.parts_of K.first_of cells.now points.now from (index + 1) so_far.new) }
+        × (K.first_of i.0 ≡ slice_index_or points.now.keys.items so_far.old.to 0) }
+    ensures { OnOk result (GathersPoints K.cmp K.parts_of K.first_of cells.now points.now so_far.old.from
+        (so_far.old.to + 1)
+        so_far.new) }
 {
     let items = sorted(items);
     let keys = keys_of_full(alloc, cells, &items)?;
@@ -231,6 +234,7 @@ fn add<K: Part>(
     )?;
     so_far.table.keys.extend_from_slice(&keys)?;
     so_far.count = sum_of(so_far.count, items.len())?;
+    so_far.to += 1;
     Ok(())
 }
 
@@ -241,10 +245,10 @@ pub struct Room {
     pub numbers: usize,
 }
 
-// Nothing yet, with room for so many keys and numbers.
-fn nothing<K: Part>(alloc: Global, room: Room) -> Result<Gathering<K>, AllocError>
-    ensures { IfOk result (λ g. (cells : List Cell) (all : List (K × ℕ)) →
-        AreGathered K.cmp cells all (λ k. ⊥) g) }
+/// Nothing yet, of the points from an index on, with room for so many keys and numbers.
+pub fn nothing<K: Part>(alloc: Global, room: Room, from: usize) -> Result<Gathering<K>, AllocError>
+    ensures { IfOk result (λ g. (cells : List Cell) (points : Table ℕ) → from ≤ length points.keys.items →
+        GathersPoints K.cmp K.parts_of K.first_of cells points from from g) }
 {
     Ok(Gathering {
         table: Table {
@@ -253,30 +257,31 @@ fn nothing<K: Part>(alloc: Global, room: Room) -> Result<Gathering<K>, AllocErro
             numbers: Vec::with_capacity(alloc, room.numbers)?,
         },
         count: 0,
+        from,
+        to: from,
     })
 }
 
-/// The items of the points from one index to another, gathered.
-pub fn gather_around<K: Part>(
+/// Adds the items of the points up to an index.
+pub fn add_points<K: Part>(
     alloc: Global,
     cells: &[Cell],
     points: &Table<Point>,
-    from: usize,
+    mut so_far: Gathering<K>,
     to: usize,
-    room: Room,
 ) -> Result<Gathering<K>, AllocError>
     requires exact { CmpEqualImpliesEq K.cmp }
     requires points { IsTable (length cells.now) points.now }
     requires order { IsStrictlySortedBy nat_cmp points.now.keys.items }
-    requires range { from ≤ to }
+    requires so_far { GathersPoints K.cmp K.parts_of K.first_of cells.now points.now so_far.from so_far.to so_far }
+    requires range { so_far.to ≤ to }
     requires within { to ≤ length points.now.keys.items }
-    ensures { IfOk result (GathersPoints K.cmp K.parts_of K.first_of cells.now points.now from to) }
+    ensures { IfOk result (GathersPoints K.cmp K.parts_of K.first_of cells.now points.now so_far.from to) }
 {
-    let mut so_far = nothing(alloc, room)?;
-    for index in from..to {
-        let (first, around) = points.face(index);
+    while so_far.to < to {
+        let (first, around) = points.face(so_far.to);
         let items = items_around(alloc, cells, around, first)?;
-        add(alloc, cells, &mut so_far, items, points, from, index)?;
+        add(alloc, cells, points, &mut so_far, items)?;
     }
     Ok(so_far)
 }
@@ -318,6 +323,7 @@ pub fn table_around<K: Part>(
     ensures table { IfOk result (λ o. IfSome o (λ t. IsTable (length cells.now) t)) }
 {
     let room = room_for::<K>(cells, points)?;
-    let all = gather_around(alloc, cells, points, 0, points.keys.len(), room)?;
+    let so_far = nothing(alloc, room, 0)?;
+    let all = add_points(alloc, cells, points, so_far, points.keys.len())?;
     Ok(whole(all, room.numbers))
 }

@@ -1,16 +1,18 @@
 //! Tables gathered point by point, by several threads: each takes the points from one index to another, and what they
-//! gathered is put together in order.
+//! gathered is put together in order, behind what was gathered before.
 
-ghost use Rattle.std.specs.Prelude.{◌≡◌, ◌≤◌, ◌+◌, ◌++◌, length, map, IfOk, IfSome, OnOk};
+ghost use Rattle.std.specs.Prelude.{◌≡◌, ◌<◌, ◌≤◌, ◌+◌, ◌++◌, ℕ, List, length, map, IfOk, IfSome, OnOk};
 ghost use Rattle.std.specs.List.Sorted.{IsStrictlySortedBy};
 ghost use Rattle.std.specs.Ordering.{nat_cmp};
 ghost use Rattle.std.specs.Thread.{IsSync};
 ghost use Rattle.std.proofs.lemmas.Map.Lookups.{CmpEqualImpliesEq};
+ghost use Rattle.point_order.specs.declared.cell.Cell.{Cell};
+ghost use Rattle.face_list.specs.declared.table.Table.{Table};
 ghost use Rattle.face_list.specs.Around.{GathersPoints};
 ghost use Rattle.face_list.specs.Gather.{Gathers, items_from};
 ghost use Rattle.face_list.specs.Tables.{AreStops, IsTable, stretches};
 
-use crate::around::{Gathering, Part, Room, gather_around, room_for, whole};
+use crate::around::{Gathering, Part, Room, add_points, nothing, room_for, whole};
 use crate::counts::sum_of;
 use crate::gather::put_end;
 use crate::table::Table;
@@ -18,8 +20,11 @@ use point_order::{Cell, Point};
 use std::alloc::{AllocError, Global};
 use std::thread::{Threads, join};
 
+// So many points are gathered before the next ones, so that their parts take little memory.
+const ROUND: usize = 4096;
+
 // Fewer points are left to one thread: to start another takes longer.
-const FEW: usize = 2048;
+const FEW: usize = 512;
 
 // Puts a list behind another.
 fn put_behind<T: Copy>(list: &mut Vec<T>, more: Vec<T>) -> Result<(), AllocError>
@@ -54,25 +59,58 @@ fn together<K: Part>(first: Gathering<K>, second: Gathering<K>) -> Result<Gather
     ensures numbers { IfOk result (λ g.
         g.table.numbers.items ≡ first.table.numbers.items ++ second.table.numbers.items) }
     ensures count { IfOk result (λ g. g.count ≡ first.count + second.count) }
+    ensures from { IfOk result (λ g. g.from ≡ first.from) }
+    ensures to { IfOk result (λ g. g.to ≡ second.to) }
 {
     let count = sum_of(first.count, second.count)?;
+    let (from, to) = (first.from, second.to);
     let mut table = first.table;
     let later = second.table;
     let before = table.numbers.len();
     put_ends(&mut table.ends, &later.ends, before)?;
     put_behind(&mut table.numbers, later.numbers)?;
     put_behind(&mut table.keys, later.keys)?;
-    Ok(Gathering { table, count })
+    Ok(Gathering {
+        table,
+        count,
+        from,
+        to,
+    })
 }
 
-// The items of the points from one index to another, gathered by so many threads. There is room for all in what the
-// first of them gathers, so that the others put theirs there.
-fn gather_beside<R: Threads + Sync, K: Part + Send>(
+// The room that some of so many points take where all take so much, and some more, so that it seldom has to grow.
+fn share_of(room: usize, some: usize, count: usize) -> usize
+    requires { 0 < count }
+{
+    let each = room / count;
+    each.saturating_add(each / 8 + 1).saturating_mul(some)
+}
+
+// Nothing yet, of some points from an index on, where all take so much room.
+fn nothing_of<K: Part>(
+    alloc: Global,
+    room: Room,
+    from: usize,
+    to: usize,
+    count: usize,
+) -> Result<Gathering<K>, AllocError>
+    requires order { from ≤ to }
+    requires count { 0 < count }
+    ensures { IfOk result (λ g. (cells : List Cell) (points : Table ℕ) → from ≤ length points.keys.items →
+        GathersPoints K.cmp K.parts_of K.first_of cells points from from g) }
+{
+    let keys = share_of(room.keys, to - from, count);
+    let numbers = share_of(room.numbers, to - from, count);
+    nothing(alloc, Room { keys, numbers }, from)
+}
+
+// Adds the items of the points up to an index, by so many threads. All points take so much room.
+fn add_beside<R: Threads + Sync, K: Part + Send>(
     rt: &R,
     alloc: Global,
     cells: &[Cell],
     points: &Table<Point>,
-    from: usize,
+    so_far: Gathering<K>,
     to: usize,
     room: Room,
     threads: usize,
@@ -80,39 +118,43 @@ fn gather_beside<R: Threads + Sync, K: Part + Send>(
     requires exact { CmpEqualImpliesEq K.cmp }
     requires points { IsTable (length cells.now) points.now }
     requires order { IsStrictlySortedBy nat_cmp points.now.keys.items }
-    requires range { from ≤ to }
+    requires so_far { GathersPoints K.cmp K.parts_of K.first_of cells.now points.now so_far.from so_far.to so_far }
+    requires range { so_far.to ≤ to }
     requires within { to ≤ length points.now.keys.items }
-    ensures { IfOk result (GathersPoints K.cmp K.parts_of K.first_of cells.now points.now from to) }
+    ensures { IfOk result (GathersPoints K.cmp K.parts_of K.first_of cells.now points.now so_far.from to) }
 {
+    let from = so_far.to;
     if threads < 2 || to - from < FEW {
-        return gather_around(alloc, cells, points, from, to, room);
+        return add_points(alloc, cells, points, so_far, to);
     }
     let middle = from + (to - from) / 2;
-    let half = half_of(room);
+    let part = nothing_of(alloc, room, middle, to, points.keys.len())?;
     let (first, second) = join(
         rt,
         || -> Result<Gathering<K>, AllocError>
             requires { IsSync R.row × CmpEqualImpliesEq K.cmp × IsTable (length cells.now) points.now
                 × IsStrictlySortedBy nat_cmp points.now.keys.items
-                × (from ≤ middle) × (middle ≤ length points.now.keys.items) }
+                × GathersPoints K.cmp K.parts_of K.first_of cells.now points.now so_far.from so_far.to so_far
+                × (so_far.to ≤ middle) × (middle ≤ length points.now.keys.items) }
             ensures { IfOk result
-                (GathersPoints K.cmp K.parts_of K.first_of cells.entry.now points.entry.now from middle) }
-        { gather_beside(rt, alloc, cells, points, from, middle, room, threads / 2) },
+                (GathersPoints K.cmp K.parts_of K.first_of cells.entry.now points.entry.now so_far.from middle) }
+        { add_beside(rt, alloc, cells, points, so_far, middle, room, threads / 2) },
         || -> Result<Gathering<K>, AllocError>
             requires { IsSync R.row × CmpEqualImpliesEq K.cmp × IsTable (length cells.now) points.now
                 × IsStrictlySortedBy nat_cmp points.now.keys.items
-                × (middle ≤ to) × (to ≤ length points.now.keys.items) }
+                × GathersPoints K.cmp K.parts_of K.first_of cells.now points.now part.from part.to part
+                × (part.to ≤ to) × (to ≤ length points.now.keys.items) }
             ensures { IfOk result
-                (GathersPoints K.cmp K.parts_of K.first_of cells.entry.now points.entry.now middle to) }
+                (GathersPoints K.cmp K.parts_of K.first_of cells.entry.now points.entry.now part.from to) }
         {
-            gather_beside(
+            add_beside(
                 rt,
                 alloc,
                 cells,
                 points,
-                middle,
+                part,
                 to,
-                half,
+                room,
                 threads - threads / 2,
             )
         },
@@ -121,12 +163,29 @@ fn gather_beside<R: Threads + Sync, K: Part + Send>(
     Ok(both)
 }
 
-// About the room that half of the points take, and some more, so that it seldom has to grow.
-fn half_of(room: Room) -> Room {
-    Room {
-        keys: room.keys / 2 + room.keys / 16,
-        numbers: room.numbers / 2 + room.numbers / 16,
+// The items of all points, gathered by so many threads: those of some points side by side, and then those of the next
+// ones, so that the parts take little memory beside the whole.
+fn gather_in_rounds<R: Threads + Sync, K: Part + Send>(
+    rt: &R,
+    alloc: Global,
+    cells: &[Cell],
+    points: &Table<Point>,
+    room: Room,
+    threads: usize,
+) -> Result<Gathering<K>, AllocError>
+    requires exact { CmpEqualImpliesEq K.cmp }
+    requires points { IsTable (length cells.now) points.now }
+    requires order { IsStrictlySortedBy nat_cmp points.now.keys.items }
+    ensures { IfOk result
+        (GathersPoints K.cmp K.parts_of K.first_of cells.now points.now 0 (length points.now.keys.items)) }
+{
+    let count = points.keys.len();
+    let mut so_far = nothing(alloc, room, 0)?;
+    while so_far.to < count {
+        let to = so_far.to + ROUND.min(count - so_far.to);
+        so_far = add_beside(rt, alloc, cells, points, so_far, to, room, threads)?;
     }
+    Ok(so_far)
 }
 
 /// What `table_around` gives, gathered by so many threads.
@@ -147,15 +206,6 @@ pub fn table_beside<R: Threads + Sync, K: Part + Send>(
     ensures table { IfOk result (λ o. IfSome o (λ t. IsTable (length cells.now) t)) }
 {
     let room = room_for::<K>(cells, points)?;
-    let all = gather_beside(
-        rt,
-        alloc,
-        cells,
-        points,
-        0,
-        points.keys.len(),
-        room,
-        threads,
-    )?;
+    let all = gather_in_rounds(rt, alloc, cells, points, room, threads)?;
     Ok(whole(all, room.numbers))
 }

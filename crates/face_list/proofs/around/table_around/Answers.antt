@@ -1,17 +1,22 @@
-use Rattle.std.proofs.Common.{◌∙◌, sym, subst, length}
+use Rattle.std.proofs.Common.{◌∙◌, sym, subst, length, arith}
 use Rattle.std.proofs.lemmas.Option.{IfSome_then}
 use Rattle.face_list.specs.Gather.{Gathers, items_from}
 use Rattle.face_list.specs.Tables.{IsTable}
 use Rattle.face_list.proofs.FaceLists.{items_name}
-use Rattle.face_list.proofs.Growing.{gathered_all, gathered_table}
+use Rattle.face_list.proofs.Growing.{gathered_all, gathered_table, gathers_own}
 use Rattle.face_list.proofs.around.table_around.Goals as goal
+
+pub add_points-requires-clause-so_far : goal.add_points-requires-clause-so_far
+add_points-requires-clause-so_far g c =
+    gathers_own g.K.Ord.cmp g.K.Part.parts_of g.K.First.first_of c.args.cells.now c.args.points.now 0 0 _
+    (c.in_ok-so_far.ensures c.args.cells.now c.args.points.now (omega arith))
 
 pub returns-clause-gathers : goal.returns-clause-gathers
 returns-clause-gathers g c =
     let cells = c.args.cells.now in
     IfSome_then c.whole.result c.whole.ensures
     (λ t w. subst (Gathers g.K.Ord.cmp cells (items_from 0 g.K.Part.parts_of cells)) (sym w.0)
-    (gathered_all g.K.Ord.cmp g.met.K.Ord.total c.requires.exact cells _ _ c.in_ok-all.all c.in_ok-all.ensures
+    (gathered_all g.K.Ord.cmp g.met.K.Ord.total c.requires.exact cells _ _ c.in_ok-all.all c.in_ok-all.ensures.items
     (w.1 ∙ c.in_ok-room.ensures)))
 
 pub returns-clause-table : goal.returns-clause-table
@@ -19,4 +24,5 @@ returns-clause-table g c =
     let cells = c.args.cells.now in
     IfSome_then c.whole.result c.whole.ensures
     (λ t w. subst (IsTable (length cells)) (sym w.0)
-    (gathered_table g.K.Ord.cmp cells _ _ c.in_ok-all.all (items_name g.K.Part.parts_of cells) c.in_ok-all.ensures))
+    (gathered_table g.K.Ord.cmp cells _ _ c.in_ok-all.all (items_name g.K.Part.parts_of cells)
+    c.in_ok-all.ensures.items))

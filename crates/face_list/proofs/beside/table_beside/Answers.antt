@@ -12,7 +12,7 @@ returns-clause-gathers g c =
     let ord = g.met.K.Ord g.world.𝓛 g.world.𝓜 g.world.𝓡 ((λ s x. x), (λ x. x), (λ x. x), λ x. x) in
     IfSome_then c.whole.result c.whole.ensures
     (λ t w. subst (Gathers g.K.Ord.cmp cells (items_from 0 g.K.Part.parts_of cells)) (sym w.0)
-    (gathered_all g.K.Ord.cmp ord.total c.requires.exact cells _ _ c.in_ok-all.all c.in_ok-all.ensures
+    (gathered_all g.K.Ord.cmp ord.total c.requires.exact cells _ _ c.in_ok-all.all c.in_ok-all.ensures.items
     (w.1 ∙ c.in_ok-room.ensures)))
 
 pub returns-clause-table : goal.returns-clause-table
@@ -20,4 +20,5 @@ returns-clause-table g c =
     let cells = c.args.cells.now in
     IfSome_then c.whole.result c.whole.ensures
     (λ t w. subst (IsTable (length cells)) (sym w.0)
-    (gathered_table g.K.Ord.cmp cells _ _ c.in_ok-all.all (items_name g.K.Part.parts_of cells) c.in_ok-all.ensures))
+    (gathered_table g.K.Ord.cmp cells _ _ c.in_ok-all.all (items_name g.K.Part.parts_of cells)
+    c.in_ok-all.ensures.items))

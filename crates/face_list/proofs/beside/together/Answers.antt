@@ -1,4 +1,4 @@
-use Rattle.std.proofs.Common.{◌≡◌, ℕ, List, ◌+◌, ◌++◌, ◌∙◌, ap, map, length}
+use Rattle.std.proofs.Common.{◌≡◌, ℕ, List, ◌+◌, ◌++◌, ◌∙◌, ap, map, length, refl}
 use Rattle.std.proofs.lemmas.List.{length-append, length-map}
 use Rattle.face_list.proofs.Stretches.{stops_both, stretches_both}
 use Rattle.face_list.proofs.beside.together.Goals as goal
@@ -23,4 +23,6 @@ returns g c =
       lists = rw (ended, behind) (stretches_both numbers more 0 ends others c.requires.first);
       numbers = behind;
       count = c.in_ok-count.ensures;
+      from = refl;
+      to = refl;
     }
