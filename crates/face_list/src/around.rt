@@ -23,7 +23,7 @@ ghost use Rattle.point_order.specs.Facets.{points_of};
 ghost use Rattle.point_order.specs.Sets.{IsIn};
 ghost use Rattle.point_order.specs.Subsets.{subsets};
 ghost use Rattle.face_list.specs.declared.table.Table.{Table};
-ghost use Rattle.face_list.specs.Around.{ArePut, GathersPoints, first_point};
+ghost use Rattle.face_list.specs.Around.{ArePut, CanAdd, GathersPoints, first_point};
 ghost use Rattle.face_list.specs.Gather.{Gathers, items_from};
 ghost use Rattle.face_list.specs.Order.{before_by_first};
 ghost use Rattle.face_list.specs.Tables.{IsTable, cell_at};
@@ -271,11 +271,7 @@ pub fn add_points<K: Part>(
     to: usize,
 ) -> Result<Gathering<K>, AllocError>
     requires exact { CmpEqualImpliesEq K.cmp }
-    requires points { IsTable (length cells.now) points.now }
-    requires order { IsStrictlySortedBy nat_cmp points.now.keys.items }
-    requires so_far { GathersPoints K.cmp K.parts_of K.first_of cells.now points.now so_far.from so_far.to so_far }
-    requires range { so_far.to ≤ to }
-    requires within { to ≤ length points.now.keys.items }
+    requires can { CanAdd K.cmp K.parts_of K.first_of cells.now points.now so_far to }
     ensures { IfOk result (GathersPoints K.cmp K.parts_of K.first_of cells.now points.now so_far.from to) }
 {
     while so_far.to < to {

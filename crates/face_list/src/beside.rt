@@ -8,7 +8,7 @@ ghost use Rattle.std.specs.Thread.{IsSync};
 ghost use Rattle.std.proofs.lemmas.Map.Lookups.{CmpEqualImpliesEq};
 ghost use Rattle.point_order.specs.declared.cell.Cell.{Cell};
 ghost use Rattle.face_list.specs.declared.table.Table.{Table};
-ghost use Rattle.face_list.specs.Around.{GathersPoints};
+ghost use Rattle.face_list.specs.Around.{CanAdd, GathersPoints};
 ghost use Rattle.face_list.specs.Gather.{Gathers, items_from};
 ghost use Rattle.face_list.specs.Tables.{AreStops, IsTable, stretches};
 
@@ -116,11 +116,7 @@ fn add_beside<R: Threads + Sync, K: Part + Send>(
     threads: usize,
 ) -> Result<Gathering<K>, AllocError>
     requires exact { CmpEqualImpliesEq K.cmp }
-    requires points { IsTable (length cells.now) points.now }
-    requires order { IsStrictlySortedBy nat_cmp points.now.keys.items }
-    requires so_far { GathersPoints K.cmp K.parts_of K.first_of cells.now points.now so_far.from so_far.to so_far }
-    requires range { so_far.to ≤ to }
-    requires within { to ≤ length points.now.keys.items }
+    requires can { CanAdd K.cmp K.parts_of K.first_of cells.now points.now so_far to }
     ensures { IfOk result (GathersPoints K.cmp K.parts_of K.first_of cells.now points.now so_far.from to) }
 {
     let from = so_far.to;
@@ -132,18 +128,14 @@ fn add_beside<R: Threads + Sync, K: Part + Send>(
     let (first, second) = join(
         rt,
         || -> Result<Gathering<K>, AllocError>
-            requires { IsSync R.row × CmpEqualImpliesEq K.cmp × IsTable (length cells.now) points.now
-                × IsStrictlySortedBy nat_cmp points.now.keys.items
-                × GathersPoints K.cmp K.parts_of K.first_of cells.now points.now so_far.from so_far.to so_far
-                × (so_far.to ≤ middle) × (middle ≤ length points.now.keys.items) }
+            requires { IsSync R.row × CmpEqualImpliesEq K.cmp
+                × CanAdd K.cmp K.parts_of K.first_of cells.now points.now so_far middle }
             ensures { IfOk result
                 (GathersPoints K.cmp K.parts_of K.first_of cells.entry.now points.entry.now so_far.from middle) }
         { add_beside(rt, alloc, cells, points, so_far, middle, room, threads / 2) },
         || -> Result<Gathering<K>, AllocError>
-            requires { IsSync R.row × CmpEqualImpliesEq K.cmp × IsTable (length cells.now) points.now
-                × IsStrictlySortedBy nat_cmp points.now.keys.items
-                × GathersPoints K.cmp K.parts_of K.first_of cells.now points.now part.from part.to part
-                × (part.to ≤ to) × (to ≤ length points.now.keys.items) }
+            requires { IsSync R.row × CmpEqualImpliesEq K.cmp
+                × CanAdd K.cmp K.parts_of K.first_of cells.now points.now part to }
             ensures { IfOk result
                 (GathersPoints K.cmp K.parts_of K.first_of cells.entry.now points.entry.now part.from to) }
         {

@@ -47,8 +47,8 @@ returns g c =
           (omega (arith, left)) b (here j m)))
           c.in_ok-keys.ensures.order
           (λ k. rw (← c.deref.ensures.value) (c.in_ok-keys.ensures.keys k))
-          (c.in_ok-extend_from_slice.ensures.items ∙ ap (λ (v : List g.row.K.Denot). c.args.so_far.now.table.keys.items ++ v)
-          c.deref-4.ensures.value)
+          (c.in_ok-extend_from_slice.ensures.items ∙ ap
+          (λ (v : List g.row.K.Denot). c.args.so_far.now.table.keys.items ++ v) c.deref-4.ensures.value)
           (c.in_ok-put_lists.ensures.ends ∙ ap
           (λ (v : List g.row.K.Denot). length c.args.so_far.now.table.ends.items + length v) c.deref-2.ensures.value)
           c.in_ok-put_lists.ensures.stops

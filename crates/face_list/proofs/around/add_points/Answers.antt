@@ -4,7 +4,7 @@ use Rattle.face_list.proofs.Growing.{gathers_as, gathers_own}
 use Rattle.face_list.proofs.around.add_points.Goals as goal
 
 pub loop-so_far-init : goal.loop-so_far-init
-loop-so_far-init g c = record { gathered = c.requires.so_far; range = c.requires.range }
+loop-so_far-init g c = record { gathered = c.requires.can.so_far; range = c.requires.can.range }
 
 pub add-requires-clause-so_far : goal.add-requires-clause-so_far
 add-requires-clause-so_far g c =
@@ -17,7 +17,7 @@ add-requires-clause-items g c i m =
     let n = c.loop-so_far.so_far.to in
     let first = c.face-first.result.0 in
     let t = c.loop-so_far-test.true in
-    let within = c.requires.within in
+    let within = c.requires.can.within in
     let inside : n < length keys = omega (arith, t, within) in
     let is : first ≡ get_or keys n 0 = c.face-first.ensures.key ∙ get_or_default keys n first 0 inside in
     let told = c.in_ok-items.ensures i m in

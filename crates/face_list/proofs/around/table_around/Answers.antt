@@ -6,10 +6,19 @@ use Rattle.face_list.proofs.FaceLists.{items_name}
 use Rattle.face_list.proofs.Growing.{gathered_all, gathered_table, gathers_own}
 use Rattle.face_list.proofs.around.table_around.Goals as goal
 
-pub add_points-requires-clause-so_far : goal.add_points-requires-clause-so_far
-add_points-requires-clause-so_far g c =
-    gathers_own g.K.Ord.cmp g.K.Part.parts_of g.K.First.first_of c.args.cells.now c.args.points.now 0 0 _
-    (c.in_ok-so_far.ensures c.args.cells.now c.args.points.now (omega arith))
+pub add_points-requires-clause-can : goal.add_points-requires-clause-can
+add_points-requires-clause-can g c =
+    let none = c.in_ok-so_far.ensures c.args.cells.now c.args.points.now (omega arith) in
+    let all = c.len.ensures ∙ c.args.points.now.keys.ok.0 in
+    let none_yet = none.end in
+    record {
+      table = c.requires.points;
+      order = c.requires.order;
+      so_far = gathers_own g.K.Ord.cmp g.K.Part.parts_of g.K.First.first_of c.args.cells.now c.args.points.now 0 0 _
+          none;
+      range = omega (arith, none_yet);
+      within = omega (arith, all);
+    }
 
 pub returns-clause-gathers : goal.returns-clause-gathers
 returns-clause-gathers g c =

@@ -1,6 +1,6 @@
 use Rattle.std.proofs.Common.{rules, ℕ, ◌≤◌, ◌+◌, ◌-◌, ◌/◌, length, ◌∙◌, refl, arith}
 use Rattle.std.proofs.lemmas.Result.{IfOk-at_ok}
-use Rattle.face_list.specs.Around.{BeginsWithin, GathersPoints}
+use Rattle.face_list.specs.Around.{BeginsWithin, CanAdd, GathersPoints}
 use Rattle.face_list.proofs.Growing.{begins_lesser, begins_wider, gathered_both, gathers_as, gathers_own}
 use Rattle.face_list.proofs.beside.+add_beside+fn-add_beside-join+arg2+fn-add_beside-join+arg3.Goals as goal
 
@@ -11,18 +11,31 @@ join-first-requires-after_bounds g t c κs inside =
     let table = c.args.points.now in
     let start = c.args.so_far.to in
     let to = c.args.to in
-    let range = c.requires.range in
-    let within = c.requires.within in
+    let range = c.requires.can.range in
+    let within = c.requires.can.within in
     let few = c.if-to-from-lt-FEW.false in
     let middle : ℕ = start + (to - start) / 2 in
     let high : middle ≤ to = omega (arith, range) in
     let inner : middle ≤ length table.keys.items = omega (arith, high, within) in
     let none = c.in_ok-part.ensures cells table inner in
-    let own = gathers_own g.K.Ord.cmp g.K.Part.parts_of g.K.First.first_of cells table middle middle c.in_ok-part.part
-    none in
     let end = none.end in
-    let below : c.in_ok-part.part.to ≤ to = omega (arith, end, high) in
-    search (rules, own, below, inner, within)
+    let can = c.requires.can in
+    let first : CanAdd g.K.Ord.cmp g.K.Part.parts_of g.K.First.first_of cells table c.args.so_far middle = record {
+      table = can.table;
+      order = can.order;
+      so_far = can.so_far;
+      range = omega arith;
+      within = inner;
+    } in
+    let second : CanAdd g.K.Ord.cmp g.K.Part.parts_of g.K.First.first_of cells table c.in_ok-part.part to = record {
+      table = can.table;
+      order = can.order;
+      so_far = gathers_own g.K.Ord.cmp g.K.Part.parts_of g.K.First.first_of cells table middle middle c.in_ok-part.part
+          none;
+      range = omega (arith, end, high);
+      within = within;
+    } in
+    search (rules, first, second)
 
 -- both halves are the whole
 pub returns : goal.returns
@@ -36,10 +49,10 @@ returns g t c =
     let from = c.args.so_far.from in
     let start = c.args.so_far.to in
     let to = c.args.to in
-    let order = c.requires.order in
-    let range = c.requires.range in
-    let within = c.requires.within in
-    let before = c.requires.so_far.order in
+    let order = c.requires.can.order in
+    let range = c.requires.can.range in
+    let within = c.requires.can.within in
+    let before = c.requires.can.so_far.order in
     let middle : ℕ = start + (to - start) / 2 in
     let low : from ≤ middle = omega (arith, before) in
     let high : middle ≤ to = omega (arith, range) in
