@@ -1,5 +1,5 @@
 -- The faces of a complex, and the least alphas of its Full cells, which stand in front of those of all its cells.
-use Rattle.std.proofs.Common.{◌≡◌, ◌∙◌, ℕ, ap, refl, sym, subst, List, [], ◌∷◌, length, map, take}
+use Rattle.std.proofs.Common.{◌≡◌, ◌∙◌, ℕ, ◌<◌, ap, refl, sym, subst, List, [], ◌∷◌, get_or, length, map, take}
 use Rattle.std.specs.List.{AllZip}
 use Rattle.point_order.specs.declared.cell.Cell.{Cell}
 use Rattle.point_order.specs.declared.cell.Cell.TheVariants.{Full}
@@ -9,6 +9,10 @@ use Rattle.face_list.specs.Seen.{FaceLists}
 use Rattle.alpha_complex.specs.Condition.{AreFacesOf}
 use Rattle.alpha_complex.specs.Admitted.{is_admitted_cell}
 use Rattle.alpha_complex.specs.Leasts.{IsLeastOf}
+use Rattle.alpha_complex.specs.Told.{TellsFace}
+use Rattle.alpha_complex.specs.declared.numbers.FaceAlphas.{FaceAlphas}
+use Rattle.alpha_complex.proofs.Cited.{zip_places}
+use Rattle.face_list.proofs.Cited.{points_of_complex}
 use Rattle.hole_laws.specs.Edits.{IsSet}
 use Rattle.mesh_rows.specs.Meshes.{AreCellAlphas, IsCloud}
 use Rattle.mesh_rows.proofs.FullFirst.{kinds, kinds_of}
@@ -56,3 +60,46 @@ pub parts_mapped : (n : ℕ) (s : List ℕ) (faces : List (List ℕ × List Cell
     faces ≡ with_cells (parts_in n (complex s)) (complex s) → map (λ f. f.0) faces ≡ parts_in n (complex s)
 parts_mapped n s faces e =
     ap (λ (l : List (List ℕ × List Cell)). map (λ f. f.0) l) e ∙ firsts (parts_in n (complex s)) (complex s)
+
+-- the points of a complex, each without its cells
+pub points_mapped : (s : List ℕ) (faces : FaceLists) → AreFacesOf s faces → map (λ f. f.0) faces.points ≡ s
+points_mapped s faces h =
+    ap (λ (l : List (ℕ × List Cell)). map (λ f. f.0) l) h.points ∙ alone (points_in (complex s))
+    ∙ points_of_complex s h.ascending h.keys h.solid
+  where
+    alone : (points : List ℕ) → map (λ f. f.0) (points_with_cells points (complex s)) ≡ points
+    alone [] = refl
+    alone (p ∷ points) = ap (λ (l : List ℕ). p ∷ l) (alone points)
+
+-- ---- the numbers of faces, one after another
+
+-- the numbers tell of the point of an index
+abbrev pub TellsPoint : FaceLists → ℕ → FaceAlphas → Type 0
+TellsPoint faces i a = (s : List ℕ) → AreFacesOf s faces → TellsFace s (get_or s i 0 ∷ []) a
+
+-- and of the pair or triple of an index
+abbrev pub TellsPart : ℕ → FaceLists → ℕ → FaceAlphas → Type 0
+TellsPart n faces i a = (s : List ℕ) → AreFacesOf s faces → TellsFace s (get_or (parts_in n (complex s)) i []) a
+
+-- no numbers
+none : FaceAlphas
+none = record { admitted = 0; regular = 0; interior = 0 }
+
+-- where they do of each point, they do of all
+pub points_told :
+    (s : List ℕ) (faces : FaceLists) (alphas : List FaceAlphas) (k : ℕ) → AreFacesOf s faces → k ≡ length s →
+    length alphas ≡ k → ((i : ℕ) (d : FaceAlphas) → i < k → TellsPoint faces i (get_or alphas i d)) →
+    AllZip (λ p a. TellsFace s (p ∷ []) a) s alphas
+points_told s faces alphas k h e n t =
+    zip_places (λ p a. TellsFace s (p ∷ []) a) 0 none s alphas (n ∙ e)
+    (λ i l. t i none (subst (λ (j : ℕ). i < j) (sym e) l) s h)
+
+-- so of pairs and triples
+pub parts_told :
+    (n : ℕ) (s : List ℕ) (faces : FaceLists) (alphas : List FaceAlphas) (k : ℕ) → AreFacesOf s faces →
+    k ≡ length (parts_in n (complex s)) → length alphas ≡ k →
+    ((i : ℕ) (d : FaceAlphas) → i < k → TellsPart n faces i (get_or alphas i d)) →
+    AllZip (TellsFace s) (parts_in n (complex s)) alphas
+parts_told n s faces alphas k h e m t =
+    zip_places (TellsFace s) [] none (parts_in n (complex s)) alphas (m ∙ e)
+    (λ i l. t i none (subst (λ (j : ℕ). i < j) (sym e) l) s h)

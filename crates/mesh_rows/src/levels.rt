@@ -1,14 +1,19 @@
 //! The faces of a complex, and the least alphas of each.
 
-ghost use Rattle.std.specs.Prelude.{◌≡◌, ◌≤◌, ◌∷◌, [], length, IfErr, IfOk};
-ghost use Rattle.face_list.specs.Faces.{full_cells};
+ghost use Rattle.std.specs.Prelude.{◌≡◌, ◌≤◌, ◌∷◌, [], ℕ, List, length, IfErr, IfOk};
+ghost use Rattle.std.specs.List.{AllZip};
+ghost use Rattle.point_order.specs.Complex.{complex};
+ghost use Rattle.alpha_complex.specs.Condition.{AreFacesOf};
+ghost use Rattle.alpha_complex.specs.Leasts.{AreKnown};
+ghost use Rattle.alpha_complex.specs.Told.{TellsFace};
+ghost use Rattle.face_list.specs.Faces.{full_cells, parts_in};
 ghost use Rattle.mesh_rows.specs.Meshes.{AreFaceRows, AreFiltered, IsStopCause, IsCloud};
 
 use crate::cloud::cloud_of;
 use crate::numbers::{edges, triangles};
 use crate::rows::{EdgeRow, FaceSizes, Place, TriangleRow};
 use crate::stop::Stop;
-use alpha_complex::{FaceAlphas, alphas_alone};
+use alpha_complex::{Alphas, FaceAlphas, alphas_alone};
 use face_list::few_faces;
 use point_order::{Cell, Point};
 use std::alloc::{AllocError, Global};
@@ -46,6 +51,48 @@ fn full_count(cells: &[Cell]) -> usize
     count
 }
 
+// The numbers of the points.
+fn alphas_of_points(alloc: Global, known: &Alphas) -> Result<Vec<FaceAlphas>, AllocError>
+    requires { AreKnown known.now }
+    ensures { IfOk result (λ v. (s : List ℕ) → AreFacesOf s known.now.faces.now →
+        AllZip (λ p a. TellsFace s (p ∷ []) a) s v.items) }
+{
+    let count = known.faces.points().len();
+    let mut alphas = Vec::with_capacity(alloc, count)?;
+    for index in 0..count {
+        alphas.push(known.point(index))?;
+    }
+    Ok(alphas)
+}
+
+// The numbers of the pairs.
+fn alphas_of_pairs(alloc: Global, known: &Alphas) -> Result<Vec<FaceAlphas>, AllocError>
+    requires { AreKnown known.now }
+    ensures { IfOk result (λ v. (s : List ℕ) → AreFacesOf s known.now.faces.now →
+        AllZip (TellsFace s) (parts_in 2 (complex s)) v.items) }
+{
+    let count = known.faces.pairs().len();
+    let mut alphas = Vec::with_capacity(alloc, count)?;
+    for index in 0..count {
+        alphas.push(known.pair(index))?;
+    }
+    Ok(alphas)
+}
+
+// The numbers of the triples.
+fn alphas_of_triples(alloc: Global, known: &Alphas) -> Result<Vec<FaceAlphas>, AllocError>
+    requires { AreKnown known.now }
+    ensures { IfOk result (λ v. (s : List ℕ) → AreFacesOf s known.now.faces.now →
+        AllZip (TellsFace s) (parts_in 3 (complex s)) v.items) }
+{
+    let count = known.faces.triples().len();
+    let mut alphas = Vec::with_capacity(alloc, count)?;
+    for index in 0..count {
+        alphas.push(known.triple(index))?;
+    }
+    Ok(alphas)
+}
+
 // Those of a set and its cells.
 fn face_rows(alloc: Global, set: &[Point], all: &[Cell]) -> Result<Levels, AllocError>
     requires { IsCloud set.now all.now }
@@ -58,13 +105,16 @@ fn face_rows(alloc: Global, set: &[Point], all: &[Cell]) -> Result<Levels, Alloc
     let pairs = edges(alloc, set, faces.pairs())?;
     let triples = triangles(alloc, set, faces.triples())?;
     let mut known = alphas_alone(alloc, &faces)?;
+    let point_alphas = alphas_of_points(alloc, &known)?;
+    let edge_alphas = alphas_of_pairs(alloc, &known)?;
+    let triangle_alphas = alphas_of_triples(alloc, &known)?;
     known.cells.truncate(full_count(all));
     Ok(Levels {
-        point_alphas: known.points,
+        point_alphas,
         edges: pairs,
-        edge_alphas: known.pairs,
+        edge_alphas,
         triangles: triples,
-        triangle_alphas: known.triples,
+        triangle_alphas,
         cell_alphas: known.cells,
     })
 }

@@ -1,0 +1,18 @@
+use Rattle.std.proofs.Common.{◌≡◌, ◌∙◌, ap, arith, length}
+use Rattle.mesh_rows.proofs.Alphas.{TellsPart, parts_mapped, parts_told}
+use Rattle.mesh_rows.proofs.RowLaws.{push_each}
+use Rattle.mesh_rows.proofs.levels.alphas_of_triples.Goals as goal
+
+pub loop-index-preserved : goal.loop-index-preserved
+loop-index-preserved c =
+    push_each (TellsPart 3 c.args.known.now.faces.now) c.loop-index.alphas.items
+    c.push.new.self.items c.triple.result c.loop-index.index c.in_ok-push.ensures.items c.loop-index.invariant
+    c.triple.ensures.told
+
+pub returns : goal.returns
+returns c s h =
+    let all : c.loop-index.index ≡ length c.triples-count.result.now =
+    omega (arith, c.loop-index-test.false, c.loop-index.auto.index-end) in
+    parts_told 3 s c.args.known.now.faces.now c.loop-index.alphas.items c.loop-index.index h
+    (all ∙ ap length (c.triples-count.ensures ∙ parts_mapped 3 s _ h.triples))
+    c.loop-index.invariant.0 c.loop-index.invariant.1

@@ -1,0 +1,10 @@
+use Rattle.std.proofs.Common.{◌≡◌, ℕ, ◌<◌, length, get_or}
+use Rattle.alpha_complex.specs.declared.numbers.FaceAlphas.{FaceAlphas}
+use Rattle.mesh_rows.proofs.Alphas.{TellsPart}
+use Rattle.mesh_rows.proofs.levels.alphas_of_triples.Given as goal
+
+-- the numbers of each of the triples so far
+abbrev pub invariant-loop-index : goal.invariant-loop-index
+invariant-loop-index l =
+    (length l.alphas.items ≡ l.index)
+    × ((i : ℕ) (d : FaceAlphas) → i < l.index → TellsPart 3 l.known.faces.now i (get_or l.alphas.items i d))
