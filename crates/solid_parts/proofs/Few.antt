@@ -45,9 +45,11 @@ use Rattle.list_laws.proofs.Cited.{
   among_true,
   any_from,
   any_true,
+  both_true,
   each_by,
   filtered_from,
   filtered_true,
+  first_true,
   flat_from,
   in_flat,
   in_take_more,
@@ -55,6 +57,7 @@ use Rattle.list_laws.proofs.Cited.{
   mapped_true,
   rises,
   same_filter,
+  second_true,
   sorted_map,
 }
 use Rattle.point_order.specs.declared.cell.Cell.{Cell}
@@ -69,11 +72,10 @@ use Rattle.del_laws.proofs.Cited.{same_members}
 use Rattle.face_list.specs.Faces.{cells_with, full_cells, points_with_cells}
 use Rattle.face_list.specs.Seen.{FaceLists}
 use Rattle.face_list.proofs.Cited.{full_cell_is_listed, listed_is_full_cell, points_of_complex}
-use Rattle.alpha_complex.specs.declared.numbers.FaceAlphas.{FaceAlphas}
 use Rattle.alpha_complex.specs.Admitted.{is_admitted, is_admitted_cell, is_within}
 use Rattle.alpha_complex.specs.Condition.{AreFacesOf}
 use Rattle.alpha_complex.specs.Judged.{is_small_cell}
-use Rattle.alpha_complex.specs.Leasts.{AreAlphas, IsLeastOf, is_admitted_point}
+use Rattle.alpha_complex.specs.Leasts.{IsLeastOf}
 use Rattle.alpha_complex.specs.Shapes.{shape_of}
 use Rattle.alpha_complex.proofs.Cited.{cells_are}
 use Rattle.solid_parts.specs.LeastAlpha.{IsCompact, IsCovered, IsStart}
@@ -221,38 +223,33 @@ module _ (s : List ℕ) (faces : FaceLists) (alpha : ℕ) (h : AreFacesOf s face
       (elim i [ inl e ↦ subst (λ n. IsIn n c.0) e c.2 | inr none ↦ absurd none ]))))
       f.1
 
-  -- the numbers of points tell whether all are
-  all_covered : (ps : List ℕ) (alphas : List FaceAlphas) → alpha < 2 ^ 34 →
-      AreAlphas is_admitted_point (points_with_cells ps (complex s)) alphas →
-      (list_all (λ a. nat_le a.regular alpha) alphas ≡ true) ↔ ((p : ℕ) → IsIn p ps → IsCovered s alpha p)
-  all_covered [] [] l z = (λ t p i. absurd i, λ f. refl)
-  all_covered [] (a ∷ alphas) l z = absurd z
-  all_covered (p ∷ ps) [] l z = absurd z
-  all_covered (p ∷ ps) (a ∷ alphas) l z = (
-    λ t q i. elim i [
-      | inl e ↦ subst (IsCovered s alpha) e (covered_from p (z.0.regular alpha l ∙ all_from
-          (λ x. nat_le x.regular alpha) (a ∷ alphas) t a (inl refl)))
-      | inr j ↦ (all_covered ps alphas l z.1).0 (all_true (λ x. nat_le x.regular alpha) alphas
-          (λ x k. all_from (λ x. nat_le x.regular alpha) (a ∷ alphas) t x (inr k))) q j
-    ],
-    λ f. all_true (λ x. nat_le x.regular alpha) (a ∷ alphas) (λ x k. elim k [
-      | inl e ↦ subst (λ (x : FaceAlphas). nat_le x.regular alpha ≡ true) e
-          (sym (z.0.regular alpha l) ∙ covered_true p (f p (inl refl)))
-      | inr j ↦ all_from (λ x. nat_le x.regular alpha) alphas ((all_covered ps alphas l z.1).1 (λ q m. f q (inr m))) x j
-    ]),
-  )
+  -- so the cells around the points tell whether all are
+  all_covered : (ps : List ℕ) →
+      (list_all (list_any (is_small_cell alpha)) (map (λ f. f.1) (points_with_cells ps (complex s))) ≡ true)
+      ↔ ((p : ℕ) → IsIn p ps → IsCovered s alpha p)
+  all_covered [] = (λ t p i. absurd i, λ f. refl)
+  all_covered (p ∷ ps) =
+      let first = list_any (is_small_cell alpha) (cells_with (p ∷ []) (complex s)) in
+      let rest = list_all (list_any (is_small_cell alpha)) (map (λ f. f.1) (points_with_cells ps (complex s))) in (
+        λ t q i. elim i [
+          | inl e ↦ subst (IsCovered s alpha) e (covered_from p (first_true first rest t))
+          | inr j ↦ (all_covered ps).0 (second_true first rest t) q j
+        ],
+        λ f. both_true first rest (covered_true p (f p (inl refl))) ((all_covered ps).1 (λ q m. f q (inr m))),
+      )
 
 -- the greatest number of a point is where all come to be covered
 pub start_is :
-    (s : List ℕ) (faces : FaceLists) (points : List FaceAlphas) (start alpha : ℕ) → AreFacesOf s faces →
-    AreAlphas is_admitted_point faces.points points →
-    ((a : ℕ) → nat_le start a ≡ list_all (λ x. nat_le x.regular a) points) → alpha < 2 ^ 34 → IsStart s alpha start
-start_is s faces points start alpha h z e l =
+    (s : List ℕ) (faces : FaceLists) (start alpha : ℕ) → AreFacesOf s faces →
+    IsLeastOf (λ a. list_all (list_any (is_small_cell a)) (map (λ f. f.1) faces.points)) start →
+    alpha < 2 ^ 34 → IsStart s alpha start
+start_is s faces start alpha h e l =
     let p = h.points ∙ ap (λ (v : List ℕ). points_with_cells v (complex s))
     (points_of_complex s h.ascending h.keys h.solid) in
-    let c = all_covered s faces alpha h s points l (subst (λ (v : List (ℕ × List Cell)). AreAlphas is_admitted_point v
-    points) p z) in
-    (λ m. c.0 (sym (e alpha) ∙ le_true start alpha m), λ f. le_from start alpha (e alpha ∙ c.1 f))
+    let c = all_covered s faces alpha h s in
+    let told = subst (λ (v : List (ℕ × List Cell)). list_all (list_any (is_small_cell alpha)) (map (λ f. f.1) v)
+    ≡ nat_le start alpha) p (e alpha l) in
+    (λ m. c.0 (told ∙ le_true start alpha m), λ f. le_from start alpha (sym told ∙ c.1 f))
 
 -- ---- only the numbers of cells matter
 

@@ -1,14 +1,15 @@
 //! The numbers of the cells, of which one is the least alpha at which there are few parts.
 
-ghost use Rattle.std.specs.Prelude.{◌≡◌, ◌<◌, ◌^◌, ◌↔◌, ℕ, nat_le, max, length, IsTrue, IfOk};
-ghost use Rattle.std.specs.List.{list_all};
+ghost use Rattle.std.specs.Prelude.{◌≡◌, ◌<◌, ◌^◌, ◌↔◌, ℕ, map, max, length, IsTrue, IfOk};
+ghost use Rattle.std.specs.List.{list_all, list_any};
 ghost use Rattle.point_order.specs.Sets.{IsIn};
-ghost use Rattle.alpha_complex.specs.declared.numbers.FaceAlphas.{FaceAlphas};
+ghost use Rattle.alpha_complex.specs.Judged.{is_small_cell};
+ghost use Rattle.alpha_complex.specs.Leasts.{AreKnown, IsLeastOf};
 ghost use Rattle.std.specs.List.Sorted.{IsNonDecreasingBy};
 ghost use Rattle.solid_parts.specs.Levels.{AreLevels};
 ghost use Rattle.solid_parts.specs.Links.{count_to};
 
-use alpha_complex::FaceAlphas;
+use alpha_complex::Alphas;
 use std::alloc::{AllocError, Global};
 
 /// The greater of two numbers.
@@ -19,12 +20,14 @@ pub fn greater(m: u64, n: u64) -> u64
 }
 
 /// The least alpha at which some admitted cell has each of the points, by their numbers.
-pub fn cover_least(points: &[FaceAlphas]) -> u64
-    ensures { (alpha : ℕ) → nat_le result alpha ≡ list_all (λ a. nat_le a.regular alpha) points.now }
+pub fn cover_least(known: &Alphas) -> u64
+    requires { AreKnown known.now }
+    ensures { IsLeastOf
+        (λ alpha. list_all (list_any (is_small_cell alpha)) (map (λ f. f.1) known.now.faces.now.points)) result }
 {
     let mut least = 0;
-    for point in points {
-        least = greater(least, point.regular);
+    for index in 0..known.faces.points().len() {
+        least = greater(least, known.point(index).regular);
     }
     least
 }

@@ -150,7 +150,7 @@ pub fn least_alpha<R: Threads + Sync>(
     ensures { IfOk result (λ least. (s : List ℕ) → AreFacesOf s faces.now → IsLeastAlpha s k least) }
 {
     let known = alphas(rt, alloc, faces)?;
-    let start = cover_least(&known.points);
+    let start = cover_least(&known);
     first_compact(alloc, faces, &known.cells, start, k)
 }
 

@@ -23,8 +23,8 @@ returns-clause-numbers c =
     let faces = known.faces.now in
     let i = c.args.index in
     let f = c.pair.ensures.face ∙ get_or_default faces.pairs i _ ([], []) c.requires.index in
-    let z = zip_at (λ x n. IsLeastOf (λ a. is_admitted_pair faces.triples a x) n) faces.pairs known.pairs.items i ([], [])
-    0 c.requires.known.pairs c.requires.index in
+    let z = zip_at (λ x n. IsLeastOf (λ a. is_admitted_pair faces.triples a x) n) faces.pairs known.pairs.items i
+    ([], []) 0 c.requires.known.pairs c.requires.index in
     let e = ap (λ (v : List ℕ). get_or v i 0) (sym c.deref.ensures.value) ∙ sym c.number_at.ensures
     ∙ sym c.with_cells_of.ensures.admitted in
     record {
