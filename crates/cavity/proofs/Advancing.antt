@@ -55,8 +55,8 @@ use Rattle.cell_store.specs.Missing.{ArePointsHeld, IsCellMissing}
 use Rattle.cell_store.specs.Ready.{AreHeld}
 use Rattle.cell_store.specs.Shares.{Shows}
 use Rattle.cell_store.specs.Swaps.{touches}
-use Rattle.cavity.specs.Digs.{Digging, CanDig, AreCrossed, IsDigIn, IsDoneIn, facets_of_first}
-use Rattle.cavity.specs.Exploring.{IsAt, AreUncrossed, Explores}
+use Rattle.cavity.specs.Digs.{Digging, CanDig, IsDigIn, IsDoneIn}
+use Rattle.hole_laws.specs.Digs.{AreCrossed, facets_of_first, IsCrossedAt, AreUncrossed, Explores}
 use Rattle.cavity.specs.Turns.{IsNeeded, NoneIsNeeded}
 use Rattle.cell_store.proofs.Cited.{cells_more, has_point, solid_set}
 use Rattle.cavity.proofs.Filling.{all_found}
@@ -101,7 +101,7 @@ few_explored hold h d st k less held =
 module _ (s : List ℕ) (i : IsSolidSet s) (d : Digging) (k : IsDigIn s d) (cell : Cell) (h : d.explored < length d.found)
     (at : cell ≡ slice_index_or d.found d.explored cell) where
   -- it was found
-  pub next_at : IsAt s d.point (facets_of_first d.explored d.found) cell d.found d.rim
+  pub next_at : IsCrossedAt s d.point (facets_of_first d.explored d.found) cell d.found d.rim
   next_at = record { new = k.new; so_far = k.crossed; among = at_place d.found d.explored cell cell h at }
 
   -- no rim facet of it was crossed

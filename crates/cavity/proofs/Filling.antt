@@ -18,12 +18,13 @@ use Rattle.hole_laws.proofs.Cited.{
   old_lack_point,
   one_fresh_each,
   region_connected,
+  on_cell,
 }
 use Rattle.cell_store.specs.Grids.{bucket_of}
 use Rattle.cell_store.specs.Buckets.{bucket_at}
-use Rattle.cavity.specs.Digs.{Digging, AreCrossed, IsDoneIn}
-use Rattle.cavity.specs.Fills.{IsFilled, IsFacetApart, FreshAreHeld}
-use Rattle.cell_conflict.proofs.Cited.{on_cell}
+use Rattle.cavity.specs.Digs.{Digging, IsDoneIn}
+use Rattle.hole_laws.specs.Digs.{AreCrossed, IsFacetApart}
+use Rattle.cavity.specs.Fills.{IsFilled, FreshAreHeld}
 
 module _ (s : List ℕ) (d : Digging) (k : IsDoneIn s d) where
   -- the facets of all found cells were crossed

@@ -1,6 +1,5 @@
 pub mod Tables
 pub mod Composing
-pub mod Crossing
 pub mod Filling
 pub mod Exploration
 pub mod Advancing

@@ -4,7 +4,6 @@ use Rattle.list_laws.specs.Lists.{AreDistinct}
 use Rattle.point_order.specs.declared.cell.Cell.{Cell}
 use Rattle.point_order.specs.declared.cell.Facet.{Facet}
 use Rattle.point_order.specs.Complex.{complex}
-use Rattle.point_order.specs.Facets.{facets_of}
 use Rattle.point_order.specs.Sets.{IsIn, with_point}
 use Rattle.hole_laws.specs.Edits.{IsSolidSet, IsNew}
 use Rattle.cell_store.specs.Grids.{bucket_of}
@@ -19,14 +18,6 @@ pub record IsFilled (s : List ℕ) (p : ℕ) (gone fresh : List Cell) : Type 0 w
   pub change : IsChange (complex s) (complex (with_point p s)) gone fresh
   pub gone_once : AreDistinct gone
   pub fresh_once : AreDistinct fresh
-
--- p is none of the points of a facet of some cell
-abbrev pub IsFacetApart : Facet → ℕ → Type 0
-IsFacetApart f p = (q : Cell) × IsIn f (facets_of q) × ¬ (IsIn p (points_on f))
-
--- so of each facet of a list
-abbrev pub AreFacetsApart : List Facet → ℕ → Type 0
-AreFacetsApart facets p = (f : Facet) → IsIn f facets → IsFacetApart f p
 
 -- where the buckets of the gone cells and of p are in hand, those of the fresh cells are
 abbrev pub FreshAreHeld : Type 0

@@ -6,7 +6,8 @@ ghost use Rattle.point_order.specs.Sets.{IsIn};
 ghost use Rattle.point_order.specs.declared.cell.Cell.{Cell};
 ghost use Rattle.cell_store.specs.Shares.{Shows, NoneInHand, points_on};
 ghost use Rattle.cell_store.specs.Missing.{ArePointsHeld};
-ghost use Rattle.cavity.specs.Exploring.{ShowsAt, ShowsNewAt, Crosses, Explores};
+ghost use Rattle.cavity.specs.Exploring.{ShowsAt, ShowsNewAt};
+ghost use Rattle.hole_laws.specs.Digs.{Crosses, Explores};
 
 use crate::cell_table::number_of;
 use crate::judged::Judged;

@@ -3,7 +3,8 @@
 ghost use Rattle.std.specs.Prelude.{◌≡◌, ℕ, List, map, IfOk};
 ghost use Rattle.hole_laws.specs.Lists.{cell_over};
 ghost use Rattle.cavity.specs.Digs.{IsDone, IsDoneIn};
-ghost use Rattle.cavity.specs.Fills.{IsFilled, IsFacetApart, AreFacetsApart};
+ghost use Rattle.cavity.specs.Fills.{IsFilled};
+ghost use Rattle.hole_laws.specs.Digs.{IsFacetApart, AreFacetsApart};
 
 use crate::dig::Dig;
 use cell_store::Spot;

@@ -1,4 +1,3 @@
 pub mod Standing
-pub mod Mates
 pub mod Searching
 pub mod Cited

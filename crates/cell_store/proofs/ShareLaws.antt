@@ -46,7 +46,7 @@ use Rattle.hole_laws.specs.Edits.{IsSolidSet}
 use Rattle.cell_store.specs.Grids.{bucket_of}
 use Rattle.cell_store.specs.Buckets.{BucketContent, InHand, bucket_at, cells_in}
 use Rattle.cell_store.specs.Swaps.{touches}
-use Rattle.cell_store.specs.Others.{IsOtherOf, HaveNoOther}
+use Rattle.hole_laws.specs.Others.{IsOtherOf, HaveNoOther}
 use Rattle.cell_store.specs.Shares.{
   Stands,
   IsSound,

@@ -5,7 +5,6 @@ pub mod Swaps
 pub mod Shares
 pub mod Stars
 pub mod Spots
-pub mod Others
 pub mod Changes
 pub mod Meshes
 pub mod Gathered

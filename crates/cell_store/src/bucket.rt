@@ -31,7 +31,7 @@ ghost use Rattle.cell_stars.specs.Places.{all_keys, lies_in, cells_of, AreStars}
 ghost use Rattle.cell_stars.specs.Plans.{IsOnceFor, MakesExchange};
 ghost use Rattle.cell_stars.specs.Turns.{AreReady};
 ghost use Rattle.cell_store.specs.Buckets.{FitsPlace, content_of};
-ghost use Rattle.cell_store.specs.Others.{HaveNoOther, IsOtherOf};
+ghost use Rattle.hole_laws.specs.Others.{HaveNoOther, IsOtherOf};
 ghost use Rattle.cell_store.specs.Ready.{CanTurn, HasMuchRoom, HasRoom, IsRoomier, IsTurned};
 ghost use Rattle.cell_store.specs.Shares.{points_on};
 ghost use Rattle.cell_store.specs.Stars.{cells_around, cells_left, cells_to_come};

@@ -6,7 +6,7 @@ ghost use Rattle.point_order.specs.Facets.{facets_of};
 ghost use Rattle.point_order.specs.declared.cell.Cell.TheVariants.{Full, Open};
 ghost use Rattle.point_order.specs.declared.cell.Facet.TheVariants.{Three, Two};
 ghost use Rattle.cell_stars.specs.Stars.{cells_around};
-ghost use Rattle.cell_store.specs.Others.{IsOtherOf, HaveNoOther};
+ghost use Rattle.hole_laws.specs.Others.{IsOtherOf, HaveNoOther};
 
 use cell_stars::StarCells;
 use point_order::{Cell, Facet, Pair, Quad, Tri};

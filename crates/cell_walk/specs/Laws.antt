@@ -11,7 +11,7 @@ use Rattle.del_laws.specs.Walks.{is_before}
 use Rattle.hole_laws.specs.Edits.{IsSet, IsSolidSet, IsNew, StaysFrom}
 use Rattle.cell_store.specs.Buckets.{InHand}
 use Rattle.cell_store.specs.Meshes.{AreAmong}
-use Rattle.cell_store.specs.Others.{IsOtherOf}
+use Rattle.hole_laws.specs.Others.{IsOtherOf}
 use Rattle.cell_store.specs.Shares.{Shows, IsAcross, IsInHandFor, points_on}
 use Rattle.cell_walk.specs.Paths.{Walking, nearer_held, facet_towards, ComesNearer, IsWalkIn}
 use Rattle.cell_walk.specs.Turns.{StartGives}

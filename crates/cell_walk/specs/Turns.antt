@@ -13,7 +13,7 @@ use Rattle.hole_laws.specs.Edits.{GoesFrom, StaysFrom}
 use Rattle.cell_store.specs.Grids.{bucket_of}
 use Rattle.cell_store.specs.Buckets.{InHand, bucket_at}
 use Rattle.cell_store.specs.Shares.{NoneInHand, points_on}
-use Rattle.cell_store.specs.Others.{IsOtherOf}
+use Rattle.hole_laws.specs.Others.{IsOtherOf}
 use Rattle.cell_store.specs.Meshes.{all_cells}
 use Rattle.cell_store.specs.Stars.{bucket_of_first}
 use Rattle.cell_walk.specs.Searching.{IsInside}

@@ -7,8 +7,9 @@ use Rattle.list_laws.proofs.Cited.{distinct_push, from_append, in_left, in_right
 use Rattle.point_order.specs.declared.cell.Cell.{Cell}
 use Rattle.point_order.specs.declared.cell.Facet.{Facet}
 use Rattle.point_order.specs.Sets.{IsIn}
-use Rattle.cloud_cells.specs.Clouds.{AreCellsOf, HasOtherIn, IsOtherIn}
-use Rattle.cloud_cells.specs.Nets.{HasNoOtherIn, IsWithout}
+use Rattle.cloud_cells.specs.Clouds.{AreCellsOf, HasOtherIn}
+use Rattle.hole_laws.specs.Others.{IsOtherOf, HaveNoOther}
+use Rattle.cloud_cells.specs.Nets.{IsWithout}
 
 -- no cell stands in both parts
 pub in_two : (l m : List Cell) (x : Cell) → AreDistinct (l ++ m) → IsIn x l → IsIn x m → ⊥
@@ -73,18 +74,18 @@ with_none s l gone k e = subst (AreCellsOf s) (sym (ap (λ (g : List Cell). l ++
 -- ---- across a facet
 
 -- another on the facet in one part is so in the whole
-pub other_left : (l gone : List Cell) (c : Cell) (f : Facet) (o : Cell) → IsOtherIn l c f o →
-    IsOtherIn (l ++ gone) c f o
+pub other_left : (l gone : List Cell) (c : Cell) (f : Facet) (o : Cell) → IsOtherOf l c f o →
+    IsOtherOf (l ++ gone) c f o
 other_left l gone c f o r = record { listed = in_left o l gone r.listed; has = r.has; differs = r.differs }
 
 -- so is one in the other part
-pub other_right : (l gone : List Cell) (c : Cell) (f : Facet) (o : Cell) → IsOtherIn gone c f o →
-    IsOtherIn (l ++ gone) c f o
+pub other_right : (l gone : List Cell) (c : Cell) (f : Facet) (o : Cell) → IsOtherOf gone c f o →
+    IsOtherOf (l ++ gone) c f o
 other_right l gone c f o r = record { listed = in_right o l gone r.listed; has = r.has; differs = r.differs }
 
 -- where none is gone, one is in the net
 pub other_kept : (l gone : List Cell) (c : Cell) (f : Facet) → HasOtherIn (l ++ gone) c f →
-    ((o : Cell) → ¬ (IsOtherIn gone c f o)) → HasOtherIn l c f
+    ((o : Cell) → ¬ (IsOtherOf gone c f o)) → HasOtherIn l c f
 other_kept l gone c f h n = (
   h.0,
   elim (from_append h.0 l gone h.1.listed) [
@@ -95,6 +96,6 @@ other_kept l gone c f h n = (
 
 -- a search that found none
 pub none_other : (gone : List Cell) (c : Cell) (f : Facet) (r : Option Cell) →
-    MatchOption r (HasNoOtherIn gone c f) (IsOtherIn gone c f) → false ≡ is_some r → HasNoOtherIn gone c f
+    MatchOption r (HaveNoOther gone c f) (IsOtherOf gone c f) → false ≡ is_some r → HaveNoOther gone c f
 none_other gone c f None m e = m
 none_other gone c f (Some o) m e = absurd (cc e)

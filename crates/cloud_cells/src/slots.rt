@@ -16,17 +16,9 @@ ghost use Rattle.std.specs.Prelude.{
   OnOk,
 };
 ghost use Rattle.point_order.specs.Sets.{IsIn};
-ghost use Rattle.cloud_cells.specs.Clouds.{HasOtherIn, IsOtherIn};
-ghost use Rattle.cloud_cells.specs.Nets.{
-  AreMoved,
-  AreWith,
-  HasNoOther,
-  HasNoOtherIn,
-  IsOtherOn,
-  IsWithout,
-  cells_of_slots,
-  slot_at,
-};
+ghost use Rattle.cloud_cells.specs.Clouds.{HasOtherIn};
+ghost use Rattle.hole_laws.specs.Others.{IsOtherOf, HaveNoOther};
+ghost use Rattle.cloud_cells.specs.Nets.{AreMoved, AreWith, HasNoOther, IsOtherOn, IsWithout, cells_of_slots, slot_at};
 
 use crate::facets::is_on;
 use crate::packed::Packed;
@@ -163,7 +155,7 @@ fn is_other(other: &Cell, cell: &Cell, facet: &Facet) -> bool
 // The cell of a slot, where it is another on the facet.
 pub(crate) fn other_at(slots: &[Slot], i: usize, cell: &Cell, facet: &Facet) -> Option<Cell>
     ensures { MatchOption result (HasNoOther slots.now i cell.now facet.now)
-        (λ other. IsOtherIn (cells_of_slots slots.now) cell.now facet.now other) }
+        (λ other. IsOtherOf (cells_of_slots slots.now) cell.now facet.now other) }
 {
     let other = cell_at(slots, i)?;
     if is_other(&other, cell, facet) {
@@ -175,7 +167,7 @@ pub(crate) fn other_at(slots: &[Slot], i: usize, cell: &Cell, facet: &Facet) -> 
 // The cell across a facet of a cell, and its slot, where all are looked at. There is to be one.
 pub(crate) fn other_across(slots: &[Slot], cell: &Cell, facet: &Facet) -> (Cell, usize)
     requires { HasOtherIn (cells_of_slots slots.now) cell.now facet.now }
-    ensures { IsOtherIn (cells_of_slots slots.now) cell.now facet.now result.0 }
+    ensures { IsOtherOf (cells_of_slots slots.now) cell.now facet.now result.0 }
 {
     for i in 0..slots.len() {
         if let Some(other) = other_at(slots, i, cell, facet) {
@@ -187,8 +179,8 @@ pub(crate) fn other_across(slots: &[Slot], cell: &Cell, facet: &Facet) -> (Cell,
 
 // The cell of those taken out that is another on the facet, likely the one at the hint.
 pub(crate) fn gone_across(gone: &[Spot], cell: &Cell, facet: &Facet, hint: usize) -> Option<Cell>
-    ensures { MatchOption result (HasNoOtherIn gone.now cell.now facet.now)
-        (λ other. IsOtherIn gone.now cell.now facet.now other) }
+    ensures { MatchOption result (HaveNoOther gone.now cell.now facet.now)
+        (λ other. IsOtherOf gone.now cell.now facet.now other) }
 {
     if hint < gone.len() {
         let other = gone[hint].cell();

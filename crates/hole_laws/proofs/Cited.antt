@@ -18,3 +18,8 @@ pub use Rattle.hole_laws.proofs.RemovalLaws.{cells_of_rest, coming_are_near, ref
 pub use Rattle.hole_laws.proofs.Rest.{rest_new, rest_set, within_new, without_from, without_true}
 pub use Rattle.hole_laws.proofs.RimCells.{one_fresh_each, one_gone_each}
 pub use Rattle.hole_laws.proofs.Vertex.{IsFacetVertex}
+pub use Rattle.hole_laws.proofs.Crossing.{crossed_found, crossed_goes, crossed_stays}
+pub use Rattle.hole_laws.proofs.Exploring.{facets_few, more_twice, next_facet, next_uncrossed, one_more, still_at}
+pub use Rattle.hole_laws.proofs.FourCells.{four_have_five}
+pub use Rattle.hole_laws.proofs.Mates.{judged, mate_against, some_against}
+pub use Rattle.hole_laws.proofs.Standing.{on_cell, one_of_two, some_on, triple_on}

@@ -26,4 +26,9 @@ pub mod Stars
 pub mod Tests
 pub mod Vertex
 pub mod Vertices
+pub mod Standing
+pub mod Mates
+pub mod Crossing
+pub mod Exploring
+pub mod FourCells
 pub mod Cited

@@ -1,4 +1,3 @@
-pub mod FourCells
 pub mod OpeningLaws
 pub mod Insertions
 pub mod FoundFours

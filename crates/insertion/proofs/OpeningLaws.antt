@@ -70,7 +70,6 @@ use Rattle.cell_store.proofs.Cited.{
   replay_next,
 }
 use Rattle.insertion.specs.Opening.{
-  five_cells,
   inserted,
   inserted_from,
   opening_history,
@@ -79,7 +78,8 @@ use Rattle.insertion.specs.Opening.{
   IsBare,
   HasCellsOfFour,
 }
-use Rattle.insertion.proofs.FourCells.{four_have_five}
+use Rattle.hole_laws.specs.FiveCells.{five_cells}
+use Rattle.hole_laws.proofs.Cited.{four_have_five}
 
 -- ---- independent points are distinct
 

@@ -1,30 +1,13 @@
 -- The mesh of four independent points, with which every mesh begins.
-use Rattle.std.specs.Prelude.{◌≡◌, ℕ, ◌+◌, ◌*◌, ◌<◌, false, true, List, [], ◌∷◌, ◌↔◌, length, None, Some}
-use Rattle.point_order.specs.declared.cell.Cell.{Cell}
-use Rattle.point_order.specs.declared.cell.Cell.TheVariants.{Full, Open}
-use Rattle.point_order.specs.Complex.{complex}
+use Rattle.std.specs.Prelude.{◌≡◌, ℕ, ◌+◌, ◌*◌, ◌<◌, false, List, [], ◌∷◌, length, None, Some}
 use Rattle.point_order.specs.Orientation.{is_flat}
-use Rattle.point_order.specs.Sets.{IsIn, IsAscending, ascending}
-use Rattle.point_order.specs.Solid.{is_solid}
+use Rattle.point_order.specs.Sets.{ascending}
 use Rattle.edit_history.specs.declared.history.Edit.TheVariants.{Add}
 use Rattle.edit_history.specs.declared.history.Entry.{Entry}
 use Rattle.edit_history.specs.declared.history.Reply.TheVariants.{Inserted}
-use Rattle.del_laws.specs.Keys.{AreKeys}
+use Rattle.hole_laws.specs.FiveCells.{five_cells}
 use Rattle.cell_store.specs.Changes.{IsSwapped}
 use Rattle.cell_store.specs.Buckets.{BucketContent, InHand, bucket_at, at_place}
-
--- the Full cell of four ascending points, and the Open cell on each of its facets
-abbrev pub five_cells : ℕ → ℕ → ℕ → ℕ → List Cell
-five_cells a b c d =
-    Full (a ∷ b ∷ c ∷ d ∷ [])
-    ∷ Open (a ∷ b ∷ c ∷ []) ∷ Open (a ∷ b ∷ d ∷ []) ∷ Open (a ∷ c ∷ d ∷ []) ∷ Open (b ∷ c ∷ d ∷ []) ∷ []
-
--- The complex of four independent points has exactly these five cells.
-abbrev pub FourHaveFive : Type 0
-FourHaveFive =
-    (a b c d : ℕ) → IsAscending (a ∷ b ∷ c ∷ d ∷ []) → AreKeys (a ∷ b ∷ c ∷ d ∷ []) →
-    is_solid (a ∷ b ∷ c ∷ d ∷ []) ≡ true →
-    (q : Cell) → IsIn q (complex (a ∷ b ∷ c ∷ d ∷ [])) ↔ IsIn q (five_cells a b c d)
 
 -- the entry of a point that one thread inserts, with its tag
 abbrev pub inserted : ℕ → ℕ × ℕ → Entry

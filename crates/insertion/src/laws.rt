@@ -2,7 +2,7 @@
 //! here does nothing, and its contract is a law.
 
 ghost use Rattle.insertion.specs.Entries.{InsertionFollows};
-ghost use Rattle.insertion.specs.Opening.{FourHaveFive};
+ghost use Rattle.hole_laws.specs.FiveCells.{FourHaveFive};
 
 /// The entry of an insertion follows the history, with exactly the cells that its point takes away and those
 /// that it brings: what a change of a mesh asks.

@@ -5,14 +5,8 @@ ghost use Rattle.point_order.specs.Coordinates.{IsKey};
 ghost use Rattle.point_order.specs.Sets.{AreFour, ascending};
 ghost use Rattle.cell_store.specs.Meshes.{AllInHand};
 ghost use Rattle.cell_store.specs.Changes.{IsNoted};
-ghost use Rattle.insertion.specs.Opening.{
-  five_cells,
-  inserted,
-  opening_history,
-  AreFourIndependent,
-  IsBare,
-  HasCellsOfFour,
-};
+ghost use Rattle.insertion.specs.Opening.{inserted, opening_history, AreFourIndependent, IsBare, HasCellsOfFour};
+ghost use Rattle.hole_laws.specs.FiveCells.{five_cells};
 
 use cell_store::{Bucket, Grid, Hold, Mesh};
 use edit_history::{Edit, Entry, Reply};

@@ -8,8 +8,8 @@ use Rattle.point_order.specs.Complex.{complex}
 use Rattle.point_order.specs.Facets.{facets_of, points_of}
 use Rattle.point_order.specs.Sets.{IsIn}
 use Rattle.hole_laws.specs.Edits.{IsSet}
-use Rattle.cell_store.specs.Others.{IsOtherOf}
-use Rattle.cell_conflict.proofs.Cited.{one_of_two}
+use Rattle.hole_laws.specs.Others.{IsOtherOf}
+use Rattle.hole_laws.proofs.Cited.{one_of_two}
 use Rattle.vertex_removal.specs.Near.{AreAdded, IsListedOf, IsOfOne}
 
 module _ (s : List ℕ) (v : ℕ) where

@@ -65,7 +65,7 @@ use Rattle.hole_laws.proofs.Cited.{
   within_new,
   without_from,
 }
-use Rattle.cell_conflict.proofs.Cited.{one_of_two}
+use Rattle.hole_laws.proofs.Cited.{one_of_two}
 use Rattle.vertex_removal.specs.Near.{AreTaken}
 use Rattle.vertex_removal.specs.Wraps.{
   IsApex,

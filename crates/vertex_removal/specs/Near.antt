@@ -8,7 +8,7 @@ use Rattle.point_order.specs.Facets.{facets_of, points_of}
 use Rattle.point_order.specs.Sets.{IsIn, IsAscending}
 use Rattle.hole_laws.specs.Edits.{GoesFrom}
 use Rattle.cell_store.specs.Buckets.{InHand}
-use Rattle.cell_store.specs.Others.{IsOtherOf}
+use Rattle.hole_laws.specs.Others.{IsOtherOf}
 use Rattle.cell_store.specs.Ready.{AreHeld}
 use Rattle.cell_store.specs.Shares.{Shows}
 

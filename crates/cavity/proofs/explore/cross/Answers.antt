@@ -5,7 +5,7 @@ use Rattle.point_order.specs.Sets.{IsIn}
 use Rattle.cell_store.proofs.Cited.{solid_set}
 use Rattle.cell_conflict.proofs.Cited.{held_on}
 use Rattle.cavity.specs.Tables.{IsBeside, cell_number}
-use Rattle.cavity.proofs.Crossing.{crossed_found, crossed_goes, crossed_stays}
+use Rattle.hole_laws.proofs.Cited.{crossed_found, crossed_goes, crossed_stays}
 use Rattle.cavity.proofs.explore.cross.Goals as goal
 
 pub spot_across-other-requires-clause-shown : goal.spot_across-other-requires-clause-shown

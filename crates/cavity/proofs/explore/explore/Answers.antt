@@ -3,18 +3,10 @@ use Rattle.std.proofs.lemmas.List.{take_all}
 use Rattle.point_order.specs.declared.cell.Facet.{Facet}
 use Rattle.point_order.specs.Facets.{facets_of}
 use Rattle.cell_store.specs.Shares.{NoneInHand, points_on}
-use Rattle.cavity.specs.Digs.{AreCrossed}
-use Rattle.cavity.specs.Exploring.{AreUncrossed}
+use Rattle.hole_laws.specs.Digs.{AreCrossed, AreUncrossed}
 use Rattle.cell_store.proofs.Cited.{solid_set}
-use Rattle.cavity.proofs.Exploration.{
-  facet_held,
-  next_facet,
-  next_uncrossed,
-  still_at,
-  one_more,
-  more_twice,
-  facets_few,
-}
+use Rattle.cavity.proofs.Exploration.{facet_held}
+use Rattle.hole_laws.proofs.Cited.{next_facet, next_uncrossed, still_at, one_more, more_twice, facets_few}
 use Rattle.cavity.proofs.explore.explore.Goals as goal
 
 pub cross-requires-clause-shown : goal.cross-requires-clause-shown

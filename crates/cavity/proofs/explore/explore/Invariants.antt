@@ -3,14 +3,13 @@ use Rattle.point_order.specs.declared.cell.Cell.{Cell}
 use Rattle.point_order.specs.declared.cell.Facet.{Facet}
 use Rattle.point_order.specs.Facets.{facets_of}
 use Rattle.cell_store.specs.Shares.{Shows}
-use Rattle.cavity.specs.Digs.{AreCrossed}
-use Rattle.cavity.specs.Exploring.{IsAt, AreUncrossed}
+use Rattle.hole_laws.specs.Digs.{AreCrossed, IsCrossedAt, AreUncrossed}
 use Rattle.cavity.proofs.explore.explore.Given as goal
 
 abbrev pub invariant-loop-facet : goal.invariant-loop-facet
 invariant-loop-facet l =
     ((more : List Cell) × (l.judged ≡ l.initial.judged ++ more))
     × ((s : List ℕ) → Shows l.hold s → (crossed : List Facet) →
-    IsAt s l.point crossed l.cell l.initial.judged l.initial.rim.items →
+    IsCrossedAt s l.point crossed l.cell l.initial.judged l.initial.rim.items →
     AreUncrossed s l.point crossed (facets_of l.cell) →
     AreCrossed s l.point (crossed ++ take l.facet-index l.facet-items) l.judged l.rim.items)

@@ -1,6 +1,6 @@
 use Rattle.hole_laws.proofs.Cited.{mates_judge}
 use Rattle.cell_store.proofs.Cited.{solid_set}
-use Rattle.cell_conflict.proofs.Mates.{judged}
+use Rattle.hole_laws.proofs.Cited.{judged}
 use Rattle.cell_conflict.proofs.judge.is_spot_in_conflict.Goals as goal
 
 pub conflict-requires : goal.conflict-requires

@@ -9,8 +9,7 @@ use Rattle.point_order.specs.Facets.{points_of}
 use Rattle.point_order.specs.Sets.{IsIn, is_among}
 use Rattle.cell_store.specs.Shares.{IsAcross}
 use Rattle.cell_store.proofs.Cited.{solid_set}
-use Rattle.cell_conflict.proofs.Standing.{triple_on}
-use Rattle.cell_conflict.proofs.Mates.{mate_against, some_against}
+use Rattle.hole_laws.proofs.Cited.{mate_against, some_against, triple_on}
 use Rattle.cell_conflict.proofs.judge.mate_of_triple.Goals as goal
 
 pub spot_across-behind-requires-clause-shown : goal.spot_across-behind-requires-clause-shown

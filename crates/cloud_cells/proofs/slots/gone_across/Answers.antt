@@ -2,7 +2,8 @@ use Rattle.std.proofs.Common.{◌<◌, length, inl, inr, subst, sym, ◌∙◌, 
 use Rattle.std.proofs.lemmas.List.{take_all}
 use Rattle.list_laws.proofs.Cited.{at_place, in_take_more, not_both}
 use Rattle.point_order.specs.declared.cell.Cell.{Cell}
-use Rattle.cloud_cells.specs.Nets.{HasNoOtherIn, IsOtherOn}
+use Rattle.cloud_cells.specs.Nets.{IsOtherOn}
+use Rattle.hole_laws.specs.Others.{HaveNoOther}
 use Rattle.point_order.specs.Sets.{IsIn}
 use Rattle.cloud_cells.proofs.slots.gone_across.Goals as goal
 
@@ -43,5 +44,5 @@ returns-then-is_other-2 c =
 
 pub returns : goal.returns
 returns c =
-    subst (λ (l : List Cell). HasNoOtherIn l c.args.cell.now c.args.facet.now)
+    subst (λ (l : List Cell). HaveNoOther l c.args.cell.now c.args.facet.now)
     (take_all c.loop-spot.spot-index c.args.gone.now (omega (arith, c.loop-spot-test.false))) c.loop-spot.invariant

@@ -1,4 +1,4 @@
-use Rattle.insertion.proofs.FourCells.{four_have_five}
+use Rattle.hole_laws.proofs.Cited.{four_have_five}
 use Rattle.insertion.proofs.laws.complex_of_four.Goals as goal
 
 pub returns : goal.returns

@@ -4,7 +4,7 @@ use Rattle.point_order.specs.declared.cell.Facet.{Facet}
 use Rattle.point_order.specs.Complex.{complex}
 use Rattle.point_order.specs.Facets.{points_of}
 use Rattle.point_order.specs.Sets.{IsIn}
-use Rattle.cell_store.specs.Others.{IsOtherOf}
+use Rattle.hole_laws.specs.Others.{IsOtherOf}
 use Rattle.cell_store.specs.Shares.{NoneInHand, points_on}
 use Rattle.cavity.proofs.Cited.{facet_held}
 use Rattle.cell_store.proofs.Cited.{solid_set}

@@ -3,7 +3,8 @@ use Rattle.list_laws.proofs.Cited.{at_none, in_take}
 use Rattle.point_order.specs.declared.cell.Cell.{Cell}
 use Rattle.point_order.specs.Facets.{points_of}
 use Rattle.point_order.specs.Sets.{IsIn}
-use Rattle.cavity.specs.Digs.{Digging, IsDoneIn, facets_of_first}
+use Rattle.cavity.specs.Digs.{Digging, IsDoneIn}
+use Rattle.hole_laws.specs.Digs.{facets_of_first}
 use Rattle.cell_store.specs.Missing.{ArePointsHeld, IsBucketMissing, IsCellMissing}
 use Rattle.cavity.specs.Lists.{IsPast, IsAtPlace}
 use Rattle.cell_store.specs.Ready.{AreHeld}

@@ -1,7 +1,7 @@
 use Rattle.std.proofs.Common.{refl, subst, sym}
 use Rattle.point_order.specs.declared.cell.Cell.{Cell}
 use Rattle.cell_store.specs.Buckets.{content_of}
-use Rattle.cell_store.specs.Others.{IsOtherOf}
+use Rattle.hole_laws.specs.Others.{IsOtherOf}
 use Rattle.cell_store.specs.Spots.{IsAcrossIn}
 use Rattle.cell_store.proofs.ShareLaws.{across_is}
 use Rattle.cell_store.proofs.hold.Hold.linked.Goals as goal

@@ -2,7 +2,7 @@ use Rattle.std.proofs.Common.{refl, ap, subst, sym, ◌∙◌}
 use Rattle.point_order.specs.declared.cell.Cell.{Cell}
 use Rattle.cell_store.specs.Buckets.{content_of}
 use Rattle.cell_store.specs.Grids.{bucket_of}
-use Rattle.cell_store.specs.Others.{HaveNoOther, IsOtherOf}
+use Rattle.hole_laws.specs.Others.{HaveNoOther, IsOtherOf}
 use Rattle.cell_store.specs.Shares.{IsInHandFor, points_on}
 use Rattle.cell_store.specs.Spots.{IsAcrossIn}
 use Rattle.cell_store.proofs.ShareLaws.{across_there, across_is}

@@ -9,14 +9,13 @@ use Rattle.point_order.specs.Complex.{complex}
 use Rattle.point_order.specs.Facets.{facets_of}
 use Rattle.point_order.specs.Sets.{IsIn, with_point}
 use Rattle.hole_laws.specs.Edits.{IsSolidSet, GoesFrom, StaysFrom, IsRimOf}
-use Rattle.cell_store.specs.Others.{IsOtherOf}
-use Rattle.cavity.specs.Digs.{AreCrossed}
-use Rattle.cavity.specs.Exploring.{IsAt, AreUncrossed}
-use Rattle.cell_conflict.proofs.Cited.{one_of_two}
+use Rattle.hole_laws.specs.Others.{IsOtherOf}
+use Rattle.hole_laws.specs.Digs.{AreCrossed, AreUncrossed, IsCrossedAt}
+use Rattle.hole_laws.proofs.Standing.{one_of_two}
 
 module _ (s : List ℕ) (p : ℕ) (i : IsSolidSet s) (crossed : List Facet) (cell other : Cell) (f : Facet)
     (found : List Cell) (rim : List Facet)
-    (t : IsAt s p crossed cell found rim) (m : IsIn f (facets_of cell)) (o : IsOtherOf (complex s) cell f other) where
+    (t : IsCrossedAt s p crossed cell found rim) (m : IsIn f (facets_of cell)) (o : IsOtherOf (complex s) cell f other) where
   -- the found cell goes
   goes_here : GoesFrom s p cell
   goes_here = t.so_far.goes cell t.among

@@ -12,7 +12,7 @@ use Rattle.point_order.specs.Subsets.{subsets}
 use Rattle.del_laws.specs.Keys.{AreKeys}
 use Rattle.del_laws.specs.Listed.{IsListedFull, IsListedOpen}
 use Rattle.del_laws.proofs.Cited.{listed_every_point, listed_facets, listed_inside, listed_is_cell, part_true}
-use Rattle.insertion.specs.Opening.{five_cells, FourHaveFive}
+use Rattle.hole_laws.specs.FiveCells.{five_cells, FourHaveFive}
 
 -- the points of a listed Full cell are a part of the set
 full_part : (s q : List ℕ) → IsAscending s → IsListedFull s q → IsIn q (subsets 4 s)

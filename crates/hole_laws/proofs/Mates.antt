@@ -26,9 +26,9 @@ use Rattle.point_order.proofs.Cited.{in_ascending}
 use Rattle.del_laws.specs.Listed.{IsListedFull}
 use Rattle.del_laws.proofs.Cited.{listed_is_cell, listed_mate, not_both_kinds}
 use Rattle.hole_laws.specs.Edits.{IsSet, IsSolidSet, IsNew, IsMate, GoesFrom, StaysFrom}
-use Rattle.hole_laws.proofs.Cited.{goes_in_conflict, stays_without_conflict}
-use Rattle.cell_store.specs.Others.{IsOtherOf}
-use Rattle.cell_conflict.proofs.Standing.{one_of_two, triple_on}
+use Rattle.hole_laws.proofs.Judged.{goes_in_conflict, stays_without_conflict}
+use Rattle.hole_laws.specs.Others.{IsOtherOf}
+use Rattle.hole_laws.proofs.Standing.{one_of_two, triple_on}
 
 -- all of l are in m
 abbrev AllAmong : List ℕ → List ℕ → Type 0
