@@ -50,7 +50,7 @@ use Rattle.point_order.specs.Solid.{is_solid}
 use Rattle.point_order.specs.Subsets.{subsets}
 use Rattle.del_laws.specs.Keys.{AreKeys}
 use Rattle.del_laws.proofs.Cited.{listed_every_point, listed_is_cell, part_ascending, part_inside, part_true}
-use Rattle.face_list.specs.Faces.{full_cells, parts_in, cells_with, with_cells, points_with_cells}
+use Rattle.face_list.specs.Faces.{full_cells, parts_in, cells_with, points_with_cells, with_cells_around}
 use Rattle.face_list.proofs.Cited.{
   full_cell_is_listed,
   listed_is_full_cell,
@@ -260,7 +260,7 @@ cell_admits s alpha p q a i c t = (
 
 -- the triples beside the cells that contain them
 abbrev pub triples_of : List ℕ → List (List ℕ × List Cell)
-triples_of s = with_cells (parts_in 3 (complex s)) (complex s)
+triples_of s = with_cells_around (parts_in 3 (complex s)) (complex s)
 
 -- a cell around a face that is within alpha admits the face
 marked_cell_admits : (s : List ℕ) (alpha : ℕ) (p : List ℕ) (c : Cell) → IsAscending s →
@@ -529,17 +529,17 @@ kind_is s alpha p a = (
 -- faces that pass a test of their cells, where this is the test of admission
 pub kinds_are : (s : List ℕ) (alpha : ℕ) (t : List ℕ × List Cell → Bool) (ps : List (List ℕ)) → IsAscending s →
     ((p : List ℕ) → IsIn p ps → t (p, cells_with p (complex s)) ≡ is_admitted s alpha p) →
-    kinds_by alpha (filter t (with_cells ps (complex s))) ≡ admitted_among s alpha ps
+    kinds_by alpha (filter t (with_cells_around ps (complex s))) ≡ admitted_among s alpha ps
 kinds_are s alpha t [] a f = refl
 kinds_are s alpha t (p ∷ ps) a f = by_test (is_admitted s alpha p) refl (kinds_are s alpha t ps a (λ q i. f q (inr i)))
   where
     -- admitted or not
     by_test : (b : Bool) → is_admitted s alpha p ≡ b →
-        kinds_by alpha (filter t (with_cells ps (complex s))) ≡ admitted_among s alpha ps →
-        kinds_by alpha (filter t (with_cells (p ∷ ps) (complex s))) ≡ admitted_among s alpha (p ∷ ps)
+        kinds_by alpha (filter t (with_cells_around ps (complex s))) ≡ admitted_among s alpha ps →
+        kinds_by alpha (filter t (with_cells_around (p ∷ ps) (complex s))) ≡ admitted_among s alpha (p ∷ ps)
     by_test true e r = (
         let g : t (p, cells_with p (complex s)) ≡ true = f p (inl refl) ∙ e in
-        rw (e, g) (ap (λ k. (p, k) ∷ kinds_by alpha (filter t (with_cells ps (complex s)))) (kind_is s alpha p a)
+        rw (e, g) (ap (λ k. (p, k) ∷ kinds_by alpha (filter t (with_cells_around ps (complex s)))) (kind_is s alpha p a)
         ∙ ap (λ l. (p, kind s alpha p) ∷ l) r))
     by_test false e r = (let g : t (p, cells_with p (complex s)) ≡ false = f p (inl refl) ∙ e in rw (e, g) r)
 

@@ -33,7 +33,8 @@ use Rattle.alpha_complex.specs.Admitted.{is_within, kind_by}
 use Rattle.alpha_complex.specs.Judged.{is_small_cell, kinds_by}
 use Rattle.alpha_complex.specs.Leasts.{AreAlphasOf, AreLeastOf, kind_at}
 use Rattle.alpha_complex.specs.Kinds.{kind_if, kind_of}
-use Rattle.alpha_complex.specs.Slots.{held, slots_of, cell_slots_of}
+use Rattle.alpha_complex.specs.Slots.{slots_of, cell_slots_of}
+use Rattle.list_laws.specs.Lists.{held}
 
 -- a number that is at most another
 pub le_true : (m n : ℕ) → m ≤ n → nat_le m n ≡ true

@@ -30,7 +30,8 @@ use Rattle.std.proofs.lemmas.List.{length-map, take_all}
 use Rattle.point_order.specs.declared.cell.Cell.{Cell}
 use Rattle.alpha_complex.specs.declared.shape.Kind.{Kind}
 use Rattle.alpha_complex.specs.declared.shape.Shape.TheInside.{Inside}
-use Rattle.alpha_complex.specs.Slots.{ShapeSlots, held, slots_of, marked_cell, cell_slots_of}
+use Rattle.alpha_complex.specs.Slots.{ShapeSlots, slots_of, marked_cell, cell_slots_of}
+use Rattle.list_laws.specs.Lists.{held}
 use Rattle.alpha_complex.specs.Seen.{IsShape, slots_seen}
 
 -- ---- pairs of two lists

@@ -11,7 +11,7 @@ use Rattle.point_order.specs.declared.cell.Cell.{Cell}
 use Rattle.point_order.specs.Complex.{complex}
 use Rattle.point_order.specs.Sets.{IsIn, IsAscending}
 use Rattle.del_laws.specs.Keys.{AreKeys}
-use Rattle.face_list.specs.Faces.{parts_in, cells_with, with_cells}
+use Rattle.face_list.specs.Faces.{parts_in, cells_with, with_cells_around}
 use Rattle.gabriel_faces.specs.Links.{link_of}
 use Rattle.gabriel_faces.proofs.Cited.{judged_by_link, link_is_link, listed_is_face}
 use Rattle.alpha_complex.specs.Admitted.{is_within, is_small}
@@ -68,12 +68,13 @@ listed_true list p i = any_true (λ q. is_eq (slice_cmp nat_cmp q p)) list p i
 
 -- the admitted ones among triples beside their cells
 pub admitted_are : (alpha : ℕ) (faces : List (List ℕ)) (cells : List Cell) →
-    admitted_triples alpha (with_cells faces cells) ≡ filter (λ p. is_admitted_triple alpha (p, cells_with p cells))
+    admitted_triples alpha (with_cells_around faces cells)
+    ≡ filter (λ p. is_admitted_triple alpha (p, cells_with p cells))
     faces
 admitted_are alpha faces cells = firsts_kept (is_admitted_triple alpha) (λ p. cells_with p cells) faces
 
 -- faces beside their cells are in order where the faces are
-pub firsts_are : (faces : List (List ℕ)) (cells : List Cell) → map (λ f. f.0) (with_cells faces cells) ≡ faces
+pub firsts_are : (faces : List (List ℕ)) (cells : List Cell) → map (λ f. f.0) (with_cells_around faces cells) ≡ faces
 firsts_are [] cells = refl
 firsts_are (p ∷ faces) cells = ap (λ l. p ∷ l) (firsts_are faces cells)
 

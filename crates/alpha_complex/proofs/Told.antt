@@ -23,7 +23,7 @@ use Rattle.list_laws.proofs.Cited.{at_in}
 use Rattle.point_order.specs.declared.cell.Cell.{Cell}
 use Rattle.point_order.specs.Complex.{complex}
 use Rattle.point_order.specs.Sets.{IsIn, IsAscending}
-use Rattle.face_list.specs.Faces.{cells_with, parts_in, points_with_cells, with_cells}
+use Rattle.face_list.specs.Faces.{cells_with, parts_in, points_with_cells, with_cells_around}
 use Rattle.face_list.specs.Seen.{FaceLists}
 use Rattle.face_list.proofs.Cited.{points_of_complex}
 use Rattle.alpha_complex.specs.declared.numbers.FaceAlphas.{FaceAlphas}
@@ -38,7 +38,7 @@ use Rattle.alpha_complex.specs.Leasts.{
   IsLeastOf,
   face_at,
   is_admitted_point,
-  point_at,
+  point_face_at,
 }
 use Rattle.alpha_complex.specs.Told.{TellsFace, TellsFaces}
 use Rattle.alpha_complex.proofs.Admission.{
@@ -56,7 +56,7 @@ use Rattle.alpha_complex.proofs.Shaped.{linked}
 tells_zip :
     (s : List ℕ) (t : ℕ → List ℕ × List Cell → Bool) (faces : List (List ℕ)) (ns : List ℕ) →
     ((alpha : ℕ) (p : List ℕ) → IsIn p faces → t alpha (p, cells_with p (complex s)) ≡ is_admitted s alpha p) →
-    AreLeastOf t (with_cells faces (complex s)) ns → AreLeastOf (is_admitted s) faces ns
+    AreLeastOf t (with_cells_around faces (complex s)) ns → AreLeastOf (is_admitted s) faces ns
 tells_zip s t [] [] f z = tt
 tells_zip s t [] (n ∷ ns) f z = absurd z
 tells_zip s t (p ∷ faces) [] f z = absurd z
@@ -83,9 +83,10 @@ pub tells_faces : (s : List ℕ) (faces : FaceLists) (known : Alphas) → AreFac
 tells_faces s faces known h e k =
     let f : AreFacesOf s known.faces.now = subst (λ (v : FaceLists). AreFacesOf s v) (sym e) h in
     let a = f.ascending in
-    let pair_test : AreLeastOf (is_admitted_pair (triples_of s)) (with_cells (parts_in 2 (complex s)) (complex s))
+    let pair_test : AreLeastOf (is_admitted_pair (triples_of s))
+    (with_cells_around (parts_in 2 (complex s)) (complex s))
     known.pairs.items = rw (f.triples, f.pairs) at k.pairs in
-    let triple_test : AreLeastOf is_admitted_triple (with_cells (parts_in 3 (complex s)) (complex s))
+    let triple_test : AreLeastOf is_admitted_triple (with_cells_around (parts_in 3 (complex s)) (complex s))
     known.triples.items = rw f.triples at k.triples in
     let cell_test : AreLeastOf is_small_cell (complex s) known.cells.items = rw f.cells at k.cells in
     record {
@@ -101,9 +102,9 @@ tells_faces s faces known h e k =
 -- its numbers tell of it, where the test is that of admission
 tells_at :
     (s : List ℕ) (t : ℕ → List ℕ × List Cell → Bool) (faces : List (List ℕ)) (i : ℕ) (x : FaceAlphas) →
-    IsAscending s → i < length (with_cells faces (complex s)) →
+    IsAscending s → i < length (with_cells_around faces (complex s)) →
     ((alpha : ℕ) (p : List ℕ) → IsIn p faces → t alpha (p, cells_with p (complex s)) ≡ is_admitted s alpha p) →
-    AreAlphasOf t (face_at (with_cells faces (complex s)) i) x → TellsFace s (get_or faces i []) x
+    AreAlphasOf t (face_at (with_cells_around faces (complex s)) i) x → TellsFace s (get_or faces i []) x
 tells_at s t faces i x a h f z =
     let p = get_or faces i [] in
     let n : i < length faces = subst (λ (k : ℕ). i < k) (length-map faces (λ p. (p, cells_with p (complex s)))) h in
@@ -132,7 +133,7 @@ tells_triple s faces i x h l z =
 
 -- a point
 pub tells_point : (s : List ℕ) (faces : FaceLists) (i : ℕ) (x : FaceAlphas) → AreFacesOf s faces →
-    i < length faces.points → AreAlphasOf is_admitted_point (point_at faces.points i) x →
+    i < length faces.points → AreAlphasOf is_admitted_point (point_face_at faces.points i) x →
     TellsFace s (get_or s i 0 ∷ []) x
 tells_point s faces i x h l z =
     let p = get_or s i 0 in
@@ -143,7 +144,7 @@ tells_point s faces i x h l z =
     let n : i < length s = subst (λ (k : ℕ). i < k) (length-map s (λ p. (p, cells_with (p ∷ []) (complex s)))) m in
     let w = subst (λ (v : ℕ × List Cell). AreAlphasOf is_admitted_point v x)
     (get_or-map (λ p. (p, cells_with (p ∷ []) (complex s))) s i 0 (0, []) n)
-    (subst (λ (v : List (ℕ × List Cell)). AreAlphasOf is_admitted_point (point_at v i) x) e z) in
+    (subst (λ (v : List (ℕ × List Cell)). AreAlphasOf is_admitted_point (point_face_at v i) x) e z) in
     record {
       admitted = λ alpha k. point_is_admitted s alpha p h.ascending h.keys h.solid (at_in s i 0 n) ∙ w.admitted alpha k;
       kind = λ alpha k. kind_told is_admitted_point (p, cells_with (p ∷ []) (complex s)) x alpha k w

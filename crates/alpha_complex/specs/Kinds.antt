@@ -16,9 +16,9 @@ pub record IsLevel (level : Level) : Type 0 where
   pub alpha : level.alpha < 2 ^ 34
 
 -- the pairs or the triples
-abbrev pub part_of : Part → FaceLists → List (List ℕ × List Cell)
-part_of Pairs faces = faces.pairs
-part_of Triples faces = faces.triples
+abbrev pub faces_of_part : Part → FaceLists → List (List ℕ × List Cell)
+faces_of_part Pairs faces = faces.pairs
+faces_of_part Triples faces = faces.triples
 
 -- which of them are admitted
 abbrev pub admits : Part → FaceLists → ℕ → List ℕ × List Cell → Bool
@@ -27,7 +27,7 @@ admits Triples faces = is_admitted_triple
 
 -- the numbers are the least alphas at which they are
 abbrev pub AreLeastOfPart : Part → FaceLists → List ℕ → Type 0
-AreLeastOfPart part faces ns = AreLeastOf (admits part faces) (part_of part faces) ns
+AreLeastOfPart part faces ns = AreLeastOf (admits part faces) (faces_of_part part faces) ns
 
 -- the kind of a face
 abbrev pub kind_of : {X : Type 0} → ℕ → X × List Cell → Kind

@@ -77,5 +77,5 @@ abbrev pub face_at : List (List ℕ × List Cell) → ℕ → List ℕ × List C
 face_at faces i = slice_index_or faces i ([], [])
 
 -- and the point of an index
-abbrev pub point_at : List (ℕ × List Cell) → ℕ → ℕ × List Cell
-point_at points i = slice_index_or points i (0, [])
+abbrev pub point_face_at : List (ℕ × List Cell) → ℕ → ℕ × List Cell
+point_face_at points i = slice_index_or points i (0, [])

@@ -5,7 +5,8 @@ use Rattle.point_order.specs.Complex.{complex}
 use Rattle.face_list.specs.Faces.{full_cells, parts_in}
 use Rattle.alpha_complex.specs.declared.shape.Kind.{Kind}
 use Rattle.alpha_complex.specs.Admitted.{is_admitted, kind}
-use Rattle.alpha_complex.specs.Slots.{ShapeSlots, held}
+use Rattle.alpha_complex.specs.Slots.{ShapeSlots}
+use Rattle.list_laws.specs.Lists.{held}
 
 -- admitted faces with their kinds, and the admitted cells
 pub record ShapeParts : Type 0 where

@@ -1,5 +1,5 @@
 -- A shape as contracts see it: a slot for each face of the complex, empty where the face is not admitted.
-use Rattle.std.specs.Prelude.{ℕ, Bool, true, false, List, map, zip, filter_map, Option, None, Some, option_map}
+use Rattle.std.specs.Prelude.{ℕ, Bool, true, false, List, map, zip, Option, None, Some, option_map}
 use Rattle.point_order.specs.declared.cell.Cell.{Cell}
 use Rattle.point_order.specs.declared.cell.Cell.TheVariants.{Full, Open}
 use Rattle.alpha_complex.specs.declared.shape.Kind.{Kind}
@@ -11,10 +11,6 @@ pub record ShapeSlots : Type 0 where
   pub pairs : List (Option (List ℕ × Kind))
   pub triples : List (Option (List ℕ × Kind))
   pub cells : List (Option (List ℕ))
-
--- what the slots hold, in their order
-abbrev pub held : {X : Type 0} → List (Option X) → List X
-held slots = filter_map (λ slot. slot) slots
 
 -- a slot for each face: it with its kind, where it has one
 abbrev pub slots_of : {X : Type 0} → List X → List (Option Kind) → List (Option (X × Kind))

@@ -5,7 +5,7 @@ ghost use Rattle.std.specs.List.{list_any};
 ghost use Rattle.std.specs.Ordering.{nat_cmp};
 ghost use Rattle.std.specs.Cmp.Lexicographic.{slice_cmp};
 ghost use Rattle.std.specs.declared.cmp.Ordering.TheVariants.{Equal};
-ghost use Rattle.face_list.specs.Tables.{cell_at, numbered};
+ghost use Rattle.face_list.specs.Tables.{cell_at, cells_numbered};
 ghost use Rattle.alpha_complex.specs.Admitted.{contains as contains_all};
 ghost use Rattle.alpha_complex.specs.Judged.{covers, is_listed, is_listed_around, admitted_triples};
 ghost use Rattle.alpha_complex.specs.Leasts.{AreHigher, IsLeastOf};
@@ -95,7 +95,7 @@ pub fn cover_least(higher: &HigherAlphas, pair: &Pair, around: &[u32]) -> u64
     requires higher { AreHigher higher.now }
     requires numbers { All (λ n. n < length higher.now.faces.now.cells) around.now }
     ensures { IsLeastOf (λ alpha. list_any (covers (admitted_triples alpha higher.now.faces.now.triples) pair.now)
-        (numbered higher.now.faces.now.cells around.now)) result }
+        (cells_numbered higher.now.faces.now.cells around.now)) result }
 {
     let mut least = BEYOND;
     for number in around {

@@ -1,11 +1,11 @@
 //! The kinds of faces for one alpha, by the cells around them.
 
 ghost use Rattle.std.specs.Prelude.{◌≡◌, ◌<◌, All, length, map, nat_le, slice_index, IfOk};
-ghost use Rattle.face_list.specs.Tables.{numbered};
+ghost use Rattle.face_list.specs.Tables.{cells_numbered};
 ghost use Rattle.alpha_complex.specs.Admitted.{kind_by};
 ghost use Rattle.alpha_complex.specs.Judged.{is_small_cell};
-ghost use Rattle.alpha_complex.specs.Kinds.{AreLeastOfPart, IsLevel, kind_of, part_kind, part_of};
-ghost use Rattle.alpha_complex.specs.Leasts.{face_at, point_at};
+ghost use Rattle.alpha_complex.specs.Kinds.{AreLeastOfPart, IsLevel, kind_of, part_kind, faces_of_part};
+ghost use Rattle.alpha_complex.specs.Leasts.{face_at, point_face_at};
 
 use crate::alone::each_in_turn;
 use crate::owns::number_at;
@@ -33,7 +33,7 @@ pub enum Part {
 
 // How many faces of a part there are.
 fn count_of(faces: &Faces, part: Part) -> usize
-    ensures { result ≡ length (part_of part faces.now) }
+    ensures { result ≡ length (faces_of_part part faces.now) }
 {
     match part {
         Part::Pairs => faces.pairs().len(),
@@ -45,7 +45,7 @@ fn count_of(faces: &Faces, part: Part) -> usize
 fn kind_around(level: &Level, around: &[u32]) -> Kind
     requires level { IsLevel level.now }
     requires numbers { All (λ n. n < length level.now.faces.now.cells) around.now }
-    ensures { result ≡ kind_by (is_small_cell level.now.alpha) (numbered level.now.faces.now.cells around.now) }
+    ensures { result ≡ kind_by (is_small_cell level.now.alpha) (cells_numbered level.now.faces.now.cells around.now) }
 {
     if all_least(level.faces, level.cells, around) <= level.alpha {
         Kind::Interior
@@ -60,7 +60,7 @@ fn kind_around(level: &Level, around: &[u32]) -> Kind
 fn kind_of_point(level: &Level, index: usize) -> Kind
     requires level { IsLevel level.now }
     requires index { index < length level.now.faces.now.points }
-    ensures { result ≡ kind_of level.now.alpha (point_at level.now.faces.now.points index) }
+    ensures { result ≡ kind_of level.now.alpha (point_face_at level.now.faces.now.points index) }
 {
     let (_, around) = level.faces.point(index);
     kind_around(level, around)
@@ -69,8 +69,8 @@ fn kind_of_point(level: &Level, index: usize) -> Kind
 // The kind of the face of an index.
 fn kind_of_face(level: &Level, part: Part, index: usize) -> Kind
     requires level { IsLevel level.now }
-    requires index { index < length (part_of part level.now.faces.now) }
-    ensures { result ≡ kind_of level.now.alpha (face_at (part_of part level.now.faces.now) index) }
+    requires index { index < length (faces_of_part part level.now.faces.now) }
+    ensures { result ≡ kind_of level.now.alpha (face_at (faces_of_part part level.now.faces.now) index) }
 {
     let around = match part {
         Part::Pairs => level.faces.pair(index).1,
@@ -83,9 +83,9 @@ fn kind_of_face(level: &Level, part: Part, index: usize) -> Kind
 fn kind_where_admitted(level: &Level, part: Part, leasts: &[u64], index: usize) -> Option<Kind>
     requires level { IsLevel level.now }
     requires leasts { AreLeastOfPart part level.now.faces.now leasts.now }
-    requires index { index < length (part_of part level.now.faces.now) }
+    requires index { index < length (faces_of_part part level.now.faces.now) }
     ensures { result ≡ part_kind part level.now.faces.now level.now.alpha
-        (face_at (part_of part level.now.faces.now) index) }
+        (face_at (faces_of_part part level.now.faces.now) index) }
 {
     if number_at(leasts, index) <= level.alpha {
         Some(kind_of_face(level, part, index))
@@ -104,7 +104,7 @@ pub fn kinds_of_points(alloc: Global, level: &Level) -> Result<Vec<Kind>, AllocE
         &mut kinds,
         |index: usize, kind: &mut Kind|
             requires { IsLevel level.now × (index < length level.now.faces.now.points) }
-            ensures { kind.new ≡ kind_of level.entry.now.alpha (point_at level.entry.now.faces.now.points index) }
+            ensures { kind.new ≡ kind_of level.entry.now.alpha (point_face_at level.entry.now.faces.now.points index) }
         {
             *kind = kind_of_point(level, index);
         },
@@ -122,16 +122,16 @@ pub fn kinds_of_part(
     requires level { IsLevel level.now }
     requires leasts { AreLeastOfPart part level.now.faces.now leasts.now }
     ensures { IfOk result (λ v. v.items
-        ≡ map (part_kind part level.now.faces.now level.now.alpha) (part_of part level.now.faces.now)) }
+        ≡ map (part_kind part level.now.faces.now level.now.alpha) (faces_of_part part level.now.faces.now)) }
 {
     let mut kinds = vec![in alloc; None; count_of(level.faces, part)]?;
     each_in_turn(
         &mut kinds,
         |index: usize, kind: &mut Option<Kind>|
             requires { IsLevel level.now × AreLeastOfPart part level.now.faces.now leasts.now
-                × (index < length (part_of part level.now.faces.now)) }
+                × (index < length (faces_of_part part level.now.faces.now)) }
             ensures { kind.new ≡ part_kind part level.entry.now.faces.now level.entry.now.alpha
-                (face_at (part_of part level.entry.now.faces.now) index) }
+                (face_at (faces_of_part part level.entry.now.faces.now) index) }
         {
             *kind = kind_where_admitted(level, part, leasts, index);
         },
@@ -161,7 +161,7 @@ pub fn points_by_threads<R: Threads + Sync>(
         &mut kinds,
         |index: usize, kind: &mut Kind|
             requires { IsLevel level.now × (index < length level.now.faces.now.points) }
-            ensures { kind.new ≡ kind_of level.entry.now.alpha (point_at level.entry.now.faces.now.points index) }
+            ensures { kind.new ≡ kind_of level.entry.now.alpha (point_face_at level.entry.now.faces.now.points index) }
         {
             *kind = kind_of_point(level, index);
         },
@@ -180,7 +180,7 @@ pub fn part_by_threads<R: Threads + Sync>(
     requires level { IsLevel level.now }
     requires leasts { AreLeastOfPart part level.now.faces.now leasts.now }
     ensures { IfOk result (λ v. v.items
-        ≡ map (part_kind part level.now.faces.now level.now.alpha) (part_of part level.now.faces.now)) }
+        ≡ map (part_kind part level.now.faces.now level.now.alpha) (faces_of_part part level.now.faces.now)) }
 {
     let mut kinds = vec![in alloc; None; count_of(level.faces, part)]?;
     par_for_each_mut(
@@ -188,9 +188,9 @@ pub fn part_by_threads<R: Threads + Sync>(
         &mut kinds,
         |index: usize, kind: &mut Option<Kind>|
             requires { IsLevel level.now × AreLeastOfPart part level.now.faces.now leasts.now
-                × (index < length (part_of part level.now.faces.now)) }
+                × (index < length (faces_of_part part level.now.faces.now)) }
             ensures { kind.new ≡ part_kind part level.entry.now.faces.now level.entry.now.alpha
-                (face_at (part_of part level.entry.now.faces.now) index) }
+                (face_at (faces_of_part part level.entry.now.faces.now) index) }
         {
             *kind = kind_where_admitted(level, part, leasts, index);
         },

@@ -4,7 +4,7 @@ ghost use Rattle.std.specs.Prelude.{◌≡◌, ◌<◌, ◌^◌, ◌∷◌, [], 
 ghost use Rattle.std.specs.List.{list_all, list_any};
 ghost use Rattle.point_order.specs.Complex.{complex};
 ghost use Rattle.face_list.specs.Faces.{parts_in};
-ghost use Rattle.face_list.specs.Tables.{numbered};
+ghost use Rattle.face_list.specs.Tables.{cells_numbered};
 ghost use Rattle.alpha_complex.specs.Condition.{AreFacesOf};
 ghost use Rattle.alpha_complex.specs.Judged.{is_admitted_pair, is_admitted_triple, is_small_cell};
 ghost use Rattle.alpha_complex.specs.declared.kinds.Part.TheVariants.{Pairs, Triples};
@@ -18,7 +18,7 @@ ghost use Rattle.alpha_complex.specs.Leasts.{
   is_admitted_point,
   kind_at,
   kind_where,
-  point_at,
+  point_face_at,
 };
 ghost use Rattle.alpha_complex.specs.Shapes.{shape_of, shape_seen};
 ghost use Rattle.alpha_complex.specs.Told.{TellsFace};
@@ -101,9 +101,11 @@ impl<'a, 'b> Alphas<'a, 'b> {
         requires numbers { All (λ n. n < length self.now.faces.now.cells) around.now }
         ensures admitted { result.admitted ≡ admitted }
         ensures regular { IsLeastOf
-            (λ alpha. list_any (is_small_cell alpha) (numbered self.now.faces.now.cells around.now)) result.regular }
+            (λ alpha. list_any (is_small_cell alpha) (cells_numbered self.now.faces.now.cells around.now))
+            result.regular }
         ensures interior { IsLeastOf
-            (λ alpha. list_all (is_small_cell alpha) (numbered self.now.faces.now.cells around.now)) result.interior }
+            (λ alpha. list_all (is_small_cell alpha) (cells_numbered self.now.faces.now.cells around.now))
+            result.interior }
     {
         FaceAlphas {
             admitted,
@@ -116,7 +118,7 @@ impl<'a, 'b> Alphas<'a, 'b> {
     pub fn point(&self, index: usize) -> FaceAlphas
         requires known { AreKnown self.now }
         requires index { index < length self.now.faces.now.points }
-        ensures numbers { AreAlphasOf is_admitted_point (point_at self.now.faces.now.points index) result }
+        ensures numbers { AreAlphasOf is_admitted_point (point_face_at self.now.faces.now.points index) result }
         ensures told { (s : List ℕ) → AreFacesOf s self.now.faces.now →
             TellsFace s (slice_index_or s index 0 ∷ []) result }
     {

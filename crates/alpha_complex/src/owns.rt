@@ -5,7 +5,7 @@ ghost use Rattle.std.specs.List.{filter};
 ghost use Rattle.point_order.specs.Sets.{is_among};
 ghost use Rattle.gabriel_faces.specs.Gabriel.{is_gabriel};
 ghost use Rattle.gabriel_faces.specs.Links.{link_of};
-ghost use Rattle.face_list.specs.Tables.{numbered};
+ghost use Rattle.face_list.specs.Tables.{cells_numbered};
 ghost use Rattle.alpha_complex.specs.Admitted.{is_within};
 ghost use Rattle.alpha_complex.specs.Judged.{is_small_by, is_small_cell};
 ghost use Rattle.alpha_complex.specs.Leasts.{IsLeastOf};
@@ -81,7 +81,7 @@ fn is_free_of_others(face: &[Point], points: &[Point]) -> bool
 // own.
 fn is_gabriel_beside(face: &[Point], cells: &[Cell], around: &[u32]) -> bool
     requires { All (λ n. n < length cells.now) around.now }
-    ensures { result ≡ is_gabriel (link_of face.now (numbered cells.now around.now)) face.now }
+    ensures { result ≡ is_gabriel (link_of face.now (cells_numbered cells.now around.now)) face.now }
 {
     for number in around {
         if !is_free_of_others(face, cells[*number as usize].points()) {
@@ -95,7 +95,7 @@ fn is_gabriel_beside(face: &[Point], cells: &[Cell], around: &[u32]) -> bool
 /// alpha.
 pub fn own_least(face: &[Point], cells: &[Cell], around: &[u32]) -> u64
     requires { All (λ n. n < length cells.now) around.now }
-    ensures { IsLeastOf (λ alpha. is_small_by alpha (face.now, numbered cells.now around.now)) result }
+    ensures { IsLeastOf (λ alpha. is_small_by alpha (face.now, cells_numbered cells.now around.now)) result }
 {
     if is_gabriel_beside(face, cells, around) {
         within_least(face)

@@ -2,7 +2,7 @@
 
 ghost use Rattle.std.specs.Prelude.{◌≡◌, ◌<◌, All, length, max};
 ghost use Rattle.std.specs.List.{list_all, list_any};
-ghost use Rattle.face_list.specs.Tables.{cell_at, numbered};
+ghost use Rattle.face_list.specs.Tables.{cell_at, cells_numbered};
 ghost use Rattle.alpha_complex.specs.Judged.{is_small_cell};
 ghost use Rattle.alpha_complex.specs.Leasts.{AreLeastOf, IsLeastOf};
 
@@ -22,7 +22,7 @@ fn least_at(faces: &Faces, cells: &[u64], number: u32) -> u64
 pub fn some_least(faces: &Faces, cells: &[u64], around: &[u32]) -> u64
     requires cells { AreLeastOf is_small_cell faces.now.cells cells.now }
     requires numbers { All (λ n. n < length faces.now.cells) around.now }
-    ensures { IsLeastOf (λ alpha. list_any (is_small_cell alpha) (numbered faces.now.cells around.now)) result }
+    ensures { IsLeastOf (λ alpha. list_any (is_small_cell alpha) (cells_numbered faces.now.cells around.now)) result }
 {
     let mut least = BEYOND;
     for number in around {
@@ -42,7 +42,7 @@ fn greater(m: u64, n: u64) -> u64
 pub fn all_least(faces: &Faces, cells: &[u64], around: &[u32]) -> u64
     requires cells { AreLeastOf is_small_cell faces.now.cells cells.now }
     requires numbers { All (λ n. n < length faces.now.cells) around.now }
-    ensures { IsLeastOf (λ alpha. list_all (is_small_cell alpha) (numbered faces.now.cells around.now)) result }
+    ensures { IsLeastOf (λ alpha. list_all (is_small_cell alpha) (cells_numbered faces.now.cells around.now)) result }
 {
     let mut least = 0;
     for number in around {

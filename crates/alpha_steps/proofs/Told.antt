@@ -36,7 +36,7 @@ use Rattle.point_order.specs.declared.cell.Cell.{Cell}
 use Rattle.point_order.specs.declared.cell.Cell.TheVariants.{Full, Open}
 use Rattle.point_order.specs.Complex.{complex}
 use Rattle.point_order.specs.Sets.{IsIn}
-use Rattle.face_list.specs.Faces.{full_cells, parts_in, points_in, points_with_cells, with_cells}
+use Rattle.face_list.specs.Faces.{full_cells, parts_in, points_in, points_with_cells, with_cells_around}
 use Rattle.face_list.specs.Seen.{FaceLists}
 use Rattle.face_list.proofs.Cited.{points_of_complex}
 use Rattle.alpha_complex.specs.declared.numbers.Alphas.{Alphas}
@@ -44,7 +44,7 @@ use Rattle.alpha_complex.specs.Admitted.{is_admitted, is_admitted_cell}
 use Rattle.alpha_complex.specs.Condition.{AreFacesOf}
 use Rattle.alpha_complex.specs.Leasts.{AreLeastOf, IsLeastOf}
 use Rattle.alpha_complex.specs.Told.{TellsFaces}
-use Rattle.text_sheets.specs.Lines.{held}
+use Rattle.list_laws.specs.Lists.{held}
 use Rattle.alpha_steps.specs.declared.threshold.Threshold.{Threshold}
 use Rattle.alpha_steps.specs.declared.threshold.Threshold.TheVariants.{At, Never}
 use Rattle.alpha_steps.specs.declared.steps.Thresholds.TheInside.{Inside}
@@ -173,7 +173,7 @@ cell_steps_told s (Full q ∷ cells) (n ∷ ns) z f (inr i) = cell_steps_told s 
 cell_steps_told s (Open t ∷ cells) (n ∷ ns) z f i = cell_steps_told s cells ns z.1 f i
 
 -- faces beside their cells are those faces
-faces_are : (faces : List (List ℕ)) (cells : List Cell) → map (λ f. f.0) (with_cells faces cells) ≡ faces
+faces_are : (faces : List (List ℕ)) (cells : List Cell) → map (λ f. f.0) (with_cells_around faces cells) ≡ faces
 faces_are [] cells = refl
 faces_are (p ∷ faces) cells = ap (λ l. p ∷ l) (faces_are faces cells)
 

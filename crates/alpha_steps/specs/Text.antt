@@ -2,7 +2,8 @@
 use Rattle.std.specs.Prelude.{ℕ, List, ◌++◌, map, codes, decimal}
 use Rattle.std.specs.List.{concat}
 use Rattle.text_sheets.specs.Indices.{index_of}
-use Rattle.text_sheets.specs.Lines.{block, held}
+use Rattle.text_sheets.specs.Lines.{block}
+use Rattle.list_laws.specs.Lists.{held}
 use Rattle.alpha_steps.specs.declared.threshold.Threshold.{Threshold}
 use Rattle.alpha_steps.specs.declared.threshold.Threshold.TheVariants.{At, Never}
 use Rattle.alpha_steps.specs.Seen.{StepSlots}

@@ -4,7 +4,7 @@ use Rattle.point_order.specs.Complex.{complex}
 use Rattle.point_order.specs.Sets.{IsIn}
 use Rattle.face_list.specs.Faces.{full_cells, parts_in}
 use Rattle.alpha_complex.specs.Admitted.{is_admitted}
-use Rattle.text_sheets.specs.Lines.{held}
+use Rattle.list_laws.specs.Lists.{held}
 use Rattle.alpha_steps.specs.declared.threshold.Threshold.{Threshold}
 use Rattle.alpha_steps.specs.declared.threshold.Threshold.TheVariants.{At, Never}
 use Rattle.alpha_steps.specs.Seen.{StepSlots}

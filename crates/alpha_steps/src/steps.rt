@@ -2,7 +2,7 @@
 
 ghost use Rattle.std.specs.Prelude.{◌≡◌, ◌<◌, None, length, slice_index_or};
 ghost use Rattle.face_list.specs.Faces.{full_cells};
-ghost use Rattle.text_sheets.specs.Lines.{held};
+ghost use Rattle.list_laws.specs.Lists.{held};
 ghost use Rattle.alpha_steps.specs.Seen.{cell_steps_of, step_of_cell, steps_of};
 
 use crate::threshold::{Threshold, threshold_of};
@@ -22,11 +22,9 @@ pub struct Thresholds<'a, 'b> {
 }
 
 impl<'a, 'b> Model for Thresholds<'a, 'b> {
-    ghost use Rattle.alpha_steps.specs.Seen.{StepSlots};
+    ghost use Rattle.alpha_steps.specs.Seen.{StepSlots, AreAsMany, steps_seen};
 
     ghost Value = { StepSlots };
-
-    ghost use Rattle.alpha_steps.specs.Seen.{AreAsMany, steps_seen};
 
     ghost view = { steps_seen };
 

@@ -4,7 +4,8 @@ ghost use Rattle.std.specs.Prelude.{◌≡◌, ◌<◌, ◌++◌, [], None, code
 ghost use Rattle.std.specs.Io.KnownBytes.{Appends};
 ghost use Rattle.byte_ends.specs.Ends.{AppendsFront, HasCause, Rose};
 ghost use Rattle.point_order.specs.Sets.{IsAscending};
-ghost use Rattle.text_sheets.specs.Lines.{block, held, held_line};
+ghost use Rattle.text_sheets.specs.Lines.{block, held_line};
+ghost use Rattle.list_laws.specs.Lists.{held};
 ghost use Rattle.text_sheets.specs.Sheets.{Puts};
 ghost use Rattle.alpha_steps.specs.declared.threshold.Threshold.TheVariants.{Never};
 ghost use Rattle.alpha_steps.specs.Text.{step_line, steps_text, threshold_word};

@@ -9,7 +9,8 @@ use Rattle.cell_store.specs.Shares.{Shows}
 
 -- the hold shows a set in which some facets of found cells were crossed, and the cell is one of those found
 abbrev pub ShowsAt : InHand → ℕ → Cell → List Cell → List Facet → Type 0
-ShowsAt hold p cell found rim = (s : List ℕ) × Shows hold s × (crossed : List Facet) × IsCrossedAt s p crossed cell found rim
+ShowsAt hold p cell found rim = (s : List ℕ) × Shows hold s × (crossed : List Facet)
+    × IsCrossedAt s p crossed cell found rim
 
 -- and no rim facet of the cell was crossed
 abbrev pub ShowsNewAt : InHand → ℕ → Cell → List Cell → List Facet → Type 0

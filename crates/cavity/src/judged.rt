@@ -6,7 +6,7 @@ ghost use Rattle.cavity.specs.Lists.{IsPast, IsAtPlace};
 ghost use Rattle.cavity.specs.Tables.{IsBeside, cell_number};
 
 use crate::cell_table::{Mark, home_of, is_marked, put, table_of};
-use cell_store::{Hold, Spot, is_on};
+use cell_store::{Hold, Spot};
 use point_order::{Cell, Facet};
 use std::alloc::{AllocError, Global};
 use std::marker::Model;
@@ -141,7 +141,7 @@ impl Judged {
         ensures { IsTrue result → IsBeside self.now cell.now facet.now }
     {
         match self.goes.get(number) {
-            Some(other) => is_on(other.cell(), facet) && !other.cell().is_same(cell),
+            Some(other) => other.cell().is_on(facet) && !other.cell().is_same(cell),
             None => false,
         }
     }

@@ -58,7 +58,7 @@ use Rattle.cell_stars.specs.AtOnce.{
 }
 use Rattle.list_laws.specs.Lists.{Gathers}
 use Rattle.cell_stars.specs.Grids.{bucket_of}
-use Rattle.cell_stars.specs.Places.{AreFiled, AreStars, IsStarred, IsStarredBy, at, cells_of, lies_in, star_at}
+use Rattle.cell_stars.specs.Places.{AreFiled, AreStars, IsStarred, IsStarredBy, cells_of, lies_in, star_at, at_slot}
 use Rattle.cell_stars.specs.Swaps.{Differ, touches}
 use Rattle.cell_stars.specs.Moves.{AreKeysOf}
 use Rattle.cell_stars.proofs.KeyLaws.{Parts, at_key, one_key, same_or_not, vertices}
@@ -398,20 +398,20 @@ first_all g b keys c ps n i old new e h u =
 
 -- a cell of the list stands at its place
 some_at : (cells : List Cell) (n : ℕ) (x d : Cell) → n < length cells → x ≡ slice_index_or cells n d →
-    at (map (λ c. Some c) cells) n ≡ Some x
+    at_slot (map (λ c. Some c) cells) n ≡ Some x
 some_at [] n x d h e = absurd (omega arith)
 some_at (c ∷ cells) zero x d h e = ap (λ y. Some y) (sym e)
 some_at (c ∷ cells) (suc n) x d h e = some_at cells n x d (omega arith) e
 
 -- and what stands at a place is one of the list
-at_some : (cells : List Cell) (n : ℕ) (c : Cell) → at (map (λ c. Some c) cells) n ≡ Some c →
+at_some : (cells : List Cell) (n : ℕ) (c : Cell) → at_slot (map (λ c. Some c) cells) n ≡ Some c →
     (n < length cells) × IsIn c cells
 at_some [] n c e = absurd (cc e)
 at_some (d ∷ cells) zero c e = (omega arith, inl (cc e))
 at_some (d ∷ cells) (suc n) c e = (let r = at_some cells n c e in ((let h = r.0 in omega (arith, h)), inr r.1))
 
 -- each cell of the list stands at some place
-in_at : (cells : List Cell) (c : Cell) → IsIn c cells → (n : ℕ) × (at (map (λ c. Some c) cells) n ≡ Some c)
+in_at : (cells : List Cell) (c : Cell) → IsIn c cells → (n : ℕ) × (at_slot (map (λ c. Some c) cells) n ≡ Some c)
 in_at [] c m = absurd m
 in_at (d ∷ cells) c (inl e) = (0, ap (λ y. Some y) e)
 in_at (d ∷ cells) c (inr m) = (let r = in_at cells c m in (suc r.0, r.1))
@@ -436,20 +436,20 @@ all_more g b keys cells n x d old mid new h e u v =
     (λ q j r. ((let k = r.0 in omega (arith, k)), r.1))
     (λ q j r. (
       (let k = r.1 in omega (arith, k)),
-      (x, subst (λ y. at (map (λ c. Some c) cells) y ≡ Some x) r.1 here, r.0),
+      (x, subst (λ y. at_slot (map (λ c. Some c) cells) y ≡ Some x) r.1 here, r.0),
     ))
     (λ q j r. elim (same_or_not n j) [
       | inl s ↦ inr (
         subst (λ c. FromCellHere g b c q)
-            (one_some r.1.0 x (at (map (λ c. Some c) cells) j) r.1.1
-            (subst (λ y. at (map (λ c. Some c) cells) y ≡ Some x) s here)) r.1.2,
+            (one_some r.1.0 x (at_slot (map (λ c. Some c) cells) j) r.1.1
+            (subst (λ y. at_slot (map (λ c. Some c) cells) y ≡ Some x) s here)) r.1.2,
         s,
       )
       | inr s ↦ inl ((let k = r.0 in omega (arith, k, s)), r.1)
     ])
     u v
   where
-    here : at (map (λ c. Some c) cells) n ≡ Some x
+    here : at_slot (map (λ c. Some c) cells) n ≡ Some x
     here = some_at cells n x d h e
 
 -- at the end they have gained those of all cells
@@ -463,8 +463,8 @@ all_all g b keys cells n old new h u =
 -- ---- the stars are those of the cells
 
 -- in a list of different cells each stands at one place
-differ_at : (cells : List Cell) (i j : ℕ) (c : Cell) → Differ cells → at (map (λ c. Some c) cells) i ≡ Some c →
-    at (map (λ c. Some c) cells) j ≡ Some c → i ≡ j
+differ_at : (cells : List Cell) (i j : ℕ) (c : Cell) → Differ cells → at_slot (map (λ c. Some c) cells) i ≡ Some c →
+    at_slot (map (λ c. Some c) cells) j ≡ Some c → i ≡ j
 differ_at [] i j c d e f = absurd (cc e)
 differ_at (x ∷ cells) zero zero c d e f = refl
 differ_at (x ∷ cells) zero (suc j) c d e f = absurd
@@ -532,5 +532,5 @@ pub cells_are : (cells : List Cell) (slots : List (Option Cell)) → IsStrictlyS
     slots ≡ map (λ c. Some c) cells → cells_of slots ≡ cells
 cells_are cells slots o e =
     same_members (cells_of slots) cells (placed_sorted slots) o
-    (λ c m. (let r = in_placed slots c m in (at_some cells r.0 c (subst (λ v. at v r.0 ≡ Some c) e r.1)).1))
-    (λ c m. (let r = in_at cells c m in placed_in slots r.0 c (subst (λ v. at v r.0 ≡ Some c) (sym e) r.1)))
+    (λ c m. (let r = in_placed slots c m in (at_some cells r.0 c (subst (λ v. at_slot v r.0 ≡ Some c) e r.1)).1))
+    (λ c m. (let r = in_at cells c m in placed_in slots r.0 c (subst (λ v. at_slot v r.0 ≡ Some c) (sym e) r.1)))

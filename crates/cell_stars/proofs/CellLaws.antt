@@ -13,7 +13,7 @@ use Rattle.point_order.proofs.Cited.{cell_after, cell_before, cell_in_or_not, ce
 use Rattle.point_order.specs.declared.cell.Cell.{Cell}
 use Rattle.point_order.specs.CellOrder.{cell_cmp}
 use Rattle.point_order.specs.Sets.{IsIn}
-use Rattle.cell_stars.specs.Swaps.{is_cell_among, with_cell, with_cells, without_cells, touches, swapped}
+use Rattle.cell_stars.specs.Swaps.{is_cell_among, with_cell, without_cells, touches, swapped, with_all_cells}
 
 -- ---- whether a cell is in a list
 
@@ -100,7 +100,7 @@ with_sorted c (d ∷ l) s = by (cell_cmp c d) refl (with_sorted c l s.1)
 -- ---- more cells
 
 -- the same of several cells more: a cell is one of these, or was there
-pub in_withs : (cs l : List Cell) (x : Cell) → IsIn x (with_cells cs l) → IsIn x cs ⊎ IsIn x l
+pub in_withs : (cs l : List Cell) (x : Cell) → IsIn x (with_all_cells cs l) → IsIn x cs ⊎ IsIn x l
 in_withs [] l x m = inr m
 in_withs (c ∷ cs) l x m = elim (in_withs cs (with_cell c l) x m) [
   | inl i ↦ inl (inr i)
@@ -108,19 +108,20 @@ in_withs (c ∷ cs) l x m = elim (in_withs cs (with_cell c l) x m) [
 ]
 
 -- what was there is there still
-pub withs_old : (cs l : List Cell) (x : Cell) → IsIn x l → IsIn x (with_cells cs l)
+pub withs_old : (cs l : List Cell) (x : Cell) → IsIn x l → IsIn x (with_all_cells cs l)
 withs_old [] l x m = m
 withs_old (c ∷ cs) l x m = withs_old cs (with_cell c l) x (with_old c x l m)
 
 -- and these are there
-pub withs_new : (cs l : List Cell) (x : Cell) → IsIn x cs → IsIn x (with_cells cs l)
+pub withs_new : (cs l : List Cell) (x : Cell) → IsIn x cs → IsIn x (with_all_cells cs l)
 withs_new [] l x m = absurd m
 withs_new (c ∷ cs) l x (inl e) = withs_old cs (with_cell c l) x
     (subst (λ (y : Cell). IsIn y (with_cell c l)) e (with_new c l))
 withs_new (c ∷ cs) l x (inr m) = withs_new cs (with_cell c l) x m
 
 -- and the list is in order
-pub withs_sorted : (cs l : List Cell) → IsStrictlySortedBy cell_cmp l → IsStrictlySortedBy cell_cmp (with_cells cs l)
+pub withs_sorted : (cs l : List Cell) → IsStrictlySortedBy cell_cmp l →
+    IsStrictlySortedBy cell_cmp (with_all_cells cs l)
 withs_sorted [] l s = s
 withs_sorted (c ∷ cs) l s = withs_sorted cs (with_cell c l) (with_sorted c l s)
 

@@ -52,7 +52,7 @@ use Rattle.list_laws.proofs.Cited.{
 use Rattle.point_order.specs.declared.cell.Cell.{Cell}
 use Rattle.point_order.specs.Facets.{points_of}
 use Rattle.point_order.specs.Sets.{IsIn, IsAscending}
-use Rattle.cell_stars.specs.Places.{Placed, AreStars, IsStarred, at, cells_of, lies_in, touches_in}
+use Rattle.cell_stars.specs.Places.{Placed, AreStars, IsStarred, cells_of, lies_in, touches_in, at_slot}
 use Rattle.cell_stars.specs.Moves.{
   IsStarFor,
   AreFreed,
@@ -73,12 +73,12 @@ use Rattle.cell_stars.specs.Turns.{AreReady}
 use Rattle.cell_stars.proofs.Moved.{placed_in}
 
 -- another cell stands at the place
-pub another : (slots : List (Option Cell)) (i : ℕ) (c d : Cell) → at slots i ≡ Some c → (c ≡ d → ⊥) →
-    at slots i ≡ Some d → ⊥
+pub another : (slots : List (Option Cell)) (i : ℕ) (c d : Cell) → at_slot slots i ≡ Some c → (c ≡ d → ⊥) →
+    at_slot slots i ≡ Some d → ⊥
 another slots i c d e n f = n (let q : Some c ≡ Some d = sym e ∙ f in cc q)
 
 -- none stands at a free place
-pub no_cell : (slots : List (Option Cell)) (i : ℕ) (d : Cell) → at slots i ≡ None → at slots i ≡ Some d → ⊥
+pub no_cell : (slots : List (Option Cell)) (i : ℕ) (d : Cell) → at_slot slots i ≡ None → at_slot slots i ≡ Some d → ⊥
 no_cell slots i d e f = let q = sym e ∙ f in absurd (cc q)
 
 -- ---- the place of a cell
@@ -114,12 +114,13 @@ star_for b c p star r m e t f = record { vertex = p; has = m; inside = sym e ∙
 
 -- what no star has stands nowhere
 pub in_no_star : (b : Placed) (slots : List (Option Cell)) (c : Cell) (star : List ℕ) (r : Option ℕ) → slots ≡ b.slots →
-    AreStars b → IsStarFor b c star → MatchOption r ((i : ℕ) → IsIn i star → at slots i ≡ Some c →
-    ⊥) (λ i. at slots i ≡ Some c) → MatchOption r ((i : ℕ) → at b.slots i ≡ Some c → touches_in b.place c ≡ true →
-    ⊥) (λ i. at b.slots i ≡ Some c)
+    AreStars b → IsStarFor b c star → MatchOption r ((i : ℕ) → IsIn i star → at_slot slots i ≡ Some c →
+    ⊥) (λ i. at_slot slots i ≡ Some c) →
+    MatchOption r ((i : ℕ) → at_slot b.slots i ≡ Some c → touches_in b.place c ≡ true →
+    ⊥) (λ i. at_slot b.slots i ≡ Some c)
 in_no_star b slots c star None e a s n = λ i f t. n i ((s.places i).1 (a.listed s.vertex i c f s.has s.inside))
-    (ap (λ l. at l i) e ∙ f)
-in_no_star b slots c star (Some i) e a s n = ap (λ l. at l i) (sym e) ∙ n
+    (ap (λ l. at_slot l i) e ∙ f)
+in_no_star b slots c star (Some i) e a s n = ap (λ l. at_slot l i) (sym e) ∙ n
 
 -- a cell no vertex of which lies in the bucket does not touch it
 pub untouched : (place : Option (ℕ × ℕ)) (c : Cell) → ((p : ℕ) → IsIn p (points_of c) → lies_in place p ≡ true → ⊥) →
@@ -127,9 +128,9 @@ pub untouched : (place : Option (ℕ × ℕ)) (c : Cell) → ((p : ℕ) → IsIn
 untouched place c f t = (let v = touched_vertex place c t in f v.0 v.1 v.2)
 
 -- a cell stays where its place is not freed
-pub stays_is : (b : Placed) (freed : List ℕ) (c : Cell) (i : ℕ) (r : Bool) → AreStars b → at b.slots i ≡ Some c →
+pub stays_is : (b : Placed) (freed : List ℕ) (c : Cell) (i : ℕ) (r : Bool) → AreStars b → at_slot b.slots i ≡ Some c →
     r ≡ is_among i freed → MatchBool (not r) (StandsYet b freed c) (touches_in b.place c ≡ true → (j : ℕ) →
-    at b.slots j ≡ Some c → IsIn j freed)
+    at_slot b.slots j ≡ Some c → IsIn j freed)
 stays_is b freed c i true a e f = λ t j g. subst (λ k. IsIn k freed) (a.once i j c e g) (among_from i freed (sym f))
 stays_is b freed c i false a e f = record {
   place = i;
@@ -141,8 +142,8 @@ stays_is b freed c i false a e f = record {
 -- ---- vertices that are clear of a point
 
 -- a place whose cell does not have the point
-pub lacks_here : (slots : List (Option Cell)) (x p : ℕ) (cell : Cell) (r : Bool) → at slots x ≡ Some cell →
-    r ≡ is_among p (points_of cell) → r ≡ false → (c : Cell) → at slots x ≡ Some c → IsIn p (points_of c) → ⊥
+pub lacks_here : (slots : List (Option Cell)) (x p : ℕ) (cell : Cell) (r : Bool) → at_slot slots x ≡ Some cell →
+    r ≡ is_among p (points_of cell) → r ≡ false → (c : Cell) → at_slot slots x ≡ Some c → IsIn p (points_of c) → ⊥
 lacks_here slots x p cell r e f g c h m =
     let same : Some cell ≡ Some c = sym e ∙ h in
     let t = among_true p (points_of cell) (subst (λ d. IsIn p (points_of d)) (sym (let u : cell ≡ c = cc same in u)) m)
@@ -151,13 +152,14 @@ lacks_here slots x p cell r e f g c h m =
 
 -- a vertex is clear of a point where no cell of its star has the point
 pub clear_by : (b : Placed) (slots : List (Option Cell)) (p q : ℕ) (star : List ℕ) → slots ≡ b.slots →
-    lies_in b.place q ≡ true → ((i : ℕ) → IsIn i star → (c : Cell) → at slots i ≡ Some c → IsIn p (points_of c) → ⊥) →
+    lies_in b.place q ≡ true →
+    ((i : ℕ) → IsIn i star → (c : Cell) → at_slot slots i ≡ Some c → IsIn p (points_of c) → ⊥) →
     ((i : ℕ) → (IsIn i star → IsStarred b.keys b.stars q i) × (IsStarred b.keys b.stars q i → IsIn i star)) →
     IsClear b p q
 clear_by b slots p q star e l n f = record {
   inside = l;
   apart =
-      λ i c s h m. n i ((f i).1 s) c (ap (λ k. at k i) e ∙ h) m;
+      λ i c s h m. n i ((f i).1 s) c (ap (λ k. at_slot k i) e ∙ h) m;
 }
 
 -- with one more that is clear all so far are
@@ -168,7 +170,7 @@ clear_pushed b p old new x e k f q m = elim (in_pushed old new x q e m)
 
 -- a cell with the point and such a vertex stands nowhere
 pub clear_nowhere : (b : Placed) (p q i : ℕ) (c : Cell) → AreStars b → IsClear b p q → is_among p (points_of c) ≡ true →
-    is_among q (points_of c) ≡ true → at b.slots i ≡ Some c → ⊥
+    is_among q (points_of c) ≡ true → at_slot b.slots i ≡ Some c → ⊥
 clear_nowhere b p q i c a f h k e = f.apart i c (a.listed q i c e (among_from q (points_of c) k) f.inside) e
     (among_from p (points_of c) h)
 
@@ -177,7 +179,7 @@ clear_nowhere b p q i c a f h k e = f.apart i c (a.listed q i c e (among_from q 
 -- these places are those of the first n gone cells that touch the bucket
 pub record FreedSoFar (b : Placed) (gone : List Cell) (n : ℕ) (freed : List ℕ) : Type 0 where
   pub each : (i : ℕ) → IsIn i freed → IsFreed b gone i
-  pub all : (c : Cell) → IsIn c (take n gone) → (i : ℕ) → at b.slots i ≡ Some c → touches_in b.place c ≡ true →
+  pub all : (c : Cell) → IsIn c (take n gone) → (i : ℕ) → at_slot b.slots i ≡ Some c → touches_in b.place c ≡ true →
       IsIn i freed
 
 -- of no cell yet none is freed
@@ -185,36 +187,36 @@ pub freed_none : (b : Placed) (gone : List Cell) (freed : List ℕ) → freed �
 freed_none b gone freed e = record {
   each = λ i m. absurd (subst (IsIn i) e m);
   all =
-      each_none (λ c. (i : ℕ) → at b.slots i ≡ Some c → touches_in b.place c ≡ true → IsIn i freed) gone;
+      each_none (λ c. (i : ℕ) → at_slot b.slots i ≡ Some c → touches_in b.place c ≡ true → IsIn i freed) gone;
 }
 
 -- the place of the next cell is freed
 pub freed_more : (b : Placed) (gone : List Cell) (n : ℕ) (freed new : List ℕ) (c : Cell) (i : ℕ) → AreStars b →
-    n < length gone → c ≡ slice_index_or gone n c → at b.slots i ≡ Some c → new ≡ freed ++ i ∷ [] →
+    n < length gone → c ≡ slice_index_or gone n c → at_slot b.slots i ≡ Some c → new ≡ freed ++ i ∷ [] →
     FreedSoFar b gone n freed → FreedSoFar b gone (n + 1) new
 freed_more b gone n freed new c i a h e f p s = record {
   each = λ j m. elim (in_pushed freed new i j p m) [
     | inl k ↦ s.each j k
     | inr q ↦ record {
       cell = c;
-      there = ap (at b.slots) (sym q) ∙ f;
+      there = ap (at_slot b.slots) (sym q) ∙ f;
       goes = at_place gone n c c h e;
       touches =
           a.touching i c f;
     }
   ];
-  all = each_more (λ c. (i : ℕ) → at b.slots i ≡ Some c → touches_in b.place c ≡ true →
+  all = each_more (λ c. (i : ℕ) → at_slot b.slots i ≡ Some c → touches_in b.place c ≡ true →
       IsIn i new) gone n c c h e (λ d m j g t. pushed_old freed new i j p (s.all d m j g t))
       (λ j g t. subst (λ k. IsIn k new) (a.once i j c f g) (pushed_new freed new i p));
 }
 
 -- or the cell stands nowhere, and nothing more is
 pub freed_same : (b : Placed) (gone : List Cell) (n : ℕ) (freed : List ℕ) (c : Cell) → n < length gone →
-    c ≡ slice_index_or gone n c → ((i : ℕ) → at b.slots i ≡ Some c → touches_in b.place c ≡ true → ⊥) →
+    c ≡ slice_index_or gone n c → ((i : ℕ) → at_slot b.slots i ≡ Some c → touches_in b.place c ≡ true → ⊥) →
     FreedSoFar b gone n freed → FreedSoFar b gone (n + 1) freed
 freed_same b gone n freed c h e f s = record {
   each = s.each;
-  all = each_more (λ c. (i : ℕ) → at b.slots i ≡ Some c → touches_in b.place c ≡ true →
+  all = each_more (λ c. (i : ℕ) → at_slot b.slots i ≡ Some c → touches_in b.place c ≡ true →
       IsIn i freed) gone n c c h e s.all (λ j g t. absurd (f j g t));
 }
 
@@ -224,7 +226,7 @@ pub freed_all : (b : Placed) (gone : List Cell) (n : ℕ) (freed new : List ℕ)
     AreFreed b gone new
 freed_all b gone n freed new h f s = record {
   each = λ i m. s.each i ((f i).0 m);
-  all = λ i c e m t. (f i).1 (each_taken (λ c. (i : ℕ) → at b.slots i ≡ Some c → touches_in b.place c ≡ true →
+  all = λ i c e m t. (f i).1 (each_taken (λ c. (i : ℕ) → at_slot b.slots i ≡ Some c → touches_in b.place c ≡ true →
       IsIn i freed) gone n h s.all c m i e t);
 }
 
@@ -247,7 +249,7 @@ coming_none b freed fresh coming e = record {
 -- the next one comes
 pub coming_more : (b : Placed) (freed : List ℕ) (fresh : List Cell) (n : ℕ) (coming new : List Cell) (c : Cell) →
     n < length fresh → c ≡ slice_index_or fresh n c →
-    (touches_in b.place c ≡ true) × ((i : ℕ) → at b.slots i ≡ Some c → IsIn i freed) → new ≡ coming ++ c ∷ [] →
+    (touches_in b.place c ≡ true) × ((i : ℕ) → at_slot b.slots i ≡ Some c → IsIn i freed) → new ≡ coming ++ c ∷ [] →
     ComingSoFar b freed fresh n coming → ComingSoFar b freed fresh (n + 1) new
 coming_more b freed fresh n coming new c h e f p s = record {
   each = λ d m. elim (in_pushed coming new c d p m) [
@@ -387,7 +389,7 @@ are_for b slots gone fresh coming freed us placed a es f o k au n v p = rw p (re
     | inr s ↦ inr (s.place, s.there, s.kept)
   ];
   new = λ i j c m e. (k.each c (in_zip us coming i c m).1).new j e;
-  vacant = λ i c d m e. v i (in_zip us coming i c m).0 d (ap (λ l. at l i) es ∙ e);
+  vacant = λ i c d m e. v i (in_zip us coming i c m).0 d (ap (λ l. at_slot l i) es ∙ e);
   apart = λ i c d m q. zip_apart us coming i c d au m q;
   single = λ i j c m q. zip_single us coming i j c o m q;
 })
@@ -453,8 +455,8 @@ likely_one Q list new x e p f i m = elim (in_pushed list new x i p m) [ inl k �
 
 -- what is chosen of freed and of open places is vacant
 pub vacant_from : (slots : List (Option Cell)) (freed first list all : List ℕ) →
-    ((i : ℕ) → IsIn i first → IsIn i freed ⊎ (at slots i ≡ None)) → ((i : ℕ) → IsIn i list → IsIn i first) →
-    ((i : ℕ) → IsIn i all → IsIn i list ⊎ (at slots i ≡ None)) → (i : ℕ) → IsIn i all → IsVacant slots freed i
+    ((i : ℕ) → IsIn i first → IsIn i freed ⊎ (at_slot slots i ≡ None)) → ((i : ℕ) → IsIn i list → IsIn i first) →
+    ((i : ℕ) → IsIn i all → IsIn i list ⊎ (at_slot slots i ≡ None)) → (i : ℕ) → IsIn i all → IsVacant slots freed i
 vacant_from slots freed first list all f g h i m c e = elim (h i m) [
   | inl k ↦ elim (f i (g i k)) [ inl j ↦ j | inr q ↦ absurd (no_cell slots i c q e) ]
   | inr q ↦ absurd (no_cell slots i c q e)

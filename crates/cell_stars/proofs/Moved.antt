@@ -7,7 +7,7 @@ use Rattle.point_order.specs.CellOrder.{cell_cmp}
 use Rattle.point_order.specs.Sets.{IsIn}
 use Rattle.del_laws.proofs.Cited.{same_members}
 use Rattle.cell_stars.specs.Swaps.{touches, swapped}
-use Rattle.cell_stars.specs.Places.{Placed, IsMoved, live, at, cells_of, touches_in}
+use Rattle.cell_stars.specs.Places.{Placed, IsMoved, live, cells_of, touches_in, at_slot}
 use Rattle.cell_stars.proofs.CellLaws.{
   in_withs,
   withs_new,
@@ -20,12 +20,12 @@ use Rattle.cell_stars.proofs.CellLaws.{
 use Rattle.cell_stars.proofs.Least.{live_at, at_live}
 
 -- the cells of places, by their members
-pub placed_in : (slots : List (Option Cell)) (i : ℕ) (c : Cell) → at slots i ≡ Some c → IsIn c (cells_of slots)
+pub placed_in : (slots : List (Option Cell)) (i : ℕ) (c : Cell) → at_slot slots i ≡ Some c → IsIn c (cells_of slots)
 unfolding cells_of
 placed_in slots i c e = withs_new (live slots) [] c (live_at slots i c e)
 
 -- and each of the cells stands at some place
-pub in_placed : (slots : List (Option Cell)) (c : Cell) → IsIn c (cells_of slots) → (i : ℕ) × (at slots i ≡ Some c)
+pub in_placed : (slots : List (Option Cell)) (c : Cell) → IsIn c (cells_of slots) → (i : ℕ) × (at_slot slots i ≡ Some c)
 unfolding cells_of
 in_placed slots c m = elim (in_withs (live slots) [] c m) [ inl k ↦ at_live slots c k | inr k ↦ absurd k ]
 

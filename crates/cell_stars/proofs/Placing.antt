@@ -15,8 +15,8 @@ use Rattle.point_order.proofs.Cited.{cell_same}
 use Rattle.point_order.specs.declared.cell.Cell.{Cell}
 use Rattle.point_order.specs.CellOrder.{cell_cmp}
 use Rattle.point_order.specs.Sets.{IsIn}
-use Rattle.cell_stars.specs.Swaps.{Differ, with_cell, with_cells}
-use Rattle.cell_stars.specs.Places.{Placed, AreStars, IsPlaceAround, at, live, cells_of, lies_in, touches_in}
+use Rattle.cell_stars.specs.Swaps.{Differ, with_cell, with_all_cells}
+use Rattle.cell_stars.specs.Places.{Placed, AreStars, IsPlaceAround, live, cells_of, lies_in, touches_in, at_slot}
 use Rattle.cell_stars.proofs.CellLaws.{in_with}
 use Rattle.cell_stars.proofs.Least.{at_live}
 
@@ -34,7 +34,7 @@ stands_new w b e s = record {
     none : (p : ℕ) {i : ℕ} → IsPlaceAround b.place b.slots p i → ⊥
     none p n = (let t = ap (λ o. lies_in o p) (sym e) ∙ n.inside in absurd (cc t))
 
-    free : (i : ℕ) (c : Cell) → at b.slots i ≡ Some c → ⊥
+    free : (i : ℕ) (c : Cell) → at_slot b.slots i ≡ Some c → ⊥
     free i c q = (let t = ap (λ o. touches_in o c) (sym e) ∙ s.touching i c q in absurd (cc t))
 
 -- so it is where a bucket is new or stands there already
@@ -46,7 +46,8 @@ stands_at w b (inr e) s = subst (λ o. AreStars (record b { place = o })) e s
 -- ---- the list of the cells
 
 -- where no cell stands at two places, the cells of the places differ
-all_differ : (slots : List (Option Cell)) → ((i j : ℕ) (c : Cell) → at slots i ≡ Some c → at slots j ≡ Some c → i ≡ j) →
+all_differ : (slots : List (Option Cell)) →
+    ((i j : ℕ) (c : Cell) → at_slot slots i ≡ Some c → at_slot slots j ≡ Some c → i ≡ j) →
     Differ (live slots)
 all_differ [] o = tt
 all_differ (None ∷ l) o = all_differ l (λ i j c p q. (let e = o (suc i) (suc j) c p q in omega (arith, e)))
@@ -70,10 +71,10 @@ one_more c (d ∷ l) n = by (cell_cmp c d) refl (λ k. one_more c l k)
 
 -- so it is with several cells more
 more : (cs l : List Cell) → Differ cs → ((c : Cell) → IsIn c cs → IsIn c l → ⊥) →
-    IsPermutation (with_cells cs l) (cs ++ l)
+    IsPermutation (with_all_cells cs l) (cs ++ l)
 more [] l f n = IsPermutation-refl l
 more (c ∷ cs) l f n =
-    IsPermutation-trans (with_cells cs (with_cell c l)) (cs ++ with_cell c l) (c ∷ (cs ++ l))
+    IsPermutation-trans (with_all_cells cs (with_cell c l)) (cs ++ with_cell c l) (c ∷ (cs ++ l))
     (more cs (with_cell c l) f.1 apart)
     (IsPermutation-trans (cs ++ with_cell c l) (cs ++ c ∷ l) (c ∷ (cs ++ l))
     (IsPermutation-append_right cs (with_cell c l) (c ∷ l) (one_more c l (n c (inl refl))))
@@ -94,5 +95,5 @@ without_end (c ∷ l) = ap (λ (m : List Cell). c ∷ m) (without_end l)
 -- the cells of the places, each once
 pub all_once : (b : Placed) → AreStars b → IsPermutation (cells_of b.slots) (live b.slots)
 unfolding cells_of
-all_once b s = subst (IsPermutation (with_cells (live b.slots) [])) (without_end (live b.slots))
+all_once b s = subst (IsPermutation (with_all_cells (live b.slots) [])) (without_end (live b.slots))
     (more (live b.slots) [] (all_differ b.slots s.once) (λ c i m. m))

@@ -31,12 +31,12 @@ use Rattle.cell_stars.specs.Places.{
   AreStars,
   IsStarred,
   IsMoved,
-  at,
   cells_of,
   part_of,
   touches_in,
   star_at,
   swapped_at,
+  at_slot,
 }
 use Rattle.cell_stars.specs.Plans.{
   PlanView,
@@ -49,7 +49,7 @@ use Rattle.cell_stars.specs.Plans.{
   AreBelow,
   or_else,
   set_all,
-  done,
+  after_plan,
 }
 use Rattle.cell_stars.specs.Moves.{IsRewriting, AreKeysAfter, AreAgreed, HasSameCells, HasSameStars}
 use Rattle.cell_stars.proofs.KeyLaws.{same_or_not}
@@ -101,7 +101,7 @@ look {X} (c ∷ cs) l n d b = elim (look cs (slice_set l c.0 c.1) n d
     ]
 
 -- a place with a cell is one of the list
-at_within : (l : List (Option Cell)) (i : ℕ) (c : Cell) → at l i ≡ Some c → i < length l
+at_within : (l : List (Option Cell)) (i : ℕ) (c : Cell) → at_slot l i ≡ Some c → i < length l
 at_within [] i c e = absurd (cc e)
 at_within (x ∷ l) zero c e = omega arith
 at_within (x ∷ l) (suc i) c e = (let h = at_within l i c e in omega (arith, h))
@@ -159,14 +159,14 @@ are_put gone fresh freed placed b grown f s h = (
     puts_mid : AreBelow (length mid) (putting placed)
     puts_mid = subst (λ n. AreBelow n (putting placed)) (sym (len_all (freeing freed) grown)) puts
 
-    put : (i : ℕ) (c : Cell) → IsIn (i, c) placed → at (set_all (putting placed) mid) i ≡ Some c
+    put : (i : ℕ) (c : Cell) → IsIn (i, c) placed → at_slot (set_all (putting placed) mid) i ≡ Some c
     put i c m = elim (look (putting placed) mid i None puts_mid) [
       | inl r ↦ (let t = putting_from placed i r.0 r.1 in r.2 ∙ t.2 ∙ ap Some (f.apart i t.0 c t.1 m))
       | inr r ↦ absurd (r.0 (Some c) (mapped_true (λ (m : ℕ × Cell). (m.0, Some m.1)) (i, c) placed m))
     ]
 
-    kept : (i : ℕ) (c : Cell) → at b.slots i ≡ Some c → (IsIn i freed → ⊥) →
-        at (set_all (putting placed) mid) i ≡ Some c
+    kept : (i : ℕ) (c : Cell) → at_slot b.slots i ≡ Some c → (IsIn i freed → ⊥) →
+        at_slot (set_all (putting placed) mid) i ≡ Some c
     kept i c e n = elim (look (putting placed) mid i None puts_mid) [
       | inl r ↦ (let t = putting_from placed i r.0 r.1 in absurd (n (f.vacant i t.0 c t.1 e)))
       | inr r ↦ elim (look (freeing freed) grown i None frees) [
@@ -175,8 +175,8 @@ are_put gone fresh freed placed b grown f s h = (
       ]
     ]
 
-    only : (i : ℕ) (c : Cell) → at (set_all (putting placed) mid) i ≡ Some c →
-        IsIn (i, c) placed ⊎ ((at b.slots i ≡ Some c) × (IsIn i freed → ⊥))
+    only : (i : ℕ) (c : Cell) → at_slot (set_all (putting placed) mid) i ≡ Some c →
+        IsIn (i, c) placed ⊎ ((at_slot b.slots i ≡ Some c) × (IsIn i freed → ⊥))
     only i c e = elim (look (putting placed) mid i None puts_mid) [
       | inl r ↦ (let t = putting_from placed i r.0 r.1 in
           inl (subst (λ (x : Cell). IsIn (i, x) placed) (one_cell t.0 c (sym t.2 ∙ sym r.2 ∙ e)) t.1))
@@ -337,7 +337,7 @@ is_plan gone fresh b p freed placed a f r k o s h e t g =
     let below = below_all (length (or_else p.more b.stars)) p.stars g in
     let v = are_rewritten gone fresh freed placed b p.stars (set_all p.keys (or_else p.parts b.keys))
     (or_else p.more b.stars) a f r k t below in
-    let m = rewritten_is_moved gone fresh freed placed b (done p b) refl a f
+    let m = rewritten_is_moved gone fresh freed placed b (after_plan p b) refl a f
     (subst (λ cs. ArePutInto freed placed b.slots (set_all cs (or_else p.grown b.slots))) (sym e) u.1) v in
     record {
       allows = record {
@@ -346,7 +346,7 @@ is_plan gone fresh b p freed placed a f r k o s h e t g =
         keys = o;
         after = m.0;
       };
-      cells = moved_at gone fresh b (done p b) m.1;
+      cells = moved_at gone fresh b (after_plan p b) m.1;
     }
 
 -- ---- longer lists
@@ -409,9 +409,9 @@ changes_are freed us placed ps n m list new e f h k i j =
 -- one more open place is put at the end
 pub slots_more : (old l new : List (Option Cell)) (s : Option Cell) → s ≡ None → new ≡ l ++ s ∷ [] →
     HasSameCells old l → HasSameCells old new
-slots_more old l new s e q h i = ap (λ v. at v i) (q ∙ ap (λ x. l ++ x ∷ []) e) ∙ there l i ∙ h i
+slots_more old l new s e q h i = ap (λ v. at_slot v i) (q ∙ ap (λ x. l ++ x ∷ []) e) ∙ there l i ∙ h i
   where
-    there : (l : List (Option Cell)) (i : ℕ) → at (l ++ None ∷ []) i ≡ at l i
+    there : (l : List (Option Cell)) (i : ℕ) → at_slot (l ++ None ∷ []) i ≡ at_slot l i
     there [] zero = refl
     there [] (suc i) = refl
     there (x ∷ l) zero = refl
@@ -450,5 +450,5 @@ pub allows_same : (p q : PlanView) (b d : Placed) → p ≡ q → b ≡ d → Al
 allows_same p q b d e f a = subst (λ x. Allows x b) (sym e) (subst (λ y. Allows q y) (sym f) a)
 
 -- they make the same of it
-pub done_same : (p q : PlanView) (b d : Placed) → p ≡ q → b ≡ d → done p b ≡ done q d
-done_same p q b d e f = ap (λ x. done x b) e ∙ ap (λ y. done q y) f
+pub done_same : (p q : PlanView) (b d : Placed) → p ≡ q → b ≡ d → after_plan p b ≡ after_plan q d
+done_same p q b d e f = ap (λ x. after_plan x b) e ∙ ap (λ y. after_plan q y) f

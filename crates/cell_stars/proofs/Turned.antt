@@ -25,8 +25,8 @@ use Rattle.std.specs.List.Sorted.{IsStrictlySortedBy}
 use Rattle.point_order.specs.CellOrder.{cell_cmp}
 use Rattle.point_order.specs.declared.cell.Cell.{Cell}
 use Rattle.cell_stars.specs.Places.{Placed, AreStars, cells_of, swapped_at}
-use Rattle.cell_stars.specs.Plans.{PlanView, Allows, AreBelow, done, or_else, set_all}
-use Rattle.cell_stars.specs.Turns.{AreReady, IsPart, IsTurn, TurnIsOne, TurnLeadsBack, WasTurned, kept, left, stood}
+use Rattle.cell_stars.specs.Plans.{PlanView, Allows, AreBelow, or_else, set_all, after_plan}
+use Rattle.cell_stars.specs.Turns.{AreReady, IsPart, IsTurn, TurnIsOne, TurnLeadsBack, WasTurned, left, stood, replaced}
 use Rattle.cell_stars.proofs.CellLaws.{swapped_back}
 use Rattle.cell_stars.proofs.Moved.{placed_sorted}
 use Rattle.cell_stars.proofs.Planned.{len_all}
@@ -194,7 +194,8 @@ one_list {X} (c ∷ cs) (d ∷ ds) l m a b e f =
     back k i x = set_twice k i x (slice_index_or k i x) ∙ set_found k i x
 
 -- the same list, exchanged for the same one
-one_option : {X : Type 0} (o r : Option X) (x y : X) → kept o x ≡ kept r y → or_else o x ≡ or_else r y → (o ≡ r) ×
+one_option : {X : Type 0} (o r : Option X) (x y : X) → replaced o x ≡ replaced r y →
+    or_else o x ≡ or_else r y → (o ≡ r) ×
     (x ≡ y)
 one_option None None x y e f = (refl, f)
 one_option None (Some v) x y e f = absurd (cc e)
@@ -203,7 +204,7 @@ one_option (Some u) (Some v) x y e f = (ap Some f, cc e)
 
 -- the same plan and bucket, by their parts
 one_part : {X : Type 0} (o r : Option (List X)) (cs ds : List (ℕ × X)) (l m : List X) →
-    AreBelow (length (or_else o l)) cs → AreBelow (length (or_else r m)) ds → kept o l ≡ kept r m →
+    AreBelow (length (or_else o l)) cs → AreBelow (length (or_else r m)) ds → replaced o l ≡ replaced r m →
     stood cs (or_else o l) ≡ stood ds (or_else r m) → set_all cs (or_else o l) ≡ set_all ds (or_else r m) → (o ≡ r) ×
     (cs ≡ ds) × (l ≡ m)
 one_part o r cs ds l m a b e f h =
@@ -215,7 +216,7 @@ one_part o r cs ds l m a b e f h =
 pub turn_is_one : TurnIsOne
 turn_is_one p q r b c d s t =
     let e : left p b ≡ left q c = sym s.plan ∙ t.plan in
-    let f : done p b ≡ done q c = sym s.bucket ∙ t.bucket in
+    let f : after_plan p b ≡ after_plan q c = sym s.bucket ∙ t.bucket in
     let slots = one_part p.grown q.grown p.slots q.slots b.slots c.slots s.allows.slots t.allows.slots
     (ap (λ x. x.grown) e) (ap (λ x. x.slots) e) (ap (λ x. x.slots) f) in
     let stars = one_part p.more q.more p.stars q.stars b.stars c.stars s.allows.stars t.allows.stars
@@ -247,14 +248,15 @@ part_below o r cs ds l m p =
     (below_stood (length (or_else o l)) cs (or_else o l) p.below))
 
 -- an option exchanged for a value, and back, is as before
-kept_back : {X : Type 0} (o : Option X) (x : X) → (kept (kept o x) (or_else o x) ≡ o) ×
-    (or_else (kept o x) (or_else o x) ≡ x)
+kept_back : {X : Type 0} (o : Option X) (x : X) → (replaced (replaced o x) (or_else o x) ≡ o) ×
+    (or_else (replaced o x) (or_else o x) ≡ x)
 kept_back None x = (refl, refl)
 kept_back (Some y) x = (refl, refl)
 
 -- a part that is exchanged back is as before
 pub part_back : {X : Type 0} (o p r : Option (List X)) (cs bs ds : List (ℕ × X)) (l k m n : List X) →
-    IsPart o cs l r ds m → length k ≡ length m → set_all bs k ≡ m → stood bs k ≡ ds → p ≡ kept r k → n ≡ or_else r k →
+    IsPart o cs l r ds m → length k ≡ length m → set_all bs k ≡ m → stood bs k ≡ ds → p ≡ replaced r k →
+    n ≡ or_else r k →
     IsPart p bs n r ds m
 part_back {X} o p r cs bs ds l k m n part len f e a b =
     let below : AreBelow (length k) bs = stood_below (length k) bs k
@@ -262,8 +264,8 @@ part_back {X} o p r cs bs ds l k m n part len f e a b =
     (part_below o r cs ds l m part))) in
     let one = one_list bs cs k (or_else o l) below part.below (e ∙ part.changes) (f ∙ part.list) in
     let back = kept_back o l in
-    let first : p ≡ o = a ∙ ap (λ u. kept u k) part.grown ∙ ap (kept (kept o l)) one.1 ∙ back.0 in
-    let last : n ≡ l = b ∙ ap (λ u. or_else u k) part.grown ∙ ap (or_else (kept o l)) one.1 ∙ back.1 in
+    let first : p ≡ o = a ∙ ap (λ u. replaced u k) part.grown ∙ ap (replaced (replaced o l)) one.1 ∙ back.0 in
+    let last : n ≡ l = b ∙ ap (λ u. or_else u k) part.grown ∙ ap (or_else (replaced o l)) one.1 ∙ back.1 in
     subst (λ (u : Option (List X)). IsPart u bs n r ds m) (sym first)
     (subst (λ (u : List (ℕ × X)). IsPart o u n r ds m) (sym one.0)
     (subst (λ (u : List X). IsPart o cs u r ds m) (sym last) part))

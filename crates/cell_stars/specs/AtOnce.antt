@@ -3,7 +3,7 @@ use Rattle.std.specs.Prelude.{◌≡◌, ℕ, ◌<◌, ◌⊎◌, true, List, le
 use Rattle.point_order.specs.declared.cell.Cell.{Cell}
 use Rattle.point_order.specs.Facets.{points_of}
 use Rattle.point_order.specs.Sets.{IsIn, IsAscending}
-use Rattle.cell_stars.specs.Places.{IsStarredBy, at, lies_in, star_at}
+use Rattle.cell_stars.specs.Places.{IsStarredBy, lies_in, star_at, at_slot}
 
 -- the point, which lies in bucket b, is this one
 abbrev pub StandsHere : ℕ → ℕ → ℕ → ℕ → Type 0
@@ -38,4 +38,4 @@ pub record GainsPlaces (keys : List (ℕ × ℕ)) (R : ℕ → ℕ → Type 0) (
 -- the cell at one of the first n places has the vertex, which lies in bucket b
 abbrev pub StandsAtHere : ℕ → ℕ → List Cell → ℕ → ℕ → ℕ → Type 0
 StandsAtHere g b cells n p i =
-    (i < n) × ((c : Cell) × (at (map (λ c. Some c) cells) i ≡ Some c) × FromCellHere g b c p)
+    (i < n) × ((c : Cell) × (at_slot (map (λ c. Some c) cells) i ≡ Some c) × FromCellHere g b c p)

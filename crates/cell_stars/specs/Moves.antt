@@ -22,7 +22,7 @@ use Rattle.std.specs.Prelude.{
 use Rattle.point_order.specs.declared.cell.Cell.{Cell}
 use Rattle.point_order.specs.Facets.{points_of}
 use Rattle.point_order.specs.Sets.{IsIn}
-use Rattle.cell_stars.specs.Places.{Placed, AreFiled, IsStarred, at, lies_in, part_of, touches_in, star_at}
+use Rattle.cell_stars.specs.Places.{Placed, AreFiled, IsStarred, lies_in, part_of, touches_in, star_at, at_slot}
 use Rattle.cell_stars.specs.Plans.{StarsAfter}
 use Rattle.cell_stars.specs.Swaps.{cell_rest}
 
@@ -37,26 +37,26 @@ pub record IsStarFor (b : Placed) (c : Cell) (star : List ℕ) : Type 0 where
 -- a place that is freed has a gone cell that touches the bucket
 pub record IsFreed (b : Placed) (gone : List Cell) (i : ℕ) : Type 0 where
   pub cell : Cell
-  pub there : at b.slots i ≡ Some cell
+  pub there : at_slot b.slots i ≡ Some cell
   pub goes : IsIn cell gone
   pub touches : touches_in b.place cell ≡ true
 
 -- the places of all gone cells
 pub record AreFreed (b : Placed) (gone : List Cell) (freed : List ℕ) : Type 0 where
   pub each : (i : ℕ) → IsIn i freed → IsFreed b gone i
-  pub all : (i : ℕ) (c : Cell) → at b.slots i ≡ Some c → IsIn c gone → touches_in b.place c ≡ true → IsIn i freed
+  pub all : (i : ℕ) (c : Cell) → at_slot b.slots i ≡ Some c → IsIn c gone → touches_in b.place c ≡ true → IsIn i freed
 
 -- the cell stands at a place that is not freed
 pub record StandsYet (b : Placed) (freed : List ℕ) (c : Cell) : Type 0 where
   pub place : ℕ
-  pub there : at b.slots place ≡ Some c
+  pub there : at_slot b.slots place ≡ Some c
   pub kept : IsIn place freed → ⊥
 
 -- a fresh cell that touches the bucket and does not stay there
 pub record IsComing (b : Placed) (freed : List ℕ) (fresh : List Cell) (c : Cell) : Type 0 where
   pub comes : IsIn c fresh
   pub touches : touches_in b.place c ≡ true
-  pub new : (i : ℕ) → at b.slots i ≡ Some c → IsIn i freed
+  pub new : (i : ℕ) → at_slot b.slots i ≡ Some c → IsIn i freed
 
 -- all of them
 pub record AreComing (b : Placed) (freed : List ℕ) (fresh coming : List Cell) : Type 0 where
@@ -65,21 +65,21 @@ pub record AreComing (b : Placed) (freed : List ℕ) (fresh coming : List Cell) 
 
 -- no fresh cell that touches the bucket stands there
 abbrev pub AreNew : Placed → List Cell → Type 0
-AreNew b fresh = (c : Cell) → IsIn c fresh → touches_in b.place c ≡ true → (i : ℕ) → at b.slots i ≡ Some c → ⊥
+AreNew b fresh = (c : Cell) → IsIn c fresh → touches_in b.place c ≡ true → (i : ℕ) → at_slot b.slots i ≡ Some c → ⊥
 
 -- a vertex in the bucket, around which no cell has the point
 pub record IsClear (b : Placed) (p q : ℕ) : Type 0 where
   pub inside : lies_in b.place q ≡ true
-  pub apart : (i : ℕ) (c : Cell) → IsStarred b.keys b.stars q i → at b.slots i ≡ Some c → IsIn p (points_of c) → ⊥
+  pub apart : (i : ℕ) (c : Cell) → IsStarred b.keys b.stars q i → at_slot b.slots i ≡ Some c → IsIn p (points_of c) → ⊥
 
 -- a place for a cell: one that is freed, or has none
 abbrev pub IsVacant : List (Option Cell) → List ℕ → ℕ → Type 0
-IsVacant slots freed i = (c : Cell) → at slots i ≡ Some c → IsIn i freed
+IsVacant slots freed i = (c : Cell) → at_slot slots i ≡ Some c → IsIn i freed
 
 -- a vertex in the bucket of a cell that goes or comes
 pub record AreVerticesAt (b : Placed) (freed : List ℕ) (placed : List (ℕ × Cell)) (vertices : List ℕ) : Type 0 where
   pub inside : (p : ℕ) → IsIn p vertices → lies_in b.place p ≡ true
-  pub gone : (i p : ℕ) (c : Cell) → IsIn i freed → at b.slots i ≡ Some c → IsIn p (points_of c) →
+  pub gone : (i p : ℕ) (c : Cell) → IsIn i freed → at_slot b.slots i ≡ Some c → IsIn p (points_of c) →
       lies_in b.place p ≡ true → IsIn p vertices
   pub fresh : (i p : ℕ) (c : Cell) → IsIn (i, c) placed → IsIn p (points_of c) → lies_in b.place p ≡ true →
       IsIn p vertices
@@ -185,7 +185,7 @@ AreKeysWith old n s new = (k : ℕ × ℕ) → IsIn k (part_of new k.0) ↔ IsKe
 
 -- the same cells stand at the same places
 abbrev pub HasSameCells : List (Option Cell) → List (Option Cell) → Type 0
-HasSameCells old new = (i : ℕ) → at new i ≡ at old i
+HasSameCells old new = (i : ℕ) → at_slot new i ≡ at_slot old i
 
 -- the same places are in the stars of the same vertices
 pub record HasSameStars (old new : List (ℕ × List ℕ)) : Type 0 where

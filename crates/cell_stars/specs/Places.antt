@@ -26,7 +26,7 @@ use Rattle.point_order.specs.CellOrder.{cell_cmp}
 use Rattle.point_order.specs.Facets.{points_of}
 use Rattle.point_order.specs.Sets.{IsIn, IsAscending}
 use Rattle.cell_stars.specs.Grids.{bucket_of}
-use Rattle.cell_stars.specs.Swaps.{with_cells, touches, swapped}
+use Rattle.cell_stars.specs.Swaps.{touches, swapped, with_all_cells}
 
 -- Where the bucket stands: the size of its grid and its number there, or none for a new one. Its places, each
 -- with a cell or free. The keys in parts: the vertices with a star, each with the number of its star. The stars,
@@ -44,16 +44,16 @@ live (None ∷ l) = live l
 live (Some c ∷ l) = c ∷ live l
 
 -- the cell at a place
-abbrev pub at : List (Option Cell) → ℕ → Option Cell
-at slots i = slice_index_or slots i None
+abbrev pub at_slot : List (Option Cell) → ℕ → Option Cell
+at_slot slots i = slice_index_or slots i None
 
 -- the cells of all places, in order
 unfoldable pub cells_of : List (Option Cell) → List Cell
-cells_of slots = with_cells (live slots) []
+cells_of slots = with_all_cells (live slots) []
 
 -- the cells at some places
 abbrev pub named : List (Option Cell) → List ℕ → List Cell
-named slots is = live (map (at slots) is)
+named slots is = live (map (at_slot slots) is)
 
 -- the point lies in the bucket that stands at the place
 abbrev pub lies_in : Option (ℕ × ℕ) → ℕ → Bool
@@ -107,7 +107,7 @@ IsStarred keys stars p i = IsStarredBy (part_of keys p) stars p i
 -- what a star has: the place of a cell with the vertex, which lies in the bucket
 pub record IsPlaceAround (place : Option (ℕ × ℕ)) (slots : List (Option Cell)) (p i : ℕ) : Type 0 where
   pub cell : Cell
-  pub there : at slots i ≡ Some cell
+  pub there : at_slot slots i ≡ Some cell
   pub has : IsIn p (points_of cell)
   pub inside : lies_in place p ≡ true
 
@@ -117,11 +117,11 @@ pub record IsPlaceAround (place : Option (ℕ × ℕ)) (slots : List (Option Cel
 pub record AreStars (b : Placed) : Type 0 where
   pub order : AreFiled b.keys
   pub names : (p i : ℕ) → IsStarred b.keys b.stars p i → IsPlaceAround b.place b.slots p i
-  pub listed : (p i : ℕ) (c : Cell) → at b.slots i ≡ Some c → IsIn p (points_of c) → lies_in b.place p ≡ true →
+  pub listed : (p i : ℕ) (c : Cell) → at_slot b.slots i ≡ Some c → IsIn p (points_of c) → lies_in b.place p ≡ true →
       IsStarred b.keys b.stars p i
   pub filled : (k : ℕ × ℕ) → IsIn k (part_of b.keys k.0) → (i : ℕ) × IsStarred b.keys b.stars k.0 i
-  pub once : (i j : ℕ) (c : Cell) → at b.slots i ≡ Some c → at b.slots j ≡ Some c → i ≡ j
-  pub touching : (i : ℕ) (c : Cell) → at b.slots i ≡ Some c → touches_in b.place c ≡ true
+  pub once : (i j : ℕ) (c : Cell) → at_slot b.slots i ≡ Some c → at_slot b.slots j ≡ Some c → i ≡ j
+  pub touching : (i : ℕ) (c : Cell) → at_slot b.slots i ≡ Some c → touches_in b.place c ≡ true
 
 -- the cell is after the bound, or there is none
 abbrev pub is_after : Option Cell → Cell → Bool
@@ -132,7 +132,7 @@ is_after (Some b) c = is_lt (cell_cmp b c)
 pub record IsOneBehind (slots : List (Option Cell)) (star : List ℕ) (bound : Option Cell) (c : Cell) : Type 0 where
   pub place : ℕ
   pub listed : IsIn place star
-  pub there : at slots place ≡ Some c
+  pub there : at_slot slots place ≡ Some c
   pub behind : is_after bound c ≡ true
 
 -- there is none
@@ -148,8 +148,8 @@ pub record IsLeastBehind (slots : List (Option Cell)) (star : List ℕ) (bound :
 -- gets one, and no other cell stands anywhere.
 pub record IsMoved (gone fresh : List Cell) (old new : Placed) : Type 0 where
   pub place : new.place ≡ old.place
-  pub stays : (i : ℕ) (c : Cell) → at old.slots i ≡ Some c → (IsIn c gone → touches_in old.place c ≡ true → ⊥) →
-      at new.slots i ≡ Some c
-  pub comes : (c : Cell) → IsIn c fresh → touches_in old.place c ≡ true → (i : ℕ) × (at new.slots i ≡ Some c)
-  pub only : (i : ℕ) (c : Cell) → at new.slots i ≡ Some c → (IsIn c fresh × (touches_in old.place c ≡ true))
-      ⊎ ((at old.slots i ≡ Some c) × (IsIn c gone → touches_in old.place c ≡ true → ⊥))
+  pub stays : (i : ℕ) (c : Cell) → at_slot old.slots i ≡ Some c → (IsIn c gone → touches_in old.place c ≡ true → ⊥) →
+      at_slot new.slots i ≡ Some c
+  pub comes : (c : Cell) → IsIn c fresh → touches_in old.place c ≡ true → (i : ℕ) × (at_slot new.slots i ≡ Some c)
+  pub only : (i : ℕ) (c : Cell) → at_slot new.slots i ≡ Some c → (IsIn c fresh × (touches_in old.place c ≡ true))
+      ⊎ ((at_slot old.slots i ≡ Some c) × (IsIn c gone → touches_in old.place c ≡ true → ⊥))

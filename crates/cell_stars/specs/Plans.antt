@@ -9,12 +9,12 @@ use Rattle.cell_stars.specs.Places.{
   AreStars,
   IsMoved,
   IsStarred,
-  at,
   cells_of,
   lies_in,
   part_of,
   touches_in,
   swapped_at,
+  at_slot,
 }
 use Rattle.cell_stars.specs.Swaps.{Differ}
 use Rattle.cell_stars.specs.Homes.{AreHomes}
@@ -45,8 +45,8 @@ AreBelow n [] = Unit {0}
 AreBelow n (s ∷ ss) = (s.0 < n) × AreBelow n ss
 
 -- the bucket after a plan
-abbrev pub done : PlanView → Placed → Placed
-done p b = record b {
+abbrev pub after_plan : PlanView → Placed → Placed
+after_plan p b = record b {
   slots = set_all p.slots (or_else p.grown b.slots);
   stars = set_all p.stars (or_else p.more b.stars);
   keys = set_all p.keys (or_else p.parts b.keys);
@@ -57,12 +57,12 @@ pub record Allows (p : PlanView) (b : Placed) : Type 0 where
   pub slots : AreBelow (length (or_else p.grown b.slots)) p.slots
   pub stars : AreBelow (length (or_else p.more b.stars)) p.stars
   pub keys : AreBelow (length (or_else p.parts b.keys)) p.keys
-  pub after : AreStars (done p b)
+  pub after : AreStars (after_plan p b)
 
 -- the plan makes the exchange in the bucket
 pub record MakesExchange (gone fresh : List Cell) (b : Placed) (p : PlanView) : Type 0 where
   pub allows : Allows p b
-  pub cells : cells_of (done p b).slots ≡ swapped_at b.place gone fresh (cells_of b.slots)
+  pub cells : cells_of (after_plan p b).slots ≡ swapped_at b.place gone fresh (cells_of b.slots)
 
 -- the points of a list are the vertices of the cells of an exchange
 pub record AreVertices (gone fresh : List Cell) (vertices : List ℕ) : Type 0 where
@@ -96,24 +96,25 @@ pub record IsPutAt (place : Option (ℕ × ℕ)) (placed : List (ℕ × Cell)) (
 -- The freed places are those of the gone cells that touch the bucket. The cells put are the fresh ones that touch it
 -- and do not stay there, each at one place of its own, which is freed or has no cell.
 pub record AreFor (gone fresh : List Cell) (freed : List ℕ) (placed : List (ℕ × Cell)) (old : Placed) : Type 0 where
-  pub there : (i : ℕ) → IsIn i freed → (c : Cell) × (at old.slots i ≡ Some c)
-  pub freed_gone : (i : ℕ) (c : Cell) → IsIn i freed → at old.slots i ≡ Some c →
+  pub there : (i : ℕ) → IsIn i freed → (c : Cell) × (at_slot old.slots i ≡ Some c)
+  pub freed_gone : (i : ℕ) (c : Cell) → IsIn i freed → at_slot old.slots i ≡ Some c →
       IsIn c gone × (touches_in old.place c ≡ true)
-  pub gone_freed : (i : ℕ) (c : Cell) → at old.slots i ≡ Some c → IsIn c gone → touches_in old.place c ≡ true →
+  pub gone_freed : (i : ℕ) (c : Cell) → at_slot old.slots i ≡ Some c → IsIn c gone → touches_in old.place c ≡ true →
       IsIn i freed
   pub placed_fresh : (i : ℕ) (c : Cell) → IsIn (i, c) placed → IsIn c fresh × (touches_in old.place c ≡ true)
   pub fresh_placed : (c : Cell) → IsIn c fresh → touches_in old.place c ≡ true →
-      ((i : ℕ) × IsIn (i, c) placed) ⊎ ((i : ℕ) × (at old.slots i ≡ Some c) × (IsIn i freed → ⊥))
-  pub new : (i j : ℕ) (c : Cell) → IsIn (i, c) placed → at old.slots j ≡ Some c → IsIn j freed
-  pub vacant : (i : ℕ) (c d : Cell) → IsIn (i, c) placed → at old.slots i ≡ Some d → IsIn i freed
+      ((i : ℕ) × IsIn (i, c) placed) ⊎ ((i : ℕ) × (at_slot old.slots i ≡ Some c) × (IsIn i freed → ⊥))
+  pub new : (i j : ℕ) (c : Cell) → IsIn (i, c) placed → at_slot old.slots j ≡ Some c → IsIn j freed
+  pub vacant : (i : ℕ) (c d : Cell) → IsIn (i, c) placed → at_slot old.slots i ≡ Some d → IsIn i freed
   pub apart : (i : ℕ) (c d : Cell) → IsIn (i, c) placed → IsIn (i, d) placed → c ≡ d
   pub single : (i j : ℕ) (c : Cell) → IsIn (i, c) placed → IsIn (j, c) placed → i ≡ j
 
 -- What stands at a place after is what was put there, or else what stood there, where the place was not freed.
 pub record ArePutInto (freed : List ℕ) (placed : List (ℕ × Cell)) (old new : List (Option Cell)) : Type 0 where
-  pub put : (i : ℕ) (c : Cell) → IsIn (i, c) placed → at new i ≡ Some c
-  pub kept : (i : ℕ) (c : Cell) → at old i ≡ Some c → (IsIn i freed → ⊥) → at new i ≡ Some c
-  pub only : (i : ℕ) (c : Cell) → at new i ≡ Some c → IsIn (i, c) placed ⊎ ((at old i ≡ Some c) × (IsIn i freed → ⊥))
+  pub put : (i : ℕ) (c : Cell) → IsIn (i, c) placed → at_slot new i ≡ Some c
+  pub kept : (i : ℕ) (c : Cell) → at_slot old i ≡ Some c → (IsIn i freed → ⊥) → at_slot new i ≡ Some c
+  pub only : (i : ℕ) (c : Cell) → at_slot new i ≡ Some c →
+      IsIn (i, c) placed ⊎ ((at_slot old i ≡ Some c) × (IsIn i freed → ⊥))
 
 -- A star has after what it had but for freed places, and the places of the cells put that have its vertex.
 abbrev pub StarsAfter : List ℕ → List (ℕ × Cell) → Placed → ℕ → ℕ → Type 0

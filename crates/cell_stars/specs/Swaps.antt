@@ -27,9 +27,9 @@ with_cell c [] = c ∷ []
 with_cell c (d ∷ l) = match_ordering (cell_cmp c d) (c ∷ d ∷ l) (d ∷ l) (d ∷ with_cell c l)
 
 -- with each cell of a list, which may be in any order
-abbrev pub with_cells : List Cell → List Cell → List Cell
-with_cells [] l = l
-with_cells (c ∷ cs) l = with_cells cs (with_cell c l)
+abbrev pub with_all_cells : List Cell → List Cell → List Cell
+with_all_cells [] l = l
+with_all_cells (c ∷ cs) l = with_all_cells cs (with_cell c l)
 
 -- the cells that are not in a list
 abbrev pub without_cells : List Cell → List Cell → List Cell
@@ -50,7 +50,7 @@ cells_behind c (d ∷ l) = match_ordering (cell_cmp d c) (d ∷ l) l (d ∷ l)
 
 -- the cells of bucket b without those of gone, and with those of fresh, that have a finite vertex in it, in order
 unfoldable pub swapped : ℕ → ℕ → List Cell → List Cell → List Cell → List Cell
-swapped g b gone fresh l = with_cells (filter (touches g b) fresh) (without_cells (filter (touches g b) gone) l)
+swapped g b gone fresh l = with_all_cells (filter (touches g b) fresh) (without_cells (filter (touches g b) gone) l)
 
 -- no cell stands twice in the list
 abbrev pub Differ : List Cell → Type 0

@@ -3,7 +3,7 @@ use Rattle.std.specs.Prelude.{◌≡◌, ℕ, true, List, [], ◌∷◌, length,
 use Rattle.point_order.specs.Sets.{IsIn}
 use Rattle.point_order.specs.declared.cell.Cell.{Cell}
 use Rattle.cell_stars.specs.Places.{Placed, AreStars, cells_of, swapped_at, touches_in}
-use Rattle.cell_stars.specs.Plans.{PlanView, Allows, AreBelow, MakesExchange, done, or_else, set_all}
+use Rattle.cell_stars.specs.Plans.{PlanView, Allows, AreBelow, MakesExchange, or_else, set_all, after_plan}
 
 -- what stands at the places of the changes before each of them, in turn
 abbrev pub stood : {X : Type 0} → List (ℕ × X) → List X → List (ℕ × X)
@@ -11,18 +11,18 @@ stood [] l = []
 stood (s ∷ ss) l = (s.0, slice_index_or l s.0 s.1) ∷ stood ss (slice_set l s.0 s.1)
 
 -- the list that the longer one takes the place of, where there is one
-abbrev pub kept : {X : Type 0} → Option X → X → Option X
-kept None x = None
-kept (Some y) x = Some x
+abbrev pub replaced : {X : Type 0} → Option X → X → Option X
+replaced None x = None
+replaced (Some y) x = Some x
 
 -- what the plan has after it was carried out in the bucket: what stood there
 abbrev pub left : PlanView → Placed → PlanView
 left p b = record {
-  grown = kept p.grown b.slots;
+  grown = replaced p.grown b.slots;
   slots = stood p.slots (or_else p.grown b.slots);
-  more = kept p.more b.stars;
+  more = replaced p.more b.stars;
   stars = stood p.stars (or_else p.more b.stars);
-  parts = kept p.parts b.keys;
+  parts = replaced p.parts b.keys;
   keys = stood p.keys (or_else p.parts b.keys);
 }
 
@@ -30,7 +30,7 @@ left p b = record {
 pub record IsPart {X : Type 0} (o : Option (List X)) (cs : List (ℕ × X)) (l : List X) (r : Option (List X))
     (ds : List (ℕ × X)) (m : List X) : Type 0 where
   pub below : AreBelow (length (or_else o l)) cs
-  pub grown : r ≡ kept o l
+  pub grown : r ≡ replaced o l
   pub changes : ds ≡ stood cs (or_else o l)
   pub list : m ≡ set_all cs (or_else o l)
 
@@ -46,7 +46,7 @@ pub record IsTurn (p : PlanView) (b : Placed) (q : PlanView) (c : Placed) : Type
   pub before : AreStars b
   pub allows : Allows p b
   pub plan : q ≡ left p b
-  pub bucket : c ≡ done p b
+  pub bucket : c ≡ after_plan p b
 
 -- The plan q was carried out, and made c of the bucket.
 pub record WasTurned (q : PlanView) (c : Placed) : Type 0 where

@@ -14,7 +14,7 @@ ghost use Rattle.std.specs.Prelude.{
 ghost use Rattle.point_order.specs.declared.cell.Cell.{Cell};
 ghost use Rattle.point_order.specs.Facets.{points_of};
 ghost use Rattle.point_order.specs.Sets.{IsIn, IsAscending, is_among};
-ghost use Rattle.cell_stars.specs.Places.{at, touches_in};
+ghost use Rattle.cell_stars.specs.Places.{touches_in, at_slot};
 ghost use Rattle.cell_stars.specs.Swaps.{Differ};
 ghost use Rattle.cell_stars.specs.Homes.{AreHomes};
 ghost use Rattle.cell_stars.specs.Moves.{AreComing, AreNew, IsClear, StandsYet};
@@ -32,7 +32,8 @@ const HERE: usize = 24;
 
 // Whether no cell at these places has the point.
 fn none_has(slots: &[Slot], star: &[u32], p: Point) -> bool
-    ensures { IsTrue result → (i : ℕ) → IsIn i star.now → (c : Cell) → at slots.now i ≡ Some c → IsIn p (points_of c)
+    ensures { IsTrue result → (i : ℕ) → IsIn i star.now → (c : Cell) → at_slot slots.now i ≡ Some c →
+        IsIn p (points_of c)
         → ⊥ }
 {
     for i in star {
@@ -115,7 +116,7 @@ impl Cells {
     fn is_new(&self, cell: &Cell, p: Point, clear: &mut Vec<Point>) -> Result<bool, AllocError>
         requires { (q : ℕ) → IsIn q clear.old.items → IsClear self.now p q }
         ensures clear { OnOk result ((q : ℕ) → IsIn q clear.new.items → IsClear self.now p q) }
-        ensures new { IfOk result (λ r. IsTrue r → (i : ℕ) → at self.now.slots i ≡ Some cell.now → ⊥) }
+        ensures new { IfOk result (λ r. IsTrue r → (i : ℕ) → at_slot self.now.slots i ≡ Some cell.now → ⊥) }
     {
         let _ = &self.slots;
         if !has_vertex(cell, p) {
@@ -142,7 +143,7 @@ impl Cells {
     ) -> Result<bool, AllocError>
         requires { IfSome p.now (λ p. (q : ℕ) → IsIn q clear.old.items → IsClear self.now p q) }
         ensures clear { OnOk result (IfSome p.now (λ p. (q : ℕ) → IsIn q clear.new.items → IsClear self.now p q)) }
-        ensures new { IfOk result (λ r. IsTrue r → (i : ℕ) → at self.now.slots i ≡ Some cell.now → ⊥) }
+        ensures new { IfOk result (λ r. IsTrue r → (i : ℕ) → at_slot self.now.slots i ≡ Some cell.now → ⊥) }
     {
         match p {
             Some(p) => self.is_new(cell, *p, clear),
@@ -154,7 +155,7 @@ impl Cells {
     fn stays(&self, cell: &Cell, freed: &[u32]) -> bool
         requires { IsAscending freed.now }
         ensures { MatchBool result (StandsYet self.now freed.now cell.now) (touches_in self.now.place cell.now ≡ true →
-            (i : ℕ) → at self.now.slots i ≡ Some cell.now → IsIn i freed.now) }
+            (i : ℕ) → at_slot self.now.slots i ≡ Some cell.now → IsIn i freed.now) }
     {
         let _ = &self.slots;
         match self.place_in_star(cell) {
@@ -176,11 +177,12 @@ impl Cells {
         requires order { IsAscending freed.now }
         requires touches { touches ≡ touches_in self.now.place cell.now }
         requires found { found ≡ true → touches_in self.now.place cell.now ≡ true → (i : ℕ) →
-            at self.now.slots i ≡ Some cell.now → ⊥ }
+            at_slot self.now.slots i ≡ Some cell.now → ⊥ }
         requires clear { IfSome p.now (λ p. (q : ℕ) → IsIn q clear.old.items → IsClear self.now p q) }
         ensures clear { OnOk result (IfSome p.now (λ p. (q : ℕ) → IsIn q clear.new.items → IsClear self.now p q)) }
         ensures comes { IfOk result (λ r. MatchBool r ((touches_in self.now.place cell.now ≡ true)
-            × ((i : ℕ) → at self.now.slots i ≡ Some cell.now → IsIn i freed.now)) (touches_in self.now.place cell.now
+            × ((i : ℕ) → at_slot self.now.slots i ≡ Some cell.now → IsIn i freed.now))
+            (touches_in self.now.place cell.now
             ≡ true → StandsYet self.now freed.now cell.now)) }
     {
         if !touches {

@@ -2,7 +2,7 @@
 //! lie across the facets of those before them.
 
 ghost use Rattle.std.specs.Prelude.{◌≡◌, IfSome, Some};
-ghost use Rattle.cell_stars.specs.Places.{at};
+ghost use Rattle.cell_stars.specs.Places.{at_slot};
 
 use crate::joined::{Joined, Side};
 use crate::links::{Links, NONE};
@@ -51,7 +51,7 @@ impl Guesses {
 
     /// Where the next cell stands, if that is across a facet of one that was found.
     pub(crate) fn guess(&self, slots: &[Slot], joined: &Joined, cell: &Cell) -> Option<u32>
-        ensures { IfSome result (λ i. at slots.now i ≡ Some cell.now) }
+        ensures { IfSome result (λ i. at_slot slots.now i ≡ Some cell.now) }
     {
         let sides = joined.before.get(self.places.len())?;
         for side in sides.iter().flatten() {

@@ -5,7 +5,7 @@ ghost use Rattle.std.specs.List.{zip};
 ghost use Rattle.point_order.specs.declared.cell.Cell.{Cell};
 ghost use Rattle.point_order.specs.Facets.{points_of};
 ghost use Rattle.point_order.specs.Sets.{IsIn, IsAscending};
-ghost use Rattle.cell_stars.specs.Places.{at, lies_in, touches_in};
+ghost use Rattle.cell_stars.specs.Places.{lies_in, touches_in, at_slot};
 ghost use Rattle.cell_stars.specs.Plans.{AreFor, IsOnceFor};
 ghost use Rattle.cell_stars.specs.Homes.{AreHomes, AreHomesAt};
 ghost use Rattle.cell_stars.specs.Moves.{IsStarFor, AreFreed, AreNew};
@@ -79,8 +79,8 @@ impl Cells {
 
     // The place of the cell, if it stands at one, by a look through a star.
     pub(crate) fn place_in_star(&self, cell: &Cell) -> Option<u32>
-        ensures { MatchOption result ((i : ℕ) → at self.now.slots i ≡ Some cell.now →
-            touches_in self.now.place cell.now ≡ true → ⊥) (λ i. at self.now.slots i ≡ Some cell.now) }
+        ensures { MatchOption result ((i : ℕ) → at_slot self.now.slots i ≡ Some cell.now →
+            touches_in self.now.place cell.now ≡ true → ⊥) (λ i. at_slot self.now.slots i ≡ Some cell.now) }
     {
         match self.shortest_star(cell) {
             Some(star) => place_among(&self.slots, star, cell),
@@ -98,8 +98,8 @@ impl Cells {
         guesses: &Guesses,
     ) -> Option<u32>
         requires { AreHomesAt matched.now.gone.0 matched.now.gone.1 number cell.now }
-        ensures { MatchOption result ((i : ℕ) → at self.now.slots i ≡ Some cell.now →
-            touches_in self.now.place cell.now ≡ true → ⊥) (λ i. at self.now.slots i ≡ Some cell.now) }
+        ensures { MatchOption result ((i : ℕ) → at_slot self.now.slots i ≡ Some cell.now →
+            touches_in self.now.place cell.now ≡ true → ⊥) (λ i. at_slot self.now.slots i ≡ Some cell.now) }
     {
         if !self.is_touched_by(&matched.gone, number, cell) {
             return None;

@@ -1,7 +1,7 @@
 //! Places with their cells, and beside each cell its links.
 
 ghost use Rattle.std.specs.Prelude.{◌≡◌, None, Some, MatchOption, IsTrue, true, length, ◌≤◌, ◌<◌, ℕ, IfOk};
-ghost use Rattle.cell_stars.specs.Places.{at};
+ghost use Rattle.cell_stars.specs.Places.{at_slot};
 ghost use Rattle.point_order.specs.declared.cell.Cell.{Cell};
 ghost use Rattle.point_order.specs.Sets.{IsIn};
 
@@ -87,7 +87,7 @@ impl Slot {
 
 // The cell at a place, if it is not free.
 pub(crate) fn cell_at(slots: &[Slot], i: u32) -> Option<&Cell>
-    ensures { MatchOption result (at slots.now i ≡ None) (λ c. at slots.now i ≡ Some c.now) }
+    ensures { MatchOption result (at_slot slots.now i ≡ None) (λ c. at_slot slots.now i ≡ Some c.now) }
 {
     match slots.get(i as usize) {
         Some(slot) => slot.cell(),
@@ -97,7 +97,7 @@ pub(crate) fn cell_at(slots: &[Slot], i: u32) -> Option<&Cell>
 
 // Whether the cell stands at the place.
 pub(crate) fn stands_at(slots: &[Slot], i: u32, cell: &Cell) -> bool
-    ensures { IsTrue result → at slots.now i ≡ Some cell.now }
+    ensures { IsTrue result → at_slot slots.now i ≡ Some cell.now }
 {
     match cell_at(slots, i) {
         Some(other) => other.is_same(cell),
@@ -107,7 +107,7 @@ pub(crate) fn stands_at(slots: &[Slot], i: u32, cell: &Cell) -> bool
 
 // Whether no cell stands at the place.
 pub(crate) fn is_open(slots: &[Slot], i: u32) -> bool
-    ensures open { IsTrue result → at slots.now i ≡ None }
+    ensures open { IsTrue result → at_slot slots.now i ≡ None }
     ensures behind { length slots.now ≤ i → result ≡ true }
 {
     match slots.get(i as usize) {
@@ -118,7 +118,8 @@ pub(crate) fn is_open(slots: &[Slot], i: u32) -> bool
 
 // The place of the cell among these, if it stands at one of them.
 pub(crate) fn place_among(slots: &[Slot], star: &[u32], cell: &Cell) -> Option<u32>
-    ensures { MatchOption result ((i : ℕ) → IsIn i star.now → at slots.now i ≡ Some cell.now → ⊥) (λ i. at slots.now i
+    ensures { MatchOption result ((i : ℕ) → IsIn i star.now →
+        at_slot slots.now i ≡ Some cell.now → ⊥) (λ i. at_slot slots.now i
         ≡ Some cell.now) }
 {
     for i in star {

@@ -3,7 +3,7 @@
 ghost use Rattle.std.specs.Prelude.{◌≡◌, None, Some, MatchOption, false};
 ghost use Rattle.std.specs.Ordering.{is_lt};
 ghost use Rattle.point_order.specs.CellOrder.{cell_cmp};
-ghost use Rattle.cell_stars.specs.Places.{is_after, at, IsLeastBehind, HaveNone};
+ghost use Rattle.cell_stars.specs.Places.{is_after, IsLeastBehind, HaveNone, at_slot};
 
 use crate::order::compare;
 use crate::slots::{Slot, cell_at};

@@ -2,9 +2,9 @@
 
 ghost use Rattle.std.specs.Prelude.{◌≡◌, length, ◌*◌, Some};
 ghost use Rattle.std.specs.Option.{option_map};
-ghost use Rattle.cell_stars.specs.Plans.{Allows, AreBelow, or_else, set_all, done};
-ghost use Rattle.cell_stars.specs.Turns.{IsPart, IsTurn, WasPart, WasTurned, kept, stood};
-ghost use Rattle.cell_stars.specs.Places.{at};
+ghost use Rattle.cell_stars.specs.Plans.{Allows, AreBelow, or_else, set_all, after_plan};
+ghost use Rattle.cell_stars.specs.Turns.{IsPart, IsTurn, WasPart, WasTurned, stood, replaced};
+ghost use Rattle.cell_stars.specs.Places.{at_slot};
 
 use crate::cells::Cells;
 use crate::joins::Joint;
@@ -16,7 +16,7 @@ use std::mem::swap;
 fn turn_list<T: Drop>(list: &mut Vec<T>, other: &mut Option<Vec<T>>)
     ensures list { list.new.items ≡ or_else (option_map (λ v. v.items) other.old) list.old.items }
     ensures other { option_map (λ v. v.items) other.new
-        ≡ kept (option_map (λ v. v.items) other.old) list.old.items }
+        ≡ replaced (option_map (λ v. v.items) other.old) list.old.items }
 {
     if let Some(other) = other {
         swap(list, other);
@@ -123,7 +123,7 @@ impl Cells {
     /// Carries a plan out, without memory.
     pub fn carry_out(&mut self, plan: Plan)
         requires { Allows plan self.old }
-        ensures { self.new ≡ done plan self.old }
+        ensures { self.new ≡ after_plan plan self.old }
     {
         let mut plan = plan;
         self.turn(&mut plan);

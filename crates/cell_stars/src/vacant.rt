@@ -2,7 +2,7 @@
 
 ghost use Rattle.std.specs.Prelude.{◌≡◌, ◌⊎◌, ◌≤◌, ◌<◌, ℕ, None, Some, IfOk, OnOk, length};
 ghost use Rattle.point_order.specs.Sets.{IsIn, IsAscending};
-ghost use Rattle.cell_stars.specs.Places.{at};
+ghost use Rattle.cell_stars.specs.Places.{at_slot};
 ghost use Rattle.cell_stars.specs.Moves.{IsVacant};
 
 use crate::numbers::number_behind;
@@ -17,7 +17,8 @@ fn add_open(list: &mut Vec<u32>, slots: &[Slot], count: usize, first: u32) -> Re
     requires few { length list.old.items ≤ count }
     ensures order { OnOk result (IsAscending list.new.items) }
     ensures count { OnOk result (length list.new.items ≡ count) }
-    ensures open { OnOk result ((i : ℕ) → IsIn i list.new.items → IsIn i list.old.items ⊎ (at slots.now i ≡ None)) }
+    ensures open { OnOk result ((i : ℕ) → IsIn i list.new.items →
+        IsIn i list.old.items ⊎ (at_slot slots.now i ≡ None)) }
 {
     let mut next = first;
     while list.len() < count {
@@ -37,7 +38,7 @@ fn likely_places(
     freed: &[u32],
     count: usize,
 ) -> Result<Vec<u32>, AllocError>
-    ensures { IfOk result (λ list. (i : ℕ) → IsIn i list.items → IsIn i freed.now ⊎ (at slots.now i ≡ None)) }
+    ensures { IfOk result (λ list. (i : ℕ) → IsIn i list.items → IsIn i freed.now ⊎ (at_slot slots.now i ≡ None)) }
 {
     let mut list = Vec::with_capacity(alloc, count.max(freed.len()))?;
     list.extend_from_slice(freed)?;

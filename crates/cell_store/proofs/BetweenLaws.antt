@@ -55,7 +55,7 @@ use Rattle.hole_laws.specs.Edits.{IsNew, IsSolidSet}
 use Rattle.hole_laws.specs.Lists.{Goes}
 use Rattle.hole_laws.proofs.Cited.{changes_reached, stays_solid}
 use Rattle.cell_store.specs.Grids.{bucket_of}
-use Rattle.cell_store.specs.Buckets.{BucketContent, InHand, bucket_at, cells_in, points_in}
+use Rattle.cell_store.specs.Buckets.{BucketContent, InHand, bucket_at, cells_in, points_at}
 use Rattle.cell_store.specs.Swaps.{touches, swapped, without_cells}
 use Rattle.cell_store.specs.Shares.{IsSight}
 use Rattle.cell_store.specs.Changes.{dropped_in, put_in, swapped_in, IsChange, IsDropped, IsSwapped, NoneTouches}
@@ -358,13 +358,13 @@ cells_held hold new gone fresh l p e h c i q j =
 
 -- the point is not there before it comes
 pub way_absent : (hold swap : InHand) (s : List ℕ) (gone fresh : List Cell) (p : ℕ) → Enters hold s gone fresh p →
-    IsSwapped gone fresh hold swap → is_among p (points_in swap.places (bucket_of swap.grid p)) ≡ false
+    IsSwapped gone fresh hold swap → is_among p (points_at swap.places (bucket_of swap.grid p)) ≡ false
 way_absent hold swap s gone fresh p en sw =
-    ap (λ g. is_among p (points_in swap.places (bucket_of g p))) sw.grid
+    ap (λ g. is_among p (points_at swap.places (bucket_of g p))) sw.grid
     ∙ ap (is_among p) (same (bucket_of hold.grid p))
     ∙ held_point hold s p en.shown en.held ∙ false_if (is_among p s) (λ t. en.new.absent (among_from p s t))
   where
-    same : (b : ℕ) → points_in swap.places b ≡ points_in hold.places b
+    same : (b : ℕ) → points_at swap.places b ≡ points_at hold.places b
     same b = ap (λ o. option_map_or (λ (x : BucketContent). x.points) o []) (sw.places b) ∙ keeps
         (bucket_at hold.places b)
       where
@@ -375,7 +375,7 @@ way_absent hold swap s gone fresh p en sw =
 
 -- and is there then
 pub way_present : (new : InHand) (gone fresh : List Cell) (p : ℕ) → WasEntered gone fresh p new →
-    is_among p (points_in new.places (bucket_of new.grid p)) ≡ true
+    is_among p (points_at new.places (bucket_of new.grid p)) ≡ true
 way_present new gone fresh p w =
     let t = with_point p w.set in
     held_point new t p (entered_shows w.before new w.set gone fresh p w.enters w.entered)

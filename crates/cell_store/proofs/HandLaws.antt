@@ -33,7 +33,7 @@ use Rattle.list_laws.proofs.Cited.{
 }
 use Rattle.point_order.specs.Sets.{is_among}
 use Rattle.cell_store.specs.Grids.{bucket_of}
-use Rattle.cell_store.specs.Buckets.{BucketContent, InHand, bucket_at, points_in, at_place}
+use Rattle.cell_store.specs.Buckets.{BucketContent, InHand, bucket_at, at_place, points_at}
 use Rattle.cell_store.specs.Shares.{Shows, IsShare, IsSight}
 use Rattle.cell_store.specs.Meshes.{
   EmptyStands,
@@ -158,11 +158,11 @@ take_is_fewer hold b = record {
 -- a bucket in hand has a point exactly where the set has it
 pub held_point : (hold : InHand) (s : List ℕ) (p : ℕ) → Shows hold s →
     IsSome (bucket_at hold.places (bucket_of hold.grid p)) →
-    is_among p (points_in hold.places (bucket_of hold.grid p)) ≡ is_among p s
+    is_among p (points_at hold.places (bucket_of hold.grid p)) ≡ is_among p s
 held_point hold s p sh o =
     let b = bucket_of hold.grid p in
     let c = some_of (bucket_at hold.places b) o in
-    let is : points_in hold.places b ≡ filter (λ q. bucket_of hold.grid q == b) s =
+    let is : points_at hold.places b ≡ filter (λ q. bucket_of hold.grid q == b) s =
     (rw c.1 (sh.sights b c.0 c.1).points) in
     ap (is_among p) is ∙ same_test (is_among p (filter (λ q. bucket_of hold.grid q == b) s)) (is_among p s)
     (λ t. among_true p s (filtered_from (λ q. bucket_of hold.grid q ==

@@ -10,7 +10,7 @@ use Rattle.del_laws.proofs.Cited.{listed_inside, listed_is_cell}
 use Rattle.cell_stars.specs.Places.{AreStars, all_keys, cells_of, lies_in, live}
 use Rattle.cell_stars.proofs.Cited.{in_own, keys_apart, live_at, withs_new}
 use Rattle.cell_store.specs.Grids.{bucket_of}
-use Rattle.cell_store.specs.Buckets.{BucketContent, InHand, Layout, bucket_at, content_of, points_in}
+use Rattle.cell_store.specs.Buckets.{BucketContent, InHand, Layout, bucket_at, content_of, points_at}
 use Rattle.cell_store.specs.Shares.{Shows, ShowsSome}
 use Rattle.cell_store.specs.Swaps.{touches}
 
@@ -35,11 +35,11 @@ vertex_inside hold s b o sh e at stars p m =
 -- there are no more of them than points in the bucket of a point
 pub keys_within : (hold : InHand) (g b p : ℕ) (o : Layout) → ShowsSome hold → g ≡ hold.grid → b ≡ bucket_of g p →
     bucket_at hold.places b ≡ Some (content_of o) → o.cells.place ≡ Some (hold.grid, b) → AreStars o.cells →
-    length (all_keys o.cells.keys) ≤ length (points_in hold.places (bucket_of hold.grid p))
+    length (all_keys o.cells.keys) ≤ length (points_at hold.places (bucket_of hold.grid p))
 keys_within hold g b p o shows e f h at stars =
     let keys = all_keys o.cells.keys in
     let most = at_most (map (λ k. k.0) keys) o.points (keys_apart o.cells.keys stars.order)
     (vertex_inside hold shows.0 b o shows.1 h at stars) in
-    subst (λ (n : ℕ). length keys ≤ length (points_in hold.places n)) (f ∙ ap (λ n. bucket_of n p) e)
+    subst (λ (n : ℕ). length keys ≤ length (points_at hold.places n)) (f ∙ ap (λ n. bucket_of n p) e)
     (subst (λ (c : Option BucketContent). length keys ≤ length (option_map_or (λ c. c.points) c [])) (sym h)
     (subst (λ (n : ℕ). n ≤ length o.points) (length-map keys (λ k. k.0)) most))

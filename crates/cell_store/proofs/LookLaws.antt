@@ -9,7 +9,7 @@ use Rattle.hole_laws.specs.Edits.{IsNew}
 use Rattle.cell_store.specs.Buckets.{InHand}
 use Rattle.cell_store.specs.Between.{Enters, IsEntered, IsLeft, ShowsWhole}
 use Rattle.cell_store.specs.Changes.{IsChange}
-use Rattle.cell_store.specs.Meshes.{IsHoldOf, MeshView, counted, history_in, mesh_in}
+use Rattle.cell_store.specs.Meshes.{IsHoldOf, MeshView, history_in, mesh_in, within_64_bits}
 use Rattle.cell_store.proofs.BetweenLaws.{entered_shows, held_entered, left_is_same}
 use Rattle.cell_store.proofs.MeshLaws.{all_are_held, held_by, roomed, shows_of}
 
@@ -51,10 +51,10 @@ whole_entered mesh hold ready new gone fresh p i g e en t =
 
 -- and is as before after it was left
 pub mesh_left : (hold ready mid new : InHand) (s : List ℕ) (gone fresh : List Cell) (p n : ℕ) →
-    IsHoldOf (mesh_in hold) hold × (n ≡ counted (length (history_in hold.places))) → ready.grid ≡ hold.grid →
+    IsHoldOf (mesh_in hold) hold × (n ≡ within_64_bits (length (history_in hold.places))) → ready.grid ≡ hold.grid →
     ready.places ≡ hold.places → Enters ready s gone fresh p → IsEntered gone fresh p ready mid →
     IsLeft gone fresh p mid new →
-    (mesh_in new ≡ mesh_in hold) × (IsHoldOf (mesh_in new) new × (n ≡ counted (length (history_in new.places))))
+    (mesh_in new ≡ mesh_in hold) × (IsHoldOf (mesh_in new) new × (n ≡ within_64_bits (length (history_in new.places))))
 mesh_left hold ready mid new s gone fresh p n i g e en t l =
     let back = left_is_same ready mid new s gone fresh p en t l in
     let grid = back.0 ∙ g in
@@ -63,6 +63,6 @@ mesh_left hold ready mid new s gone fresh p n i g e en t l =
       same,
       (
         subst (λ (m : MeshView). IsHoldOf m new) (sym same) (roomed (mesh_in hold) hold new grid places i.0),
-        i.1 ∙ ap (λ l. counted (length (history_in l))) (sym places),
+        i.1 ∙ ap (λ l. within_64_bits (length (history_in l))) (sym places),
       ),
     )

@@ -84,7 +84,7 @@ use Rattle.edit_history.proofs.Cited.{merged_order}
 use Rattle.del_laws.specs.Listed.{IsListed}
 use Rattle.del_laws.proofs.Cited.{complex_is_sorted, listed_is_cell, same_members}
 use Rattle.cell_store.specs.Grids.{bucket_of}
-use Rattle.cell_store.specs.Buckets.{BucketContent, InHand, bucket_at, points_in}
+use Rattle.cell_store.specs.Buckets.{BucketContent, InHand, bucket_at, points_at}
 use Rattle.cell_store.specs.Shares.{Stands, IsSound, Shows, entries_share}
 use Rattle.cell_store.specs.Changes.{swapped_in, Follows, IsArrived, IsNext, IsSwapped, IsNoted}
 use Rattle.cell_store.specs.Points.{came, goal_of}
@@ -101,7 +101,6 @@ use Rattle.cell_store.specs.Meshes.{
   by_number,
   history_in,
   mesh_in,
-  counted,
   all_entries,
   all_cells,
   HistoryIs,
@@ -110,6 +109,7 @@ use Rattle.cell_store.specs.Meshes.{
   MeshGathersComplex,
   AllAreHeld,
   MoreAreHeld,
+  within_64_bits,
 }
 use Rattle.cell_stars.proofs.Cited.{bucket_below}
 use Rattle.cell_store.proofs.HandLaws.{fewer_stand, held_point}
@@ -488,10 +488,10 @@ count_next l n count entries k e f =
 -- once all buckets are counted, the count is that of the history
 pub count_is : (hold : InHand) (n count : ℕ) → length hold.places ≤ n →
     count ≡ min (length (flat_map entries_of (take n hold.places))) (2 ^ 64 - 1) →
-    count ≡ counted (length (history_in hold.places))
+    count ≡ within_64_bits (length (history_in hold.places))
 count_is hold n count k e =
     e ∙ ap (λ m. min (length (flat_map entries_of m)) (2 ^ 64 - 1)) (whole hold.places n k)
-    ∙ ap counted (sym (length_permutation (all_entries hold.places) (history_in hold.places)
+    ∙ ap within_64_bits (sym (length_permutation (all_entries hold.places) (history_in hold.places)
     (sorted_moves (all_entries hold.places))))
   where
     whole : {X : Type 0} (l : List X) (n : ℕ) → length l ≤ n → take n l ≡ l
@@ -544,8 +544,8 @@ changed_hold mesh old swap put new gone fresh e i next sw ar nd = record {
 }
 
 -- one more is counted
-pub count_more : (h : List Entry) (e : Entry) (n count : ℕ) → n ≡ counted (length h) →
-    count ≡ min (n + 1) (2 ^ 64 - 1) → count ≡ counted (length (h ++ e ∷ []))
+pub count_more : (h : List Entry) (e : Entry) (n count : ℕ) → n ≡ within_64_bits (length h) →
+    count ≡ min (n + 1) (2 ^ 64 - 1) → count ≡ within_64_bits (length (h ++ e ∷ []))
 count_more h e n count k q = step count n (length h) (length (h ++ e ∷ [])) q k (length-append h (e ∷ []))
   where
     step : (c n a b : ℕ) → c ≡ min (n + 1) (2 ^ 64 - 1) → n ≡ min a (2 ^ 64 - 1) → b ≡ a + 1 → c ≡ min b (2 ^ 64 - 1)
@@ -559,11 +559,12 @@ mesh_sound hold mesh v i = subst (λ (m : MeshView). IsSound m.history) v
 
 -- what the change of a mesh makes of its hold and of its count: the mesh with the entry
 pub mesh_changed : (old ready swap put new : InHand) (mesh : MeshView) (gone fresh : List Cell) (e : Entry)
-    (n count : ℕ) → mesh_in old ≡ mesh → IsHoldOf (mesh_in old) old × (n ≡ counted (length (history_in old.places))) →
+    (n count : ℕ) → mesh_in old ≡ mesh →
+    IsHoldOf (mesh_in old) old × (n ≡ within_64_bits (length (history_in old.places))) →
     HasKeys e.edit → Follows mesh.history e gone fresh → ready.grid ≡ old.grid → ready.places ≡ old.places →
     IsSwapped gone fresh ready swap → IsArrived e swap put → IsNoted e put new → count ≡ min (n + 1) (2 ^ 64 - 1)
     → (mesh_in new ≡ record mesh { history = mesh.history ++ e ∷ [] })
-    × (IsHoldOf (mesh_in new) new × (count ≡ counted (length (history_in new.places))))
+    × (IsHoldOf (mesh_in new) new × (count ≡ within_64_bits (length (history_in new.places))))
 mesh_changed old ready swap put new mesh gone fresh e n count v i keys follows g p sw ar nd q =
     let own = subst (λ m. IsHoldOf m old) v i.0 in
     let next = next_entry mesh.history e gone fresh (mesh_sound old mesh v i.0) keys follows in
@@ -573,8 +574,8 @@ mesh_changed old ready swap put new mesh gone fresh e n count v i keys follows g
       w,
       (
         subst (λ m. IsHoldOf m new) (sym w) k,
-        count_more mesh.history e n count (i.1 ∙ ap (λ l. counted (length l)) h) q
-            ∙ ap (λ (m : MeshView). counted (length m.history)) (sym w),
+        count_more mesh.history e n count (i.1 ∙ ap (λ l. within_64_bits (length l)) h) q
+            ∙ ap (λ (m : MeshView). within_64_bits (length m.history)) (sym w),
       ),
     )
 
@@ -588,10 +589,10 @@ goal_free hold ready swap s gone fresh e shows held right g p sw room =
     if_some (λ q. (is_among q s ≡ false) × (goal_of e.edit ≡ Some q)) (CanCome swap) (came e.edit e.reply) each
     (came_free s e.edit e.reply right)
   where
-    same : (b : ℕ) → points_in swap.places b ≡ points_in hold.places b
+    same : (b : ℕ) → points_at swap.places b ≡ points_at hold.places b
     same b =
         ap (λ o. option_map_or (λ (x : BucketContent). x.points) o []) (sw.places b)
-        ∙ keeps (bucket_at ready.places b) ∙ ap (λ l. points_in l b) p
+        ∙ keeps (bucket_at ready.places b) ∙ ap (λ l. points_at l b) p
       where
         keeps : (o : Option BucketContent) →
             option_map_or (λ (x : BucketContent). x.points) (option_map (swapped_in ready.grid b gone fresh) o) []
@@ -603,7 +604,7 @@ goal_free hold ready swap s gone fresh e shows held right g p sw room =
     each q k = record {
       room = room ∙ k.1;
       absent =
-          ap (λ n. is_among q (points_in swap.places (bucket_of n q))) (sw.grid ∙ g)
+          ap (λ n. is_among q (points_at swap.places (bucket_of n q))) (sw.grid ∙ g)
           ∙ ap (is_among q) (same (bucket_of hold.grid q))
           ∙ held_point hold s q shows (held q k.1) ∙ k.0;
     }

@@ -67,9 +67,9 @@ use Rattle.cell_store.specs.Buckets.{
   bucket_at,
   content_of,
   layout_at,
-  points_in,
   shown,
   StandAtPlaces,
+  points_at,
 }
 use Rattle.cell_store.specs.declared.room.PlanFor.{PlanFor}
 use Rattle.cell_store.specs.Changes.{dropped_in, noted_in, put_in, IsDropped, IsNoted, IsPut}
@@ -470,27 +470,27 @@ named (Some q) p e = one_value q p e
 
 -- the bucket of a point that can come, and of one that can go
 pub point_room : (g b p : ℕ) (places : List (Option Layout)) (x : Option Layout) → IsPointReady g places p →
-    b ≡ bucket_of g p → is_among p (points_in (shown places) b) ≡ false → layout_at places b ≡ x →
+    b ≡ bucket_of g p → is_among p (points_at (shown places) b) ≡ false → layout_at places b ≡ x →
     IsSomeAnd x (λ c. 0 < c.room_points)
 point_room g b p places x ready e absent w = by x
     (subst (λ o. IsSomeAnd o (HasPlaceFor p)) (ap (layout_at places) (sym e) ∙ w) ready)
     (ap (λ o. option_map_or (λ (c : BucketContent). c.points) o []) (shown_at places b ∙ ap (option_map content_of) w))
   where
     by : (o : Option Layout) → IsSomeAnd o (HasPlaceFor p) →
-        points_in (shown places) b ≡ option_map_or (λ (c : BucketContent). c.points) (option_map content_of o) [] →
+        points_at (shown places) b ≡ option_map_or (λ (c : BucketContent). c.points) (option_map content_of o) [] →
         IsSomeAnd o (λ c. 0 < c.room_points)
     by None h q = h
     by (Some c) h q = (let x = h.absent (ap (is_among p) (sym q) ∙ absent) in omega arith)
 
 -- a point is in a bucket exactly where what the bucket shows has it
 pub point_is : (b p : ℕ) (t : Bool) (places : List (Option Layout)) (c : Layout) →
-    is_among p (points_in (shown places) b) ≡ t → layout_at places b ≡ Some c → is_among p c.points ≡ t
+    is_among p (points_at (shown places) b) ≡ t → layout_at places b ≡ Some c → is_among p c.points ≡ t
 point_is b p t places c e w = ap (λ o. is_among p (option_map_or (λ (x : BucketContent). x.points) o []))
     (sym (shown_at places b ∙ ap (option_map content_of) w)) ∙ e
 
 -- so one that is shown in the hold is in its bucket
 pub point_there : (b p : ℕ) (places : List (Option Layout)) (x : Option Layout) →
-    is_among p (points_in (shown places) b) ≡ true → layout_at places b ≡ x →
+    is_among p (points_at (shown places) b) ≡ true → layout_at places b ≡ x →
     IsSomeAnd x (λ c. is_among p c.points ≡ true)
 point_there b p places None e w = (let u : is_among p [] ≡ true =
     ap (λ o. is_among p (option_map_or (λ (x : BucketContent). x.points) o []))

@@ -93,7 +93,7 @@ use Rattle.cell_store.specs.Ready.{
   IsTurned,
   IsTurnedIn,
   NoneIsFor,
-  numbers_of,
+  buckets_of_cells,
 }
 use Rattle.cell_store.specs.declared.room.PlanFor.{PlanFor}
 use Rattle.cell_store.proofs.Layouts.{shown_at, shown_is, shown_some}
@@ -104,11 +104,13 @@ use Rattle.cell_stars.proofs.Cited.{swapped_none, turn_is_one, turn_leads_back}
 
 -- the number of the bucket of a cell's point is among those that are touched
 in_numbers : (g : ℕ) (cells : List Cell) (c : Cell) (p : ℕ) → IsIn c cells → IsIn p (points_of c) →
-    IsIn (bucket_of g p) (numbers_of g cells)
+    IsIn (bucket_of g p) (buckets_of_cells g cells)
 in_numbers g [] c p i j = absurd i
-in_numbers g (d ∷ cells) c p (inl e) j = in_left (bucket_of g p) (map (bucket_of g) (points_of d)) (numbers_of g cells)
+in_numbers g (d ∷ cells) c p (inl e) j = in_left (bucket_of g p) (map (bucket_of g) (points_of d))
+    (buckets_of_cells g cells)
     (mapped_true (bucket_of g) p (points_of d) (subst (λ (x : Cell). IsIn p (points_of x)) (sym e) j))
-in_numbers g (d ∷ cells) c p (inr i) j = in_right (bucket_of g p) (map (bucket_of g) (points_of d)) (numbers_of g cells)
+in_numbers g (d ∷ cells) c p (inr i) j = in_right (bucket_of g p) (map (bucket_of g) (points_of d))
+    (buckets_of_cells g cells)
     (in_numbers g cells c p i j)
 
 -- a vertex in the bucket
@@ -120,9 +122,9 @@ record HasVertex (g b : ℕ) (cells : List Cell) : Type 0 where
   pub number : bucket_of g point ≡ b
 
 -- each of these is that of a bucket with a vertex in it
-numbers_from : (g b : ℕ) (cells : List Cell) → IsIn b (numbers_of g cells) → HasVertex g b cells
+numbers_from : (g b : ℕ) (cells : List Cell) → IsIn b (buckets_of_cells g cells) → HasVertex g b cells
 numbers_from g b [] i = absurd i
-numbers_from g b (c ∷ cells) i = elim (from_append b (map (bucket_of g) (points_of c)) (numbers_of g cells) i) [
+numbers_from g b (c ∷ cells) i = elim (from_append b (map (bucket_of g) (points_of c)) (buckets_of_cells g cells) i) [
   | inl j ↦ (let r = mapped_from (bucket_of g) b (points_of c) j in
       record { cell = c; listed = inl refl; point = r.0; vertex = r.1; number = r.2 })
   | inr j ↦ (let r = numbers_from g b cells j in
@@ -131,7 +133,7 @@ numbers_from g b (c ∷ cells) i = elim (from_append b (map (bucket_of g) (point
 
 -- the buckets of held cells are in hand
 pub held_in_hand : (hold : InHand) (g : ℕ) (places : List (Option Layout)) (cells : List Cell) → g ≡ hold.grid →
-    shown places ≡ hold.places → AreHeld hold cells → AreInHand places (numbers_of g cells)
+    shown places ≡ hold.places → AreHeld hold cells → AreInHand places (buckets_of_cells g cells)
 held_in_hand hold g places cells eg ep h b i =
     let r = numbers_from g b cells i in
     sym (shown_some places b) ∙ subst (λ l. IsSome (bucket_at l b)) (sym ep)
@@ -147,11 +149,11 @@ held_there hold g p places eg ep h =
     (subst (λ n. IsSome (bucket_at hold.places (bucket_of n p))) (sym eg) h)
 
 -- a bucket whose number is not among them is not touched
-pub not_touched : (g b : ℕ) (cells : List Cell) → (IsIn b (numbers_of g cells) → ⊥) → NoneTouches g b cells
+pub not_touched : (g b : ℕ) (cells : List Cell) → (IsIn b (buckets_of_cells g cells) → ⊥) → NoneTouches g b cells
 not_touched g b cells n c i = any_none (λ p. bucket_of g p == b) (points_of c) (λ p j. by p (bucket_of g p == b) refl j)
   where
     by : (p : ℕ) (t : Bool) → (bucket_of g p == b) ≡ t → IsIn p (points_of c) → (bucket_of g p == b) ≡ false
-    by p true e j = absurd (n (subst (λ m. IsIn m (numbers_of g cells)) (same_from (bucket_of g p) b e)
+    by p true e j = absurd (n (subst (λ m. IsIn m (buckets_of_cells g cells)) (same_from (bucket_of g p) b e)
         (in_numbers g cells c p i j)))
     by p false e j = e
 
@@ -171,15 +173,16 @@ numbers_are g points none list sorted deduped e s p d n =
 
 -- those of the vertices of an exchange are those of its cells
 pub vertex_numbers : (g : ℕ) (gone fresh : List Cell) (vertices : List ℕ) → AreVertices gone fresh vertices →
-    (n : ℕ) → (IsIn n (map (bucket_of g) vertices) → IsIn n (numbers_of g gone) ⊎ IsIn n (numbers_of g fresh))
-    × (IsIn n (numbers_of g gone) ⊎ IsIn n (numbers_of g fresh) → IsIn n (map (bucket_of g) vertices))
+    (n : ℕ) → (IsIn n (map (bucket_of g) vertices) →
+    IsIn n (buckets_of_cells g gone) ⊎ IsIn n (buckets_of_cells g fresh))
+    × (IsIn n (buckets_of_cells g gone) ⊎ IsIn n (buckets_of_cells g fresh) → IsIn n (map (bucket_of g) vertices))
 vertex_numbers g gone fresh vertices v n = (
   λ i.
       let r = mapped_from (bucket_of g) n vertices i in
       let x = v.each r.0 r.1 in
       elim x.1 [
-        | inl j ↦ inl (subst (λ m. IsIn m (numbers_of g gone)) r.2 (in_numbers g gone x.0 r.0 j x.2))
-        | inr j ↦ inr (subst (λ m. IsIn m (numbers_of g fresh)) r.2 (in_numbers g fresh x.0 r.0 j x.2))
+        | inl j ↦ inl (subst (λ m. IsIn m (buckets_of_cells g gone)) r.2 (in_numbers g gone x.0 r.0 j x.2))
+        | inr j ↦ inr (subst (λ m. IsIn m (buckets_of_cells g fresh)) r.2 (in_numbers g fresh x.0 r.0 j x.2))
       ],
   λ i. elim i [
     | inl j ↦ (let r = numbers_from g n gone j in
@@ -656,7 +659,7 @@ apart_from (l ∷ plans) a = (
 pub ready_all : (g : ℕ) (gone fresh : List Cell) (places : List (Option Layout)) (plans : List PlanFor)
     (numbers : List ℕ) → ((k : PlanFor) → IsIn k plans → IsReadyFor false gone fresh places k) →
     map (λ l. l.number) plans ≡ numbers → IsAscending numbers →
-    ((b : ℕ) → (IsIn b (numbers_of g gone) ⊎ IsIn b (numbers_of g fresh)) → IsIn b numbers) →
+    ((b : ℕ) → (IsIn b (buckets_of_cells g gone) ⊎ IsIn b (buckets_of_cells g fresh)) → IsIn b numbers) →
     ArePlansReady false g gone fresh places plans
 ready_all g gone fresh places plans numbers f e a all = record {
   each = f;

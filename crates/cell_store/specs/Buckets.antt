@@ -96,8 +96,8 @@ abbrev pub bucket_at : List (Option BucketContent) → ℕ → Option BucketCont
 bucket_at places b = slice_index_or places b None
 
 -- the points of the bucket with a number, none where it is not in hand
-abbrev pub points_in : List (Option BucketContent) → ℕ → List ℕ
-points_in places b = option_map_or (λ c. c.points) (bucket_at places b) []
+abbrev pub points_at : List (Option BucketContent) → ℕ → List ℕ
+points_at places b = option_map_or (λ c. c.points) (bucket_at places b) []
 
 -- and its cells
 abbrev pub cells_in : List (Option BucketContent) → ℕ → List Cell

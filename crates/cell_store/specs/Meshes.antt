@@ -88,8 +88,8 @@ abbrev pub mesh_in : InHand → MeshView
 mesh_in hold = record { grid = hold.grid; history = history_in hold.places }
 
 -- how far 64 bits can count it
-abbrev pub counted : ℕ → ℕ
-counted n = min n (2 ^ 64 - 1)
+abbrev pub within_64_bits : ℕ → ℕ
+within_64_bits n = min n (2 ^ 64 - 1)
 
 -- the cells of all buckets in hand, those of bucket 0 first
 abbrev pub all_cells : List (Option BucketContent) → List Cell

@@ -33,7 +33,7 @@ use Rattle.cell_stars.specs.Places.{Placed, cells_of}
 use Rattle.cell_stars.specs.Plans.{PlanView, Allows, MakesExchange}
 use Rattle.cell_stars.specs.Turns.{AreReady, IsTurn, IsWayBack, WasTurned}
 use Rattle.cell_store.specs.Swaps.{touches, swapped}
-use Rattle.cell_store.specs.Buckets.{Layout, InHand, bucket_at, cells_in, content_of, layout_at, points_in}
+use Rattle.cell_store.specs.Buckets.{Layout, InHand, bucket_at, cells_in, content_of, layout_at, points_at}
 use Rattle.cell_store.specs.Changes.{IsChange, NoneTouches}
 use Rattle.cell_store.specs.Shares.{Shows}
 use Rattle.point_order.specs.Complex.{complex}
@@ -146,8 +146,8 @@ abbrev pub AreInHand : List (Option Layout) → List ℕ → Type 0
 AreInHand places numbers = (b : ℕ) → IsIn b numbers → IsSome (layout_at places b)
 
 -- the numbers of the buckets of all finite vertices of the cells
-abbrev pub numbers_of : ℕ → List Cell → List ℕ
-numbers_of g cells = flat_map (λ c. map (bucket_of g) (points_of c)) cells
+abbrev pub buckets_of_cells : ℕ → List Cell → List ℕ
+buckets_of_cells g cells = flat_map (λ c. map (bucket_of g) (points_of c)) cells
 
 -- the number of the bucket of the point
 abbrev pub IsBucketOf : ℕ → ℕ → ℕ → Type 0
@@ -161,7 +161,7 @@ AreHeld hold l =
 -- the point can come: there is room for it, and it is not there
 pub record CanCome (hold : InHand) (p : ℕ) : Type 0 where
   pub room : hold.room.point ≡ Some p
-  pub absent : is_among p (points_in hold.places (bucket_of hold.grid p)) ≡ false
+  pub absent : is_among p (points_at hold.places (bucket_of hold.grid p)) ≡ false
 
 -- there is room for one entry in the bucket
 pub record HasRoom (c : Layout) : Type 0 where

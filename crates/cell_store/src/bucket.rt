@@ -37,7 +37,7 @@ ghost use Rattle.cell_store.specs.Shares.{points_on};
 ghost use Rattle.cell_store.specs.Stars.{cells_around, cells_left, cells_to_come};
 
 use crate::note::{add_entry, change_points, put_in, take_out};
-use crate::star::{Other, is_on, other_among};
+use crate::star::{Other, other_among};
 use cell_stars::{BucketCells, Cells, Grid, Matched, Plan, Star, StarCells, Steps};
 use edit_history::Entry;
 use point_order::{Cell, Facet, Point};
@@ -169,7 +169,7 @@ impl Bucket {
         ensures { IfSome result (λ c. IsOtherOf (content_of self.now).cells cell.now facet.now c.now) }
     {
         if let Some(other) = self.cells.cell(place) {
-            if is_on(other, facet) && !other.is_same(cell) {
+            if other.is_on(facet) && !other.is_same(cell) {
                 return Some(other);
             }
         }

@@ -5,7 +5,7 @@ ghost use Rattle.point_order.specs.Sets.{is_among};
 ghost use Rattle.point_order.specs.declared.cell.Cell.{Cell};
 ghost use Rattle.edit_history.specs.Edits.{edit_points, point_of};
 ghost use Rattle.cell_store.specs.Grids.{bucket_of as number_of};
-ghost use Rattle.cell_store.specs.Buckets.{room_both, room_for, swap_after, bucket_at, points_in};
+ghost use Rattle.cell_store.specs.Buckets.{room_both, room_for, swap_after, bucket_at, points_at};
 ghost use Rattle.cell_store.specs.Changes.{IsArrived, IsDropped, IsNoted, IsPut, IsSwapped};
 ghost use Rattle.cell_store.specs.Missing.{ArePointsHeld};
 ghost use Rattle.cell_store.specs.Between.{Enters, HasWay, IsEntered, IsLeft, WasEntered};
@@ -168,7 +168,7 @@ impl Hold {
     /// memory.
     pub fn put_point(&mut self, p: Point)
         requires room { self.old.room.point ≡ Some p }
-        requires absent { is_among p (points_in self.old.places (number_of self.old.grid p)) ≡ false }
+        requires absent { is_among p (points_at self.old.places (number_of self.old.grid p)) ≡ false }
         ensures put { IsPut p self.old self.new }
         ensures room { self.new.room ≡ self.old.room }
     {
@@ -179,7 +179,7 @@ impl Hold {
     /// Takes the point out of its bucket, where it is there. There is to be room for it to come and go.
     pub fn drop_point(&mut self, p: Point)
         requires room { self.old.room.point ≡ Some p }
-        requires present { is_among p (points_in self.old.places (number_of self.old.grid p)) ≡ true }
+        requires present { is_among p (points_at self.old.places (number_of self.old.grid p)) ≡ true }
         ensures dropped { IsDropped p self.old self.new }
         ensures room { self.new.room ≡ self.old.room }
     {

@@ -33,12 +33,12 @@ ghost use Rattle.cell_store.specs.Buckets.{
   no_room,
   empty_hold,
   bucket_at,
-  points_in,
   cells_in,
   at_place,
   content_of,
   FitsPlace,
   StandAtPlaces,
+  points_at,
 };
 ghost use Rattle.cell_store.specs.Shares.{Shows, ShowsSome, ShowsWith, NoneInHand, IsInHandFor, IsAcross, points_on};
 ghost use Rattle.cell_store.specs.Spots.{IsAcrossIn, SpotGives};
@@ -180,7 +180,7 @@ impl Hold {
     /// It is exactly where it is one of the points of the set, for every set that the hold shows.
     pub fn holds_point(&self, p: Point) -> bool
         requires { IsSome (bucket_at self.now.places (number_of self.now.grid p)) }
-        ensures in_bucket { result ≡ is_among p (points_in self.now.places (number_of self.now.grid p)) }
+        ensures in_bucket { result ≡ is_among p (points_at self.now.places (number_of self.now.grid p)) }
         ensures in_set { (s : List ℕ) → Shows self.now s → result ≡ is_among p s }
     {
         let b = self.grid().bucket_of(p);
@@ -225,7 +225,7 @@ impl Hold {
             ≡ filter (λ c. is_among p (points_of c)) (complex s) }
         ensures rises { steps.old ≤ steps.new }
         ensures cost { 2 ^ (steps.new - steps.old) ≤ 2 * length
-            (points_in self.now.places (number_of self.now.grid p)) + 1 }
+            (points_at self.now.places (number_of self.now.grid p)) + 1 }
     {
         let b = self.grid().bucket_of(p);
         self.bucket(b).star_counted(p, steps)

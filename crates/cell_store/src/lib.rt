@@ -39,4 +39,4 @@ pub use cell_stars::{BadGrid, BucketCells, Grid, Star, StarCells, Steps};
 pub use hold::Hold;
 pub use mesh::Mesh;
 pub use spot::{Spot, SpotAcross};
-pub use star::{Across, is_on};
+pub use star::Across;

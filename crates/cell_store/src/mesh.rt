@@ -11,7 +11,15 @@ ghost use Rattle.cell_store.specs.Grids.{is_grid_size};
 ghost use Rattle.cell_store.specs.Buckets.{InHand, content_of};
 ghost use Rattle.cell_store.specs.Shares.{IsSound, share_at};
 ghost use Rattle.cell_store.specs.Changes.{Follows, IsChange};
-ghost use Rattle.cell_store.specs.Meshes.{AllInHand, HasPlaces, IsHoldOf, StandsForSome, counted, history_in, mesh_in};
+ghost use Rattle.cell_store.specs.Meshes.{
+  AllInHand,
+  HasPlaces,
+  IsHoldOf,
+  StandsForSome,
+  history_in,
+  mesh_in,
+  within_64_bits,
+};
 
 use crate::bucket::Bucket;
 use crate::hold::Hold;
@@ -33,14 +41,14 @@ pub struct Mesh {
 
 impl Model for Mesh {
     ghost use Rattle.std.specs.Prelude.{◌≡◌, ◌*◌, length};
-    ghost use Rattle.cell_store.specs.Meshes.{MeshView, IsHoldOf, counted, history_in, mesh_in};
+    ghost use Rattle.cell_store.specs.Meshes.{MeshView, IsHoldOf, history_in, mesh_in, within_64_bits};
 
     ghost Value = { MeshView };
 
     ghost view = { λ m. mesh_in m.hold };
 
     ghost invariant = { λ m. IsHoldOf (mesh_in m.hold) m.hold
-        × (m.count ≡ counted (length (history_in m.hold.places))) };
+        × (m.count ≡ within_64_bits (length (history_in m.hold.places))) };
 }
 
 impl Mesh {
@@ -77,7 +85,7 @@ impl Mesh {
     /// How many entries there are so far. Where they are more than 64 bits can count, it is the greatest number of 64
     /// bits.
     pub fn count(&self) -> u64
-        ensures count { result ≡ counted (length self.now.history) }
+        ensures count { result ≡ within_64_bits (length self.now.history) }
         ensures sound { IsSound self.now.history }
     {
         self.count
@@ -155,7 +163,7 @@ impl Hold {
     // How many entries all buckets have together, which are all to be in hand.
     pub(crate) fn count_entries(&self) -> u64
         requires { AllInHand self.now }
-        ensures count { result ≡ counted (length (history_in self.now.places)) }
+        ensures count { result ≡ within_64_bits (length (history_in self.now.places)) }
         ensures has { HasPlaces self.now }
     {
         let mut count: u64 = 0;

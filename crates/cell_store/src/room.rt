@@ -47,7 +47,7 @@ ghost use Rattle.cell_store.specs.Ready.{
   ArePlansReady,
   IsReadyFor,
   IsTurnedIn,
-  numbers_of,
+  buckets_of_cells,
 };
 ghost use Rattle.cell_store.specs.declared.room.PlanFor.{PlanFor};
 
@@ -160,8 +160,8 @@ fn plans_for(
     fresh: &[Cell],
     found: bool,
 ) -> Result<Vec<PlanFor>, AllocError>
-    requires gone { AreInHand places.now (numbers_of grid gone.now) }
-    requires fresh { AreInHand places.now (numbers_of grid fresh.now) }
+    requires gone { AreInHand places.now (buckets_of_cells grid gone.now) }
+    requires fresh { AreInHand places.now (buckets_of_cells grid fresh.now) }
     requires found { found ≡ true → AreFound gone.now fresh.now places.now }
     ensures { IfOk result (λ plans. ArePlansReady false grid gone.now fresh.now places.now plans.items) }
 {
@@ -184,8 +184,8 @@ impl Exchange {
         fresh: &[Cell],
         found: bool,
     ) -> Result<Exchange, AllocError>
-        requires gone { AreInHand places.now (numbers_of grid gone.now) }
-        requires fresh { AreInHand places.now (numbers_of grid fresh.now) }
+        requires gone { AreInHand places.now (buckets_of_cells grid gone.now) }
+        requires fresh { AreInHand places.now (buckets_of_cells grid fresh.now) }
         requires found { found ≡ true → AreFound gone.now fresh.now places.now }
         ensures gone { IfOk result (λ e. e.gone.items ≡ gone.now) }
         ensures fresh { IfOk result (λ e. e.fresh.items ≡ fresh.now) }

@@ -3,7 +3,7 @@
 ghost use Rattle.std.specs.Prelude.{◌≡◌, ◌&&◌, ◌||◌, ℕ, List, [], IsSome, IfSome, pos};
 ghost use Rattle.point_order.specs.Conflicts.{are_opposite as lie_opposite};
 ghost use Rattle.cell_store.specs.Shares.{Shows, ShowsSome};
-ghost use Rattle.cell_store.specs.Buckets.{bucket_at, points_in};
+ghost use Rattle.cell_store.specs.Buckets.{bucket_at, points_at};
 ghost use Rattle.cell_walk.specs.Paths.{ShowsWalk, IsWalkIn, WalksFor, facet_towards as towards};
 ghost use Rattle.cell_walk.specs.Turns.{StartGives, WalkGives};
 
@@ -120,7 +120,7 @@ impl Walk {
         requires { IsSome (bucket_at hold.now.places b) }
         ensures point { IfSome result (λ w. w.point ≡ p) }
         ensures walks { IfSome result (WalksFor hold.now p) }
-        ensures some { ShowsSome hold.now → (points_in hold.now.places b ≡ [] → ⊥) → IsSome result }
+        ensures some { ShowsSome hold.now → (points_at hold.now.places b ≡ [] → ⊥) → IsSome result }
     {
         let q = near_point(hold.bucket(b).points(), p)?;
         if !hold.has(hold.grid().bucket_of(q)) {

@@ -31,19 +31,19 @@ use Rattle.list_laws.proofs.Cited.{some_of, zero_at}
 use Rattle.edit_history.specs.declared.history.Entry.{Entry}
 use Rattle.cell_store.specs.Buckets.{BucketContent, InHand, bucket_at, StandAtPlaces}
 use Rattle.cell_store.specs.Shares.{share_at}
-use Rattle.cell_store.specs.Meshes.{MeshView, IsHoldOf, counted}
+use Rattle.cell_store.specs.Meshes.{MeshView, IsHoldOf, within_64_bits}
 use Rattle.cell_store.proofs.Cited.{share_is_one}
 use Rattle.claim_rule.specs.declared.board.Seat.{Seat}
 use Rattle.claim_rule.specs.Boards.{View}
 use Rattle.claim_rule.specs.Good.{Good}
 use Rattle.claim_rule.specs.Opening.{shares_from, opening_board}
-use Rattle.claim_rule.specs.Kept.{homes_of, held_by, view_of, views_of, kept}
+use Rattle.claim_rule.specs.Kept.{homes_of, held_by, view_of, views_of, kept_board}
 use Rattle.claim_rule.proofs.OneHistory.{shares_count, all_shares}
 use Rattle.claim_rule.proofs.Opening.{opening_is_good}
 use Rattle.claim_rule.proofs.Seats.{held_none}
 
 -- a count of a list that is short enough is its length
-pub as_counted : (n l a : ℕ) → n ≡ counted l → l + a ≤ 2 ^ 32 → n ≡ l
+pub as_counted : (n l a : ℕ) → n ≡ within_64_bits l → l + a ≤ 2 ^ 32 → n ≡ l
 as_counted n l a e h = omega arith
 
 -- with all words 0, all contents are at home
@@ -86,7 +86,7 @@ pub begun_is : (mesh : MeshView) (hold : InHand) (parts allowance ticket : ℕ) 
     words ≡ replicate (mesh.grid * mesh.grid * mesh.grid) 0 → seats
     ≡ Some (record { first = 0; parts = parts; left = allowance; seen = ticket; since = ticket })
     ∷ replicate (parts - 1) None →
-    kept hold.grid parts (ticket + allowance) mesh.history ticket words hold.places seats
+    kept_board hold.grid parts (ticket + allowance) mesh.history ticket words hold.places seats
     ≡ opening_board mesh.grid parts allowance mesh.history
 begun_is mesh hold parts allowance ticket words seats i placed t w s =
     let g : ℕ = mesh.grid in
@@ -116,7 +116,7 @@ begun_is mesh hold parts allowance ticket words seats i placed t w s =
       held = replicate n None;
     }) ∷ replicate (parts - 1) None =
     λ k. Some (view k) ∷ all_none (view_of zeros homes) (parts - 1) k in
-    (λ k. kept (i.grid k) parts (t k + allowance) h (t k) (w k) (at k) (s k))
+    (λ k. kept_board (i.grid k) parts (t k + allowance) h (t k) (w k) (at k) (s k))
     ∙ (λ k. record {
       grid = g;
       parts = parts;

@@ -53,7 +53,7 @@ use Rattle.cell_store.specs.Touches.{HoldTouched}
 use Rattle.claim_rule.specs.Boards.{BoardState, left_in, view_at}
 use Rattle.claim_rule.specs.Good.{IsGood, Good}
 use Rattle.claim_rule.specs.Events.{Next, CanCommit, entry_after}
-use Rattle.claim_rule.specs.Kept.{held_by, view_of, kept}
+use Rattle.claim_rule.specs.Kept.{held_by, view_of, kept_board}
 use Rattle.claim_rule.specs.Trials.{NamesPass, IsOnSome, IsTrialOf}
 use Rattle.claim_rule.proofs.Nexts.{next_of}
 use Rattle.claim_rule.proofs.Kept.{if_so, whose_length, whose_at}
@@ -131,11 +131,11 @@ held_touched g n s edit t words places trial touched =
 pub commit_facts : (g parts most : ℕ) (opening : List Entry) (ticket : ℕ) (words : List ℕ)
     (places : List (Option BucketContent)) (seats : List (Option Seat)) (h : List Entry) (n : ℕ) (seat : Seat)
     (edit : Edit) →
-    IsGood (kept g parts most opening ticket words places seats) h → slice_index_or seats n None ≡ Some seat →
-    CanCommit h (kept g parts most opening ticket words places seats) n edit →
+    IsGood (kept_board g parts most opening ticket words places seats) h → slice_index_or seats n None ≡ Some seat →
+    CanCommit h (kept_board g parts most opening ticket words places seats) n edit →
     (0 < seat.left) × HoldTouched g (replay h) edit (held_by n words places)
 commit_facts g parts most opening ticket words places seats h n seat edit good live can =
-    let s : BoardState = kept g parts most opening ticket words places seats in
+    let s : BoardState = kept_board g parts most opening ticket words places seats in
     let v = some_and (view_at s n) _ can in
     let same : v.0 ≡ view_of words places seat =
     one_value v.0 (view_of words places seat) (sym v.1 ∙ live_view words places seats n seat live) in
@@ -152,11 +152,11 @@ commit_facts g parts most opening ticket words places seats h n seat edit good l
 pub none_commits :
     (g parts most : ℕ) (opening : List Entry) (ticket : ℕ) (words : List ℕ) (places : List (Option BucketContent))
     (seats : List (Option Seat)) (h : List Entry) (n : ℕ) (edit : Edit) →
-    IsGood (kept g parts most opening ticket words places seats) h →
+    IsGood (kept_board g parts most opening ticket words places seats) h →
     (IsSomeAnd (slice_index_or seats n None) (λ x. 0 < x.left) → ⊥) →
-    CanCommit h (kept g parts most opening ticket words places seats) n edit → ⊥
+    CanCommit h (kept_board g parts most opening ticket words places seats) n edit → ⊥
 none_commits g parts most opening ticket words places seats h n edit good none can =
-    let v = some_and (view_at (kept g parts most opening ticket words places seats) n) _ can in
+    let v = some_and (view_at (kept_board g parts most opening ticket words places seats) n) _ can in
     let t = some_of (slice_index_or seats n None) (from_view words places seats n v.0 v.1) in
     none (to_some (λ (x : Seat). 0 < x.left) _ t.0 t.1
     (commit_facts g parts most opening ticket words places seats h n t.0 edit good t.1 can).0)
@@ -172,10 +172,10 @@ short_answer h s t after n tag edit same stays cannot =
 pub same_board :
     (old new : InHand) (parts most : ℕ) (opening : List Entry) (ticket : ℕ) (words : List ℕ)
     (seats : List (Option Seat)) → new ≡ old →
-    kept old.grid parts most opening ticket words old.places seats
-    ≡ kept new.grid parts most opening ticket words new.places seats
+    kept_board old.grid parts most opening ticket words old.places seats
+    ≡ kept_board new.grid parts most opening ticket words new.places seats
 same_board old new parts most opening ticket words seats e =
-    ap (λ (x : InHand). kept x.grid parts most opening ticket words x.places seats) (sym e)
+    ap (λ (x : InHand). kept_board x.grid parts most opening ticket words x.places seats) (sym e)
 
 -- ---- the change
 
@@ -190,25 +190,27 @@ next_fits ticket few = omega arith
 -- so it is with the ticket of a good board
 pub few_so_far :
     (g parts most : ℕ) (opening : List Entry) (ticket : ℕ) (words : List ℕ) (places : List (Option BucketContent))
-    (seats : List (Option Seat)) (h : List Entry) → IsGood (kept g parts most opening ticket words places seats) h →
+    (seats : List (Option Seat)) (h : List Entry) →
+    IsGood (kept_board g parts most opening ticket words places seats) h →
     ticket ≤ 2 ^ 32
 few_so_far g parts most opening ticket words places seats h good =
-    few_entries ticket (length h) (left_in (kept g parts most opening ticket words places seats).views) most good.ticket
+    few_entries ticket (length h) (left_in (kept_board g parts most opening ticket words places seats).views)
+    most good.ticket
     good.room good.shape.most
 
 -- The board after a commit, by what is made of the hold.
 committed_next :
     (old new : InHand) (parts most : ℕ) (opening : List Entry) (ticket : ℕ) (words : List ℕ)
     (seats : List (Option Seat)) (h : List Entry) (n tag : ℕ) (edit : Edit) (seat : Seat) →
-    IsGood (kept old.grid parts most opening ticket words old.places seats) h → length old.places ≡ length words →
+    IsGood (kept_board old.grid parts most opening ticket words old.places seats) h → length old.places ≡ length words →
     slice_index_or seats n None ≡ Some seat → HasKeys edit → 0 < seat.left →
     IsEditMade words (replay h) ticket n tag edit old new →
-    Next h (kept old.grid parts most opening ticket words old.places seats) (Commit n tag edit) Done
-    (kept new.grid parts most opening (ticket + 1) words new.places
+    Next h (kept_board old.grid parts most opening ticket words old.places seats) (Commit n tag edit) Done
+    (kept_board new.grid parts most opening (ticket + 1) words new.places
     (slice_set seats n (Some (record seat { left = seat.left - 1; seen = ticket + 1 }))))
 committed_next old new parts most opening ticket words seats h n tag edit seat good wide live key some made =
     let g : ℕ = old.grid in
-    let s : BoardState = kept g parts most opening ticket words old.places seats in
+    let s : BoardState = kept_board g parts most opening ticket words old.places seats in
     let x = made.exchanged in
     let next : IsNext h (entry_after h ticket n tag edit) made.gone made.fresh =
     next_of s h n tag edit made.gone made.fresh good key made.change in
@@ -216,7 +218,7 @@ committed_next old new parts most opening ticket words seats h n tag edit seat g
     let is = any_brought g h (entry_after h ticket n tag edit) made.gone made.fresh old x.between x.with_goal new refl
     shares next x.swapped x.arrived x.noted in
     let grid : new.grid ≡ g = x.noted.grid ∙ x.arrived.grid ∙ x.swapped.grid in
-    subst (λ (k : ℕ). Next h s (Commit n tag edit) Done (kept k parts most opening (ticket + 1) words new.places
+    subst (λ (k : ℕ). Next h s (Commit n tag edit) Done (kept_board k parts most opening (ticket + 1) words new.places
     (slice_set seats n (Some (record seat { left = seat.left - 1; seen = ticket + 1 }))))) (sym grid)
     (commit_next g parts most opening ticket words old.places seats h n tag edit seat new.places good live key some
     made.touched is)
@@ -224,7 +226,7 @@ committed_next old new parts most opening ticket words seats h n tag edit seat g
 -- the set of the history is one that the hold shows
 pub shown_set :
     (hold : InHand) (parts most : ℕ) (opening : List Entry) (ticket : ℕ) (words : List ℕ) (seats : List (Option Seat))
-    (h : List Entry) → IsGood (kept hold.grid parts most opening ticket words hold.places seats) h →
+    (h : List Entry) → IsGood (kept_board hold.grid parts most opening ticket words hold.places seats) h →
     length hold.places ≡ length words → Shows hold (replay h)
 shown_set hold parts most opening ticket words seats h good wide =
     stands_shows hold h (hold_stands hold parts most opening ticket words seats h good wide)
@@ -233,11 +235,12 @@ shown_set hold parts most opening ticket words seats h good wide =
 pub made_next :
     (old new : InHand) (parts most : ℕ) (opening : List Entry) (ticket : ℕ) (words words' : List ℕ)
     (seats : List (Option Seat)) (h : List Entry) (n tag : ℕ) (edit : Edit) (seat : Seat) → words' ≡ words →
-    IsGood (kept old.grid parts most opening ticket words old.places seats) h → length old.places ≡ length words' →
+    IsGood (kept_board old.grid parts most opening ticket words old.places seats) h →
+    length old.places ≡ length words' →
     (slice_index_or seats n None ≡ Some seat) × (0 < seat.left) → HasKeys edit →
     ((s : List ℕ) → Shows old s → EditGives words' s ticket n tag edit old true new) →
-    Next h (kept old.grid parts most opening ticket words old.places seats) (Commit n tag edit) Done
-    (kept new.grid parts most opening (ticket + 1) words new.places
+    Next h (kept_board old.grid parts most opening ticket words old.places seats) (Commit n tag edit) Done
+    (kept_board new.grid parts most opening (ticket + 1) words new.places
     (slice_set seats n (Some (record seat { left = seat.left - 1; seen = ticket + 1 }))))
 made_next old new parts most opening ticket words words' seats h n tag edit seat same good wide live key made =
     let wide' = wide ∙ ap length same in
@@ -249,10 +252,11 @@ made_next old new parts most opening ticket words words' seats h n tag edit seat
 pub unmade_commits :
     (old new : InHand) (parts most : ℕ) (opening : List Entry) (ticket : ℕ) (words words' : List ℕ)
     (seats : List (Option Seat)) (h : List Entry) (n tag : ℕ) (edit : Edit) (seat : Seat) → words' ≡ words →
-    IsGood (kept old.grid parts most opening ticket words old.places seats) h → length old.places ≡ length words' →
+    IsGood (kept_board old.grid parts most opening ticket words old.places seats) h →
+    length old.places ≡ length words' →
     slice_index_or seats n None ≡ Some seat →
     ((s : List ℕ) → Shows old s → EditGives words' s ticket n tag edit old false new) →
-    CanCommit h (kept old.grid parts most opening ticket words old.places seats) n edit → ⊥
+    CanCommit h (kept_board old.grid parts most opening ticket words old.places seats) n edit → ⊥
 unmade_commits old new parts most opening ticket words words' seats h n tag edit seat same good wide live made can =
     let shows = shown_set old parts most opening ticket words seats h good (wide ∙ ap length same) in
     made (replay h) shows (subst (λ (w : List ℕ). HoldTouched old.grid (replay h) edit (held_by n w old.places))
@@ -286,7 +290,7 @@ are_named_same n w g g' l l' f k x =
 pub words_whole :
     (hold : InHand) (parts most : ℕ) (opening : List Entry) (ticket : ℕ) (words words' : List ℕ)
     (seats : List (Option Seat)) → words' ≡ words →
-    Good (kept hold.grid parts most opening ticket words hold.places seats) →
+    Good (kept_board hold.grid parts most opening ticket words hold.places seats) →
     (b : ℕ) → b < length words' → IsSome (bucket_at hold.places b)
 words_whole hold parts most opening ticket words words' seats same good b below =
     all_in_hand hold.grid parts most opening ticket words hold.places seats good.0 good.1 b

@@ -29,7 +29,7 @@ use Rattle.claim_rule.specs.declared.event.Played.TheVariants.{Done, Taken}
 use Rattle.claim_rule.specs.Boards.{View, BoardState, view_at, word_of}
 use Rattle.claim_rule.specs.Good.{IsGood, Good}
 use Rattle.claim_rule.specs.Events.{Next, HasKey, CanRelease, with_view, history_after}
-use Rattle.claim_rule.specs.Kept.{homes_of, held_by, view_of, views_of, kept}
+use Rattle.claim_rule.specs.Kept.{homes_of, held_by, view_of, views_of, kept_board}
 use Rattle.std.proofs.lemmas.List.{map-set}
 use Rattle.list_laws.proofs.Cited.{eq_same, none_there, some_and, to_some, within_some}
 use Rattle.claim_rule.proofs.Steps.{live_at}
@@ -57,7 +57,7 @@ live_view words places seats n seat e =
 -- in a good board each seat stands at its pass's number
 pub first_is : (g parts most : ℕ) (opening : List Entry) (ticket : ℕ) (words : List ℕ)
     (places : List (Option BucketContent)) (seats : List (Option Seat)) (h : List Entry) →
-    IsGood (kept g parts most opening ticket words places seats) h →
+    IsGood (kept_board g parts most opening ticket words places seats) h →
     (i : ℕ) (x : Seat) → slice_index_or seats i None ≡ Some x → x.first ≡ i
 first_is g parts most opening ticket words places seats h good i x e =
     good.shape.named i (view_of words places x) (live_view words places seats i x e)
@@ -84,12 +84,12 @@ from_view words places seats n v e =
 -- a claim of a bucket whose word is 0 is done: the word names the pass
 pub claim_next : (g parts most : ℕ) (opening : List Entry) (ticket : ℕ) (words : List ℕ)
     (places : List (Option BucketContent)) (seats : List (Option Seat)) (n b : ℕ) (seat : Seat) (h : List Entry) →
-    IsGood (kept g parts most opening ticket words places seats) h → slice_index_or seats n None ≡ Some seat →
+    IsGood (kept_board g parts most opening ticket words places seats) h → slice_index_or seats n None ≡ Some seat →
     b < length words → slice_index_or words b 0 ≡ 0 →
-    Next h (kept g parts most opening ticket words places seats) (Claim n b) Done
-    (kept g parts most opening ticket (slice_set words b (n + 1)) places seats)
+    Next h (kept_board g parts most opening ticket words places seats) (Claim n b) Done
+    (kept_board g parts most opening ticket (slice_set words b (n + 1)) places seats)
 claim_next g parts most opening ticket words places seats n b seat h good live below home =
-    let s : BoardState = kept g parts most opening ticket words places seats in
+    let s : BoardState = kept_board g parts most opening ticket words places seats in
     let f : Seat → View = view_of words places in
     let words' : List ℕ = slice_set words b (n + 1) in
     let f' : Seat → View = view_of words' places in
@@ -135,12 +135,12 @@ claim_next g parts most opening ticket words places seats n b seat h good live b
 -- the word of another's bucket
 pub claim_taken : (g parts most : ℕ) (opening : List Entry) (ticket : ℕ) (words : List ℕ)
     (places : List (Option BucketContent)) (seats : List (Option Seat)) (n b : ℕ) (seat : Seat) (h : List Entry) →
-    IsGood (kept g parts most opening ticket words places seats) h → slice_index_or seats n None ≡ Some seat →
+    IsGood (kept_board g parts most opening ticket words places seats) h → slice_index_or seats n None ≡ Some seat →
     b < length words → slice_index_or words b 0 ≢ 0 → slice_index_or words b 0 ≢ n + 1 →
-    Next h (kept g parts most opening ticket words places seats) (Claim n b) (Taken (slice_index_or words b 0))
-    (kept g parts most opening ticket words places seats)
+    Next h (kept_board g parts most opening ticket words places seats) (Claim n b) (Taken (slice_index_or words b 0))
+    (kept_board g parts most opening ticket words places seats)
 claim_taken g parts most opening ticket words places seats n b seat h good live below home other =
-    let s : BoardState = kept g parts most opening ticket words places seats in
+    let s : BoardState = kept_board g parts most opening ticket words places seats in
     let f : Seat → View = view_of words places in
     let first : seat.first ≡ n = first_is g parts most opening ticket words places seats h good n seat live in
     let lacks : bucket_at (f seat).held b ≡ None = whose_at (λ w. w == seat.first + 1) words places b below
@@ -161,10 +161,10 @@ claim_taken g parts most opening ticket words places seats n b seat h good live 
 -- a pass whose number a word has can release the bucket
 pub named_holds : (g parts most : ℕ) (opening : List Entry) (ticket : ℕ) (words : List ℕ)
     (places : List (Option BucketContent)) (seats : List (Option Seat)) (n b : ℕ) (h : List Entry) →
-    IsGood (kept g parts most opening ticket words places seats) h → b < length words →
-    slice_index_or words b 0 ≡ n + 1 → CanRelease (kept g parts most opening ticket words places seats) n b
+    IsGood (kept_board g parts most opening ticket words places seats) h → b < length words →
+    slice_index_or words b 0 ≡ n + 1 → CanRelease (kept_board g parts most opening ticket words places seats) n b
 named_holds g parts most opening ticket words places seats n b h good below named =
-    let s : BoardState = kept g parts most opening ticket words places seats in
+    let s : BoardState = kept_board g parts most opening ticket words places seats in
     let u = good.away b below (λ q. omega (arith, q, named)) in
     let word : word_of s b ≡ u.view.first + 1 = (good.passes u.view u.live).words b u.holds in
     let is_n : u.view.first ≡ n = omega (arith, word, named) in
@@ -173,11 +173,11 @@ named_holds g parts most opening ticket words places seats n b h good below name
 -- and a bucket that a pass can release is one of the board, with the pass's number for its word
 pub holds_named : (g parts most : ℕ) (opening : List Entry) (ticket : ℕ) (words : List ℕ)
     (places : List (Option BucketContent)) (seats : List (Option Seat)) (n b : ℕ) (h : List Entry) →
-    IsGood (kept g parts most opening ticket words places seats) h →
-    CanRelease (kept g parts most opening ticket words places seats) n b → (b < length words)
+    IsGood (kept_board g parts most opening ticket words places seats) h →
+    CanRelease (kept_board g parts most opening ticket words places seats) n b → (b < length words)
     × (slice_index_or words b 0 ≡ n + 1)
 holds_named g parts most opening ticket words places seats n b h good can =
-    let s : BoardState = kept g parts most opening ticket words places seats in
+    let s : BoardState = kept_board g parts most opening ticket words places seats in
     let v = some_and (view_at s n) (λ v. IsSome (bucket_at v.held b)) can in
     let live = live_at s h n v.0 good v.1 in
     let ok = good.passes v.0 live in
@@ -210,12 +210,12 @@ within_length b len n l e = omega arith
 -- a release of a bucket whose word names the pass is done: the word becomes 0
 pub release_next : (g parts most : ℕ) (opening : List Entry) (ticket : ℕ) (words : List ℕ)
     (places : List (Option BucketContent)) (seats : List (Option Seat)) (n b : ℕ) (seat : Seat) (h : List Entry) →
-    IsGood (kept g parts most opening ticket words places seats) h → slice_index_or seats n None ≡ Some seat →
+    IsGood (kept_board g parts most opening ticket words places seats) h → slice_index_or seats n None ≡ Some seat →
     b < length words → slice_index_or words b 0 ≡ n + 1 →
-    Next h (kept g parts most opening ticket words places seats) (Release n b) Done
-    (kept g parts most opening ticket (slice_set words b 0) places seats)
+    Next h (kept_board g parts most opening ticket words places seats) (Release n b) Done
+    (kept_board g parts most opening ticket (slice_set words b 0) places seats)
 release_next g parts most opening ticket words places seats n b seat h good live below word =
-    let s : BoardState = kept g parts most opening ticket words places seats in
+    let s : BoardState = kept_board g parts most opening ticket words places seats in
     let f : Seat → View = view_of words places in
     let words' : List ℕ = slice_set words b 0 in
     let f' : Seat → View = view_of words' places in
@@ -265,10 +265,10 @@ release_next g parts most opening ticket words places seats n b seat h good live
 pub look_next : (g parts most : ℕ) (opening : List Entry) (ticket : ℕ) (words : List ℕ)
     (places : List (Option BucketContent)) (seats : List (Option Seat)) (n : ℕ) (seat : Seat) (h : List Entry) →
     slice_index_or seats n None ≡ Some seat →
-    Next h (kept g parts most opening ticket words places seats) (Look n) Done
-    (kept g parts most opening ticket words places (slice_set seats n (Some (record seat { seen = ticket }))))
+    Next h (kept_board g parts most opening ticket words places seats) (Look n) Done
+    (kept_board g parts most opening ticket words places (slice_set seats n (Some (record seat { seen = ticket }))))
 look_next g parts most opening ticket words places seats n seat h live =
-    let s : BoardState = kept g parts most opening ticket words places seats in
+    let s : BoardState = kept_board g parts most opening ticket words places seats in
     let f : Seat → View = view_of words places in
     let at = live_view words places seats n seat live in (
       subst (λ (o : Option View). IsSome o) (sym at) refl,

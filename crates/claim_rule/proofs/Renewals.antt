@@ -41,7 +41,7 @@ use Rattle.claim_rule.specs.Boards.{View, BoardState, view_at}
 use Rattle.claim_rule.specs.Good.{AreSharesOf, IsGood}
 use Rattle.cell_store.specs.Shares.{share_at}
 use Rattle.claim_rule.specs.Events.{Next, entry_after, renewed_from, with_view}
-use Rattle.claim_rule.specs.Kept.{whose, homes_of, held_by, view_of, views_of, kept}
+use Rattle.claim_rule.specs.Kept.{whose, homes_of, held_by, view_of, views_of, kept_board}
 use Rattle.claim_rule.proofs.Nexts.{stays_outside}
 use Rattle.claim_rule.proofs.Commits.{renewed_at, renewed_length}
 use Rattle.claim_rule.proofs.Steps.{live_at}
@@ -109,15 +109,15 @@ others_stay t g ticket words places h n tag edit shares touched apart local =
 pub commit_next : (g parts most : ℕ) (opening : List Entry) (ticket : ℕ) (words : List ℕ)
     (places : List (Option BucketContent)) (seats : List (Option Seat)) (h : List Entry) (n tag : ℕ) (edit : Edit)
     (seat : Seat) (places' : List (Option BucketContent)) →
-    IsGood (kept g parts most opening ticket words places seats) h → slice_index_or seats n None ≡ Some seat →
+    IsGood (kept_board g parts most opening ticket words places seats) h → slice_index_or seats n None ≡ Some seat →
     HasKeys edit → 0 < seat.left →
     HoldTouched g (replay h) edit (held_by n words places) → places'
     ≡ renewed_from g (h ++ entry_after h ticket n tag edit ∷ []) 0 places →
-    Next h (kept g parts most opening ticket words places seats) (Commit n tag edit) Done
-    (kept g parts most opening (ticket + 1) words places' (slice_set seats n
+    Next h (kept_board g parts most opening ticket words places seats) (Commit n tag edit) Done
+    (kept_board g parts most opening (ticket + 1) words places' (slice_set seats n
     (Some (record seat { left = seat.left - 1; seen = ticket + 1 }))))
 commit_next g parts most opening ticket words places seats h n tag edit seat places' good live key some touched is =
-    let s : BoardState = kept g parts most opening ticket words places seats in
+    let s : BoardState = kept_board g parts most opening ticket words places seats in
     let h' : List Entry = h ++ entry_after h ticket n tag edit ∷ [] in
     let f : Seat → View = view_of words places in
     let f' : Seat → View = view_of words places' in

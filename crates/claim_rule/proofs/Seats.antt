@@ -40,7 +40,7 @@ use Rattle.claim_rule.specs.declared.event.Played.TheVariants.{Done}
 use Rattle.claim_rule.specs.Boards.{View, BoardState, view_at, word_of, IsLive}
 use Rattle.claim_rule.specs.Good.{IsGood}
 use Rattle.claim_rule.specs.Events.{Next, HoldsNothing, CanSplit, CanJoin, split_of, join_of, split_off}
-use Rattle.claim_rule.specs.Kept.{whose, held_by, view_of, views_of, kept}
+use Rattle.claim_rule.specs.Kept.{whose, held_by, view_of, views_of, kept_board}
 use Rattle.claim_rule.proofs.Places.{left_one}
 use Rattle.claim_rule.proofs.Steps.{live_at}
 use Rattle.claim_rule.proofs.Kept.{if_so, whose_length, whose_at}
@@ -69,10 +69,11 @@ held_none t (w ∷ words) (o ∷ places) e =
 -- a pass that holds nothing is named by no word
 pub no_word : (g parts most : ℕ) (opening : List Entry) (ticket : ℕ) (words : List ℕ)
     (places : List (Option BucketContent)) (seats : List (Option Seat)) (h : List Entry) (n : ℕ) (v : View) →
-    IsGood (kept g parts most opening ticket words places seats) h → slice_index_or (views_of words places seats) n None
+    IsGood (kept_board g parts most opening ticket words places seats) h →
+    slice_index_or (views_of words places seats) n None
     ≡ Some v → HoldsNothing v → All (λ w. w ≢ n + 1) words
 no_word g parts most opening ticket words places seats h n v good at nothing k d below q =
-    let s : BoardState = kept g parts most opening ticket words places seats in
+    let s : BoardState = kept_board g parts most opening ticket words places seats in
     let r = some_and (view_at s n) (λ v. IsSome (bucket_at v.held k))
     (named_holds g parts most opening ticket words places seats n k h good below
     (default_free words k 0 d below ∙ q)) in
@@ -84,11 +85,11 @@ no_word g parts most opening ticket words places seats h n v good at nothing k d
 -- a pass's parts are parts of the board, at most 64, and its allowance is at most 2^32
 pub seat_inside : (g parts most : ℕ) (opening : List Entry) (ticket : ℕ) (words : List ℕ)
     (places : List (Option BucketContent)) (seats : List (Option Seat)) (h : List Entry) (n : ℕ) (seat : Seat) →
-    IsGood (kept g parts most opening ticket words places seats) h → slice_index_or seats n None ≡ Some seat →
+    IsGood (kept_board g parts most opening ticket words places seats) h → slice_index_or seats n None ≡ Some seat →
     (seat.first + seat.parts ≤ length (views_of words places seats)) × (seat.first + seat.parts ≤ 64)
     × (seat.left ≤ 2 ^ 32)
 seat_inside g parts most opening ticket words places seats h n seat good live =
-    let s : BoardState = kept g parts most opening ticket words places seats in
+    let s : BoardState = kept_board g parts most opening ticket words places seats in
     let v : View = view_of words places seat in
     let at = live_view words places seats n seat live in
     let inside : seat.first + seat.parts ≤ parts = (good.passes v (live_at s h n v good at)).inside in
@@ -111,11 +112,11 @@ as_many words places (o ∷ seats) = ap suc (as_many words places seats)
 pub split_facts : (g parts most : ℕ) (opening : List Entry) (ticket : ℕ) (words : List ℕ)
     (places : List (Option BucketContent)) (seats : List (Option Seat)) (h : List Entry) (n : ℕ) (seat : Seat)
     (k left : ℕ) →
-    IsGood (kept g parts most opening ticket words places seats) h → slice_index_or seats n None ≡ Some seat →
-    CanSplit (kept g parts most opening ticket words places seats) n k left →
+    IsGood (kept_board g parts most opening ticket words places seats) h → slice_index_or seats n None ≡ Some seat →
+    CanSplit (kept_board g parts most opening ticket words places seats) n k left →
     All (λ w. w ≢ n + 1) words × (0 < k) × (k < seat.parts) × (left ≤ seat.left)
 split_facts g parts most opening ticket words places seats h n seat k left good live can =
-    let s : BoardState = kept g parts most opening ticket words places seats in
+    let s : BoardState = kept_board g parts most opening ticket words places seats in
     let v = some_and (view_at s n) _ can in
     let same : v.0 ≡ view_of words places seat =
     one_value v.0 (view_of words places seat) (sym v.1 ∙ live_view words places seats n seat live) in (
@@ -129,10 +130,10 @@ split_facts g parts most opening ticket words places seats h n seat k left good 
 pub split_next : (g parts most : ℕ) (opening : List Entry) (ticket : ℕ) (words : List ℕ)
     (places : List (Option BucketContent)) (seats : List (Option Seat)) (h : List Entry) (n : ℕ) (seat : Seat)
     (k left : ℕ) →
-    IsGood (kept g parts most opening ticket words places seats) h → slice_index_or seats n None ≡ Some seat →
+    IsGood (kept_board g parts most opening ticket words places seats) h → slice_index_or seats n None ≡ Some seat →
     All (λ w. w ≢ n + 1) words → 0 < k → k < seat.parts → left ≤ seat.left →
-    Next h (kept g parts most opening ticket words places seats) (Split n k left) Done
-    (kept g parts most opening ticket words places (slice_set (slice_set seats n
+    Next h (kept_board g parts most opening ticket words places seats) (Split n k left) Done
+    (kept_board g parts most opening ticket words places (slice_set (slice_set seats n
     (Some (record seat { parts = seat.parts - k; left = seat.left - left; seen = ticket })))
     (seat.first + (seat.parts - k)) (Some (record {
       first = seat.first + (seat.parts - k);
@@ -142,7 +143,7 @@ pub split_next : (g parts most : ℕ) (opening : List Entry) (ticket : ℕ) (wor
       since = ticket;
     }))))
 split_next g parts most opening ticket words places seats h n seat k left good live nothing some fewer less =
-    let s : BoardState = kept g parts most opening ticket words places seats in
+    let s : BoardState = kept_board g parts most opening ticket words places seats in
     let f : Seat → View = view_of words places in
     let v : View = f seat in
     let at : view_at s n ≡ Some v = live_view words places seats n seat live in
@@ -187,11 +188,11 @@ split_next g parts most opening ticket words places seats h n seat k left good l
 -- a join that may come: no word names the two passes, and the second's parts come next
 pub join_facts : (g parts most : ℕ) (opening : List Entry) (ticket : ℕ) (words : List ℕ)
     (places : List (Option BucketContent)) (seats : List (Option Seat)) (h : List Entry) (n m : ℕ) (seat : Seat) →
-    IsGood (kept g parts most opening ticket words places seats) h → slice_index_or seats n None ≡ Some seat →
-    CanJoin (kept g parts most opening ticket words places seats) n m →
+    IsGood (kept_board g parts most opening ticket words places seats) h → slice_index_or seats n None ≡ Some seat →
+    CanJoin (kept_board g parts most opening ticket words places seats) n m →
     All (λ w. w ≢ n + 1) words × All (λ w. w ≢ m + 1) words × (m ≡ seat.first + seat.parts)
 join_facts g parts most opening ticket words places seats h n m seat good live can =
-    let s : BoardState = kept g parts most opening ticket words places seats in
+    let s : BoardState = kept_board g parts most opening ticket words places seats in
     let v = some_and (view_at s n) _ can.0 in
     let w = some_and (view_at s m) _ can.1 in
     let same : v.0 ≡ view_of words places seat =
@@ -204,18 +205,18 @@ join_facts g parts most opening ticket words places seats h n m seat good live c
 -- where these hold a join is done: one seat has the parts and allowances of both, and has seen what either has
 pub join_next : (g parts most : ℕ) (opening : List Entry) (ticket : ℕ) (words : List ℕ)
     (places : List (Option BucketContent)) (seats : List (Option Seat)) (h : List Entry) (n m : ℕ) (seat other : Seat) →
-    IsGood (kept g parts most opening ticket words places seats) h → slice_index_or seats n None ≡ Some seat →
+    IsGood (kept_board g parts most opening ticket words places seats) h → slice_index_or seats n None ≡ Some seat →
     slice_index_or seats m None ≡ Some other →
     All (λ w. w ≢ n + 1) words → All (λ w. w ≢ m + 1) words → m ≡ seat.first + seat.parts →
-    Next h (kept g parts most opening ticket words places seats) (Join n m) Done
-    (kept g parts most opening ticket words places (slice_set (slice_set seats m None) n
+    Next h (kept_board g parts most opening ticket words places seats) (Join n m) Done
+    (kept_board g parts most opening ticket words places (slice_set (slice_set seats m None) n
     (Some (record seat {
       parts = seat.parts + other.parts;
       left = seat.left + other.left;
       seen = max seat.seen other.seen;
     }))))
 join_next g parts most opening ticket words places seats h n m seat other good live live' nothing nothing' next =
-    let s : BoardState = kept g parts most opening ticket words places seats in
+    let s : BoardState = kept_board g parts most opening ticket words places seats in
     let f : Seat → View = view_of words places in
     let v : View = f seat in
     let w : View = f other in

@@ -28,7 +28,7 @@ use Rattle.cell_store.specs.Shares.{Stands}
 use Rattle.claim_rule.specs.declared.board.Seat.{Seat}
 use Rattle.claim_rule.specs.Boards.{View, BoardState}
 use Rattle.claim_rule.specs.Good.{AreSharesOf, IsGood}
-use Rattle.claim_rule.specs.Kept.{view_of, kept}
+use Rattle.claim_rule.specs.Kept.{view_of, kept_board}
 use Rattle.claim_rule.proofs.OneHistory.{is_share}
 use Rattle.claim_rule.proofs.Kept.{if_so, whose_at, seen_at}
 
@@ -40,10 +40,10 @@ seat_of f (Some x) v e = (x, one_value (f x) v e)
 -- in a good board all contents of the hold are shares of the history
 pub all_are_shares : (g parts most : ℕ) (opening : List Entry) (ticket : ℕ) (words : List ℕ)
     (places : List (Option BucketContent)) (seats : List (Option Seat)) (h : List Entry) →
-    IsGood (kept g parts most opening ticket words places seats) h → length places ≡ length words →
+    IsGood (kept_board g parts most opening ticket words places seats) h → length places ≡ length words →
     AreSharesOf g h places
 all_are_shares g parts most opening ticket words places seats h good wide b c e =
-    let s : BoardState = kept g parts most opening ticket words places seats in
+    let s : BoardState = kept_board g parts most opening ticket words places seats in
     let f : Seat → View = view_of words places in
     let below : b < length words = let l = within places b c e in omega (arith, l, wide) in
     dite (ℕ_discrete (slice_index_or words b 0) 0)
@@ -68,7 +68,7 @@ so_some false o s = absurd (cc s)
 -- and all of them are in the hold
 pub all_in_hand : (g parts most : ℕ) (opening : List Entry) (ticket : ℕ) (words : List ℕ)
     (places : List (Option BucketContent)) (seats : List (Option Seat)) (h : List Entry) →
-    IsGood (kept g parts most opening ticket words places seats) h → (b : ℕ) → b < length words →
+    IsGood (kept_board g parts most opening ticket words places seats) h → (b : ℕ) → b < length words →
     IsSome (bucket_at places b)
 all_in_hand g parts most opening ticket words places seats h good b below =
     let f : Seat → View = view_of words places in
@@ -86,7 +86,8 @@ all_in_hand g parts most opening ticket words places seats h good b below =
 -- so the hold stands for the history of the board
 pub hold_stands : (hold : InHand) (parts most : ℕ) (opening : List Entry) (ticket : ℕ) (words : List ℕ)
     (seats : List (Option Seat)) (h : List Entry) →
-    IsGood (kept hold.grid parts most opening ticket words hold.places seats) h → length hold.places ≡ length words →
+    IsGood (kept_board hold.grid parts most opening ticket words hold.places seats) h →
+    length hold.places ≡ length words →
     Stands hold h
 hold_stands hold parts most opening ticket words seats h good wide =
     let shares = all_are_shares hold.grid parts most opening ticket words hold.places seats h good wide in

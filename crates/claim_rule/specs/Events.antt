@@ -147,8 +147,8 @@ join_of s v w = record s {
 }
 
 -- a join
-abbrev pub joined : BoardState → ℕ → ℕ → BoardState
-joined s n m = option_map_or (λ v. option_map_or (λ w. join_of s v w) (view_at s m) s) (view_at s n) s
+abbrev pub after_join : BoardState → ℕ → ℕ → BoardState
+after_join s n m = option_map_or (λ v. option_map_or (λ w. join_of s v w) (view_at s m) s) (view_at s n) s
 
 -- ---- the table of events
 
@@ -171,7 +171,7 @@ Next h s (Commit n tag edit) answer s' = ComesTo (CanCommit h s n edit) s (commi
 Next h s (Release n b) answer s' = ComesTo (CanRelease s n b) s (released s n b) answer s'
 Next h s (Look n) answer s' = ComesTo (CanLook s n) s (looked s n) answer s'
 Next h s (Split n parts left) answer s' = ComesTo (CanSplit s n parts left) s (split s n parts left) answer s'
-Next h s (Join n m) answer s' = ComesTo (CanJoin s n m) s (joined s n m) answer s'
+Next h s (Join n m) answer s' = ComesTo (CanJoin s n m) s (after_join s n m) answer s'
 
 -- the history after it: a commit that is done adds its entry
 abbrev pub history_after : List Entry → BoardState → Event → Played → List Entry

@@ -34,8 +34,9 @@ abbrev pub views_of : List ℕ → List (Option BucketContent) → List (Option 
 views_of words places seats = map (option_map (view_of words places)) seats
 
 -- the board that is kept so
-abbrev pub kept : ℕ → ℕ → ℕ → List Entry → ℕ → List ℕ → List (Option BucketContent) → List (Option Seat) → BoardState
-kept g parts most opening ticket words places seats = record {
+abbrev pub kept_board : ℕ → ℕ → ℕ → List Entry → ℕ → List ℕ → List (Option BucketContent) →
+    List (Option Seat) → BoardState
+kept_board g parts most opening ticket words places seats = record {
   grid = g;
   parts = parts;
   most = most;

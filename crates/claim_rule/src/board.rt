@@ -81,15 +81,17 @@ pub struct Board {
 impl Model for Board {
     ghost use Rattle.claim_rule.specs.Boards.{BoardState};
     ghost use Rattle.claim_rule.specs.Good.{Good};
-    ghost use Rattle.claim_rule.specs.Kept.{kept};
+    ghost use Rattle.claim_rule.specs.Kept.{kept_board};
 
     ghost Value = { BoardState };
 
     ghost view = { λ s.
-        kept s.hold.grid s.parts s.most s.begun.value.history s.ticket s.words.items s.hold.places s.seats.items };
+        kept_board s.hold.grid s.parts s.most s.begun.value.history s.ticket s.words.items s.hold.places
+        s.seats.items };
 
     ghost invariant = { λ s. Good
-        (kept s.hold.grid s.parts s.most s.begun.value.history s.ticket s.words.items s.hold.places s.seats.items) };
+        (kept_board s.hold.grid s.parts s.most s.begun.value.history s.ticket s.words.items s.hold.places
+        s.seats.items) };
 }
 
 // The pass with the number, if it is live.

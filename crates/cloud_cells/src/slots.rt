@@ -20,7 +20,6 @@ ghost use Rattle.cloud_cells.specs.Clouds.{HasOtherIn};
 ghost use Rattle.hole_laws.specs.Others.{IsOtherOf, HaveNoOther};
 ghost use Rattle.cloud_cells.specs.Nets.{AreMoved, AreWith, HasNoOther, IsOtherOn, IsWithout, cells_of_slots, slot_at};
 
-use crate::facets::is_on;
 use crate::packed::Packed;
 use crate::spot::Spot;
 use point_order::{Cell, Facet};
@@ -149,7 +148,7 @@ fn place_of(slots: &[Slot], cell: &Cell, hint: usize) -> usize
 fn is_other(other: &Cell, cell: &Cell, facet: &Facet) -> bool
     ensures { IsTrue result ↔ IsOtherOn cell.now facet.now other.now }
 {
-    is_on(other, facet) && !other.is_same(cell)
+    other.is_on(facet) && !other.is_same(cell)
 }
 
 // The cell of a slot, where it is another on the facet.

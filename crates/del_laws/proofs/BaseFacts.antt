@@ -6,7 +6,7 @@ use Rattle.list_laws.proofs.Cited.{false_if, same_test}
 use Rattle.point_order.specs.Heights.{height}
 use Rattle.point_order.specs.Sets.{IsIn}
 use Rattle.del_laws.specs.Cells.{Full, Vertex, point, far, Held, OneOf, Inside}
-use Rattle.del_laws.specs.PointSets.{PointSet, has, solid, cell, vertices}
+use Rattle.del_laws.specs.PointSets.{PointSet, solid, cell, vertices, has_as_point}
 use Rattle.del_laws.specs.Base.{Symmetric, Across, Complex, Corner, Within, IsVertexOf}
 use Rattle.del_laws.proofs.CellFacts.{full_apart, open_not_twice}
 use Rattle.del_laws.proofs.Orders.{swap12, swap23, swap34}
@@ -90,28 +90,31 @@ test_complex s = record {
 }
 
 -- a point of a cell is one of the set
-pub test_point : (s : PointSet) (w x y z : Vertex) → cell s w x y z ≡ true → z ≢ far → has s z ≡ true
+pub test_point : (s : PointSet) (w x y z : Vertex) → cell s w x y z ≡ true → z ≢ far → has_as_point s z ≡ true
 test_point s w x y far e n = absurd (n refl)
 test_point s w x y (point k) e n =
     has_true s k (held_inside height s.points w x y (point k) (test_from s w x y (point k) e)).fourth
 
 -- a vertex that a cell can have
-inside_of : (t : PointSet) (z : Vertex) → IsVertexOf PointSet has t z → Inside t.points z
+inside_of : (t : PointSet) (z : Vertex) → IsVertexOf PointSet has_as_point t z → Inside t.points z
 inside_of t far m = tt
 inside_of t (point k) m = elim m [ inl e ↦ absurd (far_point k (sym e)) | inr e ↦ has_from t k e ]
 
 -- smaller sets
-pub test_smaller : (s t : PointSet) → solid t ≡ true → Within PointSet has t s → (w x y z : Vertex) →
-    cell s w x y z ≡ true → IsVertexOf PointSet has t w → IsVertexOf PointSet has t x → IsVertexOf PointSet has t y →
-    IsVertexOf PointSet has t z → cell t w x y z ≡ true
+pub test_smaller : (s t : PointSet) → solid t ≡ true → Within PointSet has_as_point t s → (w x y z : Vertex) →
+    cell s w x y z ≡ true → IsVertexOf PointSet has_as_point t w → IsVertexOf PointSet has_as_point t x →
+    IsVertexOf PointSet has_as_point t y →
+    IsVertexOf PointSet has_as_point t z → cell t w x y z ≡ true
 test_smaller s t i f w x y z e a b c d =
     test_true t w x y z (smaller height t.points s.points (within s t f) (solid_from t.points i) w x y z
     (test_from s w x y z e)
     (record { first = inside_of t w a; second = inside_of t x b; third = inside_of t y c; fourth = inside_of t z d }))
 
 -- two sets
-pub test_union : (r s t u : PointSet) → solid r ≡ true → Within PointSet has r s → Within PointSet has r t →
-    Within PointSet has s u → ((q : Vertex) → has u q ≡ true → (has s q ≡ true) ⊎ (has t q ≡ true)) →
+pub test_union : (r s t u : PointSet) → solid r ≡ true → Within PointSet has_as_point r s →
+    Within PointSet has_as_point r t →
+    Within PointSet has_as_point s u →
+    ((q : Vertex) → has_as_point u q ≡ true → (has_as_point s q ≡ true) ⊎ (has_as_point t q ≡ true)) →
     (w x y z : Vertex) → cell s w x y z ≡ true → cell t w x y z ≡ true → cell u w x y z ≡ true
 test_union r s t u i rs rt su cover w x y z e f =
     test_true u w x y z (union height r.points s.points t.points u.points (solid_from r.points i) (within s r rs)
@@ -124,7 +127,7 @@ pub point_finite : (a : ℕ) → point a ≢ far
 point_finite a e = far_point a (sym e)
 
 -- every point is a vertex of a Full cell
-pub test_corner : (s : PointSet) (v : Vertex) → solid s ≡ true → has s v ≡ true → Corner (cell s) v
+pub test_corner : (s : PointSet) (v : Vertex) → solid s ≡ true → has_as_point s v ≡ true → Corner (cell s) v
 test_corner s far i m = cc
 test_corner s (point e) i m =
     let n = no_ties s.points (keys_of s) in
@@ -167,8 +170,9 @@ test_corner s (point e) i m =
         ]
 
 -- a set with the points of a Full cell is solid
-pub test_full_solid : (s t : PointSet) (w x y z : Vertex) → cell s w x y z ≡ true → has t w ≡ true → has t x ≡ true →
-    has t y ≡ true → has t z ≡ true → solid t ≡ true
+pub test_full_solid : (s t : PointSet) (w x y z : Vertex) → cell s w x y z ≡ true → has_as_point t w ≡ true →
+    has_as_point t x ≡ true →
+    has_as_point t y ≡ true → has_as_point t z ≡ true → solid t ≡ true
 test_full_solid s t (point a) (point b) (point c) (point d) e i j k l =
     elim (test_from s (point a) (point b) (point c) (point d) e) [
       | inl F ↦ of_full a b c d F (has_from t a i) (has_from t b j) (has_from t c k) (has_from t d l)
@@ -193,5 +197,5 @@ test_full_solid s t (point a) (point b) far z e i j k l = cc
 test_full_solid s t (point a) (point b) (point c) far e i j k l = cc
 
 -- a larger set than a solid one is solid
-pub test_solid_more : (s t : PointSet) → solid s ≡ true → Within PointSet has s t → solid t ≡ true
+pub test_solid_more : (s t : PointSet) → solid s ≡ true → Within PointSet has_as_point s t → solid t ≡ true
 test_solid_more s t i f = solid_more s.points t.points (within t s f).inside i

@@ -24,7 +24,7 @@ use Rattle.point_order.specs.Sets.{IsIn, IsAscending}
 use Rattle.point_order.specs.Subsets.{subsets}
 use Rattle.point_order.specs.CellOrder.{cell_cmp}
 use Rattle.point_order.specs.Complex.{complex, is_full, is_open}
-use Rattle.del_laws.specs.Listed.{ComplexIsSorted, SameMembers}
+use Rattle.del_laws.specs.Listed.{ComplexIsSorted, SameCells}
 use Rattle.del_laws.proofs.Listed.{part_inside, not_both_kinds}
 
 -- ---- parts of an ascending list
@@ -94,7 +94,7 @@ against (Open q) (Full r) e f = cc
 against (Open q) (Open r) e f = list_against q r e f
 
 -- so lists in order with the same members are one
-pub same_members : SameMembers
+pub same_members : SameCells
 unfolding IsStrictlySortedBy
 same_members [] [] a b f g = refl
 same_members [] (d ∷ m) a b f g = absurd (g d (inl refl))

@@ -61,11 +61,11 @@ use Rattle.del_laws.specs.PointSets.{
   PointSet,
   same_vertex,
   is_point,
-  has,
   set_or,
-  plus,
   minus,
   vertices,
+  has_as_point,
+  set_with,
 }
 use Rattle.del_laws.specs.Base.{Within}
 use Rattle.del_laws.proofs.Pairs.{same_point, far_point}
@@ -125,11 +125,11 @@ set_or_is l false e s t = absurd (not_both (is_point_set l) t e)
 -- ---- members
 
 -- a point of the set
-pub has_from : (s : PointSet) (a : ℕ) → has s (point a) ≡ true → IsIn a s.points
+pub has_from : (s : PointSet) (a : ℕ) → has_as_point s (point a) ≡ true → IsIn a s.points
 has_from s a e = among_from a s.points e
 
 -- and back
-pub has_true : (s : PointSet) (a : ℕ) → IsIn a s.points → has s (point a) ≡ true
+pub has_true : (s : PointSet) (a : ℕ) → IsIn a s.points → has_as_point s (point a) ≡ true
 has_true s a m = among_true a s.points m
 
 -- the set of a list
@@ -143,7 +143,7 @@ along l m e f q =
     (subst P q (λ k. ap (made l) (Bool-set (is_point_set l) true e k))) f
 
 -- sets with the same points are one
-pub extensional : (s t : PointSet) → ((q : Vertex) → has s q ≡ has t q) → s ≡ t
+pub extensional : (s t : PointSet) → ((q : Vertex) → has_as_point s q ≡ has_as_point t q) → s ≡ t
 unfolding made
 extensional s t f =
     along s.points t.points s.valid t.valid (same_members s.points t.points (ascending_of s) (ascending_of t)
@@ -161,8 +161,8 @@ with_valid s a k =
     ])
 
 -- the points of the set with a point
-pub plus_points : (s : PointSet) (a : ℕ) → IsKey a → (plus s (point a)).points ≡ with_point a s.points
-unfolding plus
+pub plus_points : (s : PointSet) (a : ℕ) → IsKey a → (set_with s (point a)).points ≡ with_point a s.points
+unfolding set_with
 plus_points s a k = set_or_is (with_point a s.points) (is_point_set (with_point a s.points)) refl s (with_valid s a k)
 
 -- the list without a point is a set
@@ -178,7 +178,8 @@ minus_points s a =
     set_or_is (without_point a s.points) (is_point_set (without_point a s.points)) refl s (without_valid s a)
 
 -- which points the set with a point has
-pub has_plus : (s : PointSet) (p q : Vertex) → is_point p ≡ true → has (plus s p) q ≡ (same_vertex p q || has s q)
+pub has_plus : (s : PointSet) (p q : Vertex) → is_point p ≡ true →
+    has_as_point (set_with s p) q ≡ (same_vertex p q || has_as_point s q)
 has_plus s far q e = cc
 has_plus s (point a) far e = refl
 has_plus s (point a) (point b) e =
@@ -195,7 +196,7 @@ has_plus s (point a) (point b) e =
     ]))
 
 -- which points the set without a point has
-pub has_minus : (s : PointSet) (p q : Vertex) → has (minus s p) q ≡ (not (same_vertex p q) && has s q)
+pub has_minus : (s : PointSet) (p q : Vertex) → has_as_point (minus s p) q ≡ (not (same_vertex p q) && has_as_point s q)
 unfolding minus
 has_minus s far far = refl
 has_minus s far (point b) = refl
@@ -220,12 +221,12 @@ has_minus s (point a) (point b) =
     turned m n e = grind (arith, nat_tests)
 
 -- the points of a set are points
-pub finite : (s : PointSet) (q : Vertex) → has s q ≡ true → is_point q ≡ true
+pub finite : (s : PointSet) (q : Vertex) → has_as_point s q ≡ true → is_point q ≡ true
 finite s far e = cc
 finite s (point a) e = below_true a (2 ^ 42) (key_from s.points s.valid a (has_from s a e))
 
 -- one set within another
-pub within : (s t : PointSet) → Within PointSet has t s → IsSubset t.points s.points
+pub within : (s t : PointSet) → Within PointSet has_as_point t s → IsSubset t.points s.points
 within s t f = record { inside = λ q m. has_from s q (f (point q) (has_true t q m)) }
 
 -- ---- solid sets

@@ -6,7 +6,7 @@ use Rattle.list_laws.proofs.Cited.{both, either, is_true}
 use Rattle.point_order.specs.Heights.{height}
 use Rattle.point_order.specs.Sets.{IsIn}
 use Rattle.del_laws.specs.Cells.{Full, Vertex, point, far, Held, OneOf}
-use Rattle.del_laws.specs.PointSets.{PointSet, has, solid, cell, vertices, plus, minus}
+use Rattle.del_laws.specs.PointSets.{PointSet, solid, cell, vertices, minus, has_as_point, set_with}
 use Rattle.del_laws.specs.Base.{Symmetric, Symmetric3, AreFinite, ClosedFull, StarFull, Base}
 use Rattle.del_laws.proofs.Orders.{full_left, full_right}
 use Rattle.del_laws.proofs.Regions.{IsSetOf}
@@ -278,7 +278,7 @@ module _ (s : PointSet) (e : ℕ) (q : Vertex → Vertex → Vertex → Bool) (s
   ]
 
 -- Full cells at a point, closed across the facets with it, are all Full cells at it
-pub test_star : (s : PointSet) (v : Vertex) → has s v ≡ true → StarFull (cell s) v
+pub test_star : (s : PointSet) (v : Vertex) → has_as_point s v ≡ true → StarFull (cell s) v
 test_star s (point e) m q sq (point a) (point b) (point c) f k g closed (point i) (point j) (point l) h r =
     starred_from s e q sq closed a b c k g i j l r
 test_star s (point e) m q sq far a2 a3 f k g closed b1 b2 b3 h r = absurd (f.finite1 refl)
@@ -291,7 +291,7 @@ test_star s (point e) m q sq (point a) (point b) (point c) f k g closed (point i
 test_star s far m q sq a1 a2 a3 f k g closed b1 b2 b3 h r = cc
 
 -- all facts
-pub base : Base PointSet has solid cell vertices plus minus
+pub base : Base PointSet has_as_point solid cell vertices set_with minus
 base = record {
   extensional = extensional;
   has_plus = has_plus;

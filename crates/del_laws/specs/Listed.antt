@@ -68,8 +68,8 @@ abbrev pub ComplexIsSorted : Type 0
 ComplexIsSorted = (s : List ℕ) → IsAscending s → IsStrictlySortedBy cell_cmp (complex s)
 
 -- lists of cells in order that have the same members are one
-abbrev pub SameMembers : Type 0
-SameMembers =
+abbrev pub SameCells : Type 0
+SameCells =
     (l m : List Cell) → IsStrictlySortedBy cell_cmp l → IsStrictlySortedBy cell_cmp m →
     ((c : Cell) → IsIn c l → IsIn c m) → ((c : Cell) → IsIn c m → IsIn c l) → l ≡ m
 

@@ -33,9 +33,9 @@ is_point (point a) = nat_lt a (2 ^ 42)
 is_point far = false
 
 -- whether a vertex is a point of the set
-abbrev pub has : PointSet → Vertex → Bool
-has s (point a) = is_among a s.points
-has s far = false
+abbrev pub has_as_point : PointSet → Vertex → Bool
+has_as_point s (point a) = is_among a s.points
+has_as_point s far = false
 
 -- whether four points of the set are independent
 abbrev pub solid : PointSet → Bool
@@ -55,9 +55,9 @@ set_or l true e s = record { points = l; valid = e }
 set_or l false e s = s
 
 -- the set with a point
-unfoldable pub plus : PointSet → Vertex → PointSet
-plus s (point a) = set_or (with_point a s.points) (is_point_set (with_point a s.points)) refl s
-plus s far = s
+unfoldable pub set_with : PointSet → Vertex → PointSet
+set_with s (point a) = set_or (with_point a s.points) (is_point_set (with_point a s.points)) refl s
+set_with s far = s
 
 -- the set without a point
 unfoldable pub minus : PointSet → Vertex → PointSet

@@ -49,8 +49,8 @@ ghost use Rattle.del_laws.specs.Listed.{
   CellIsListed,
   TestIsListed,
   ComplexIsSorted,
-  SameMembers,
   ListedFacets,
+  SameCells,
 };
 ghost use Rattle.del_laws.specs.ListedParts.{
   ListedStar,
@@ -61,7 +61,7 @@ ghost use Rattle.del_laws.specs.ListedParts.{
   ClosedListIsComplex,
   ComplexIsClosedList,
 };
-ghost use Rattle.del_laws.specs.PointSets.{PointSet, has, solid, cell, vertices, plus, minus};
+ghost use Rattle.del_laws.specs.PointSets.{PointSet, solid, cell, vertices, minus, has_as_point, set_with};
 ghost use Rattle.del_laws.specs.Base.{Base};
 
 /// The vertices of a cell may stand in any order.
@@ -170,7 +170,7 @@ pub fn test_of_four_vertices()
 
 /// The few facts of geometry from which all laws of insertion and removal follow.
 pub fn base_of_edits()
-    ensures { Base PointSet has solid cell vertices plus minus }
+    ensures { Base PointSet has_as_point solid cell vertices set_with minus }
 {}
 
 /// The complex of a set, as its list, has exactly the cells of the set, each with its points in order.
@@ -184,7 +184,7 @@ pub fn listed_cells()
 /// The list of a complex is in the order of cells, and lists in this order are told by their members.
 pub fn order_of_cells()
     ensures sorted { ComplexIsSorted }
-    ensures same_members { SameMembers }
+    ensures same_members { SameCells }
 {}
 
 /// Every facet of every listed cell lies in exactly two listed cells.

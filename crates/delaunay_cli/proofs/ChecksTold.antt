@@ -26,7 +26,7 @@ use Rattle.mesh_reader.specs.Order.{IsInOrder}
 use Rattle.mesh_reader.proofs.Cited.{mesh_order, no_fault_of_mesh, one_mesh_of}
 use Rattle.mesh_check.specs.declared.flaw.Verdict.{Verdict}
 use Rattle.mesh_check.specs.declared.flaw.Verdict.TheVariants.{Good, Bad}
-use Rattle.mesh_check.specs.Flaws.{IsVerdict, listed}
+use Rattle.mesh_check.specs.Flaws.{IsVerdict, as_cells}
 use Rattle.mesh_check.specs.Text.{verdict_text}
 use Rattle.mesh_check.proofs.Cited.{flaw_is_true, flaw_shows, good_is_complex}
 use Rattle.delaunay_cli.specs.Checked.{
@@ -41,7 +41,7 @@ use Rattle.delaunay_cli.specs.Checked.{
 use Rattle.delaunay_cli.specs.Ends.{Ends}
 use Rattle.delaunay_cli.specs.Run.{mesh_limit}
 use Rattle.delaunay_cli.specs.Statuses.{IsEarly, IsWrittenWhole}
-use Rattle.delaunay_cli.specs.Words.{AreTaken, ReadsMesh}
+use Rattle.delaunay_cli.specs.Words.{ReadsMesh, AreWordsTaken}
 use Rattle.delaunay_cli.proofs.MeshJudged.{cells_of}
 use Rattle.delaunay_cli.proofs.Promised.{of_check}
 
@@ -50,17 +50,17 @@ status_tells : (mesh : MeshParts) (status : ℕ) (text : List ℕ) → IsInOrder
     (status ≡ 0 ↔ IsTrueMesh mesh) × (status ≡ 10 ↔ (IsTrueMesh mesh → ⊥))
 status_tells mesh status text o j = by j.verdict j.is_verdict j.status_is
   where
-    by : (v : Verdict) → IsVerdict mesh.points (listed mesh.cells mesh.hull) v → status ≡ status_of_verdict v →
+    by : (v : Verdict) → IsVerdict mesh.points (as_cells mesh.cells mesh.hull) v → status ≡ status_of_verdict v →
         (status ≡ 0 ↔ IsTrueMesh mesh) × (status ≡ 10 ↔ (IsTrueMesh mesh → ⊥))
     by Good v e =
-        let good : IsTrueMesh mesh = (good_is_complex mesh.points (listed mesh.cells mesh.hull) o.ascending
+        let good : IsTrueMesh mesh = (good_is_complex mesh.points (as_cells mesh.cells mesh.hull) o.ascending
         (record { below = o.keys }) (cells_of mesh o)).0 v in (
           (λ z. good, λ g. e),
           (λ t. absurd (omega (arith, e, t)), λ n. absurd (n good)),
         )
     by (Bad flaw) v e =
-        let bad : IsTrueMesh mesh → ⊥ = flaw_shows mesh.points (listed mesh.cells mesh.hull) flaw o.ascending
-        (record { below = o.keys }) (flaw_is_true mesh.points (listed mesh.cells mesh.hull) flaw v) in (
+        let bad : IsTrueMesh mesh → ⊥ = flaw_shows mesh.points (as_cells mesh.cells mesh.hull) flaw o.ascending
+        (record { below = o.keys }) (flaw_is_true mesh.points (as_cells mesh.cells mesh.hull) flaw v) in (
           (λ z. absurd (omega (arith, e, z)), λ g. absurd (bad g)),
           (λ t. bad, λ n. e),
         )
@@ -102,27 +102,27 @@ module _ {words : List (String Global)} {left left_after : Option (List ℕ)} {r
 
   -- and what is written is the text of the verdict on the mesh
   pub check_written : IsWrittenWhole status → IfSome left (λ bytes. (mesh : MeshParts) → IsMeshText bytes mesh →
-      (verdict : Verdict) × IsVerdict mesh.points (listed mesh.cells mesh.hull) verdict ×
+      (verdict : Verdict) × IsVerdict mesh.points (as_cells mesh.cells mesh.hull) verdict ×
       Appends held holds (verdict_text mesh.points verdict))
   check_written s = of_mesh
-      (λ bytes mesh. (verdict : Verdict) × IsVerdict mesh.points (listed mesh.cells mesh.hull) verdict ×
+      (λ bytes mesh. (verdict : Verdict) × IsVerdict mesh.points (as_cells mesh.cells mesh.hull) verdict ×
       Appends held holds (verdict_text mesh.points verdict))
       (λ bytes mesh o j. (j.verdict, j.is_verdict, subst (Appends held holds) j.text_is (e.whole s))) s
 
   -- on status 4 a front of that text is written
   pub check_front : status ≡ 4 → IfSome left (λ bytes. (mesh : MeshParts) → IsMeshText bytes mesh →
-      (verdict : Verdict) × IsVerdict mesh.points (listed mesh.cells mesh.hull) verdict ×
+      (verdict : Verdict) × IsVerdict mesh.points (as_cells mesh.cells mesh.hull) verdict ×
       AppendsFront held holds (verdict_text mesh.points verdict))
   check_front four =
       if_some (λ bytes. (late : ℕ) × IsChecked late e.text bytes)
       (λ bytes. (mesh : MeshParts) → IsMeshText bytes mesh →
-      (verdict : Verdict) × IsVerdict mesh.points (listed mesh.cells mesh.hull) verdict ×
+      (verdict : Verdict) × IsVerdict mesh.points (as_cells mesh.cells mesh.hull) verdict ×
       AppendsFront held holds (verdict_text mesh.points verdict)) left
       (λ bytes m mesh is. let j = told_of m.0 e.text bytes m.1 mesh is in
       (j.verdict, j.is_verdict, subst (AppendsFront held holds) j.text_is (e.front four))) ((of_check e w).cut four)
 
   -- of the text of a mesh within the limit a run ends with status 1 or one of a whole text
-  pub check_completes : AreTaken words → IfSome left (λ bytes. IsMeshWithin bytes → (read_failed → ⊥) →
+  pub check_completes : AreWordsTaken words → IfSome left (λ bytes. IsMeshWithin bytes → (read_failed → ⊥) →
       (write_failed → ⊥) → IsWrittenWhole status ⊎ (status ≡ 1))
   check_completes t = by left (of_check e w).verdict
     where

@@ -10,7 +10,7 @@ use Rattle.edit_history.specs.declared.history.Entry.{Entry}
 use Rattle.edit_history.specs.Edits.{point_of}
 use Rattle.edit_history.specs.Histories.{replay}
 use Rattle.edit_history.specs.Laws.{KeepsLaw, ReplayLaw}
-use Rattle.edit_history.specs.Opening.{Four, opening_four}
+use Rattle.edit_history.specs.Opening.{opening_four, FourPlaces}
 use Rattle.edit_history.specs.OneThread.{Keeps, one_thread, places}
 use Rattle.one_mesh.proofs.Cited.{found}
 pub use Rattle.one_mesh.proofs.Cited.{leaves_points, set_is}

@@ -60,7 +60,6 @@ use Rattle.delaunay_cli.specs.Words.{
   SayParts,
   SayShapeOrder,
   SaySteps,
-  AreTaken,
   DrawsFile,
   ReadsFile,
   ReadsSource,
@@ -93,6 +92,7 @@ use Rattle.delaunay_cli.specs.Words.{
   program,
   worker_count,
   texts_of,
+  AreWordsTaken,
 }
 use Rattle.delaunay_cli.specs.Tasks.{IsTask, IsTaskOf}
 use Rattle.delaunay_cli.specs.declared.task.Asked.{Asked}
@@ -176,14 +176,15 @@ parts_defaults name = (refl, refl, refl)
 -- so they are taken, ask for these and for the defaults, and read a file
 abbrev AreAsked : List (String Global) → Bool → Bool → Bool → Bool → Bool → Type 0
 AreAsked words shape order steps parts near =
-    (AreTaken words × (asks_shape words ≡ shape) × (asks_order words ≡ order)) ×
+    (AreWordsTaken words × (asks_shape words ≡ shape) × (asks_order words ≡ order)) ×
     ((worker_count words ≡ 1) × (grid_size words ≡ 4)) × ReadsFile words × (asks_steps words ≡ steps)
     × (asks_parts words ≡ parts) × (asks_near words ≡ near)
 
 -- words that are found to be these are taken and ask for these
 asked : (words : List (String Global)) (texts : List Text) (shape order steps parts near : Bool) →
     texts_of words ≡ texts → AreFound texts shape order steps parts near → AreAsked words shape order steps parts near
-unfolding AreTaken asks_order asks_shape asks_drawn asks_check asks_steps asks_parts asks_near worker_count grid_size
+unfolding AreWordsTaken asks_order asks_shape asks_drawn asks_check asks_steps asks_parts asks_near
+    worker_count grid_size
 asked words texts shape order steps parts near e found =
     let f = subst (λ (w : List Text). AreFound w shape order steps parts near) (sym e) found in
     (((f.0, ap is_grid_size f.4), f.1, f.2), (f.3, f.4), (f.5, f.6), f.7, f.8, f.9)
@@ -235,8 +236,8 @@ check_found name = (refl, refl, refl, refl)
 
 -- so it is taken, and asks for a verdict
 pub check_words : (words : List (String Global)) → SayCheck words →
-    AreTaken words × ReadsSource words × (asks_check words ≡ true)
-unfolding AreTaken asks_drawn asks_check grid_size
+    AreWordsTaken words × ReadsSource words × (asks_check words ≡ true)
+unfolding AreWordsTaken asks_drawn asks_check grid_size
 check_words words m =
     let f = subst (λ (w : List Text). (fault_of program w ≡ []) ×
     (number_of (codes "grid") 1 most_grid (subcommand_of program w) ≡ 1) ×
@@ -263,8 +264,8 @@ met_is a words met e h = h (ap is_simple e ∙ program_is_simple) ∙ ap (λ (p 
 pub taken : (a : App) (words : List (String Global)) (met : Option (Text × List Row)) → a ≡ program →
     (is_simple_and_free a ≡ true → fault_of a (texts_of words) ≡ [])
     → (is_simple a ≡ true → met ≡ subcommand_of a (texts_of words)) →
-    is_grid_size (number_of (codes "grid") 1 most_grid met) ≡ true → AreTaken words
-unfolding AreTaken grid_size
+    is_grid_size (number_of (codes "grid") 1 most_grid met) ≡ true → AreWordsTaken words
+unfolding AreWordsTaken grid_size
 taken a words met e h k g = (
   subst (λ (p : App). fault_of p (texts_of words) ≡ []) e (h (ap is_simple_and_free e ∙ program_is_simple_and_free)),
   subst (λ (m : Option (Text × List Row)). is_grid_size (number_of (codes "grid") 1 most_grid m) ≡ true)
@@ -280,8 +281,8 @@ task_is a words met task e k h = subst (λ (m : Option (Text × List Row)). IsTa
 -- a parse that succeeds with a grid of another size refuses them
 pub grid_refused : (a : App) (words : List (String Global)) (met : Option (Text × List Row)) → a ≡ program →
     (is_simple a ≡ true → met ≡ subcommand_of a (texts_of words))
-    → false ≡ is_grid_size (number_of (codes "grid") 1 most_grid met) → AreTaken words → ⊥
-unfolding AreTaken grid_size
+    → false ≡ is_grid_size (number_of (codes "grid") 1 most_grid met) → AreWordsTaken words → ⊥
+unfolding AreWordsTaken grid_size
 grid_refused a words met e k g t =
     let f = ap (λ (m : Option (Text × List Row)). is_grid_size (number_of (codes "grid") 1 most_grid m))
     (met_is a words met e k) in
@@ -298,8 +299,8 @@ none_among k (x ∷ kinds) e h = absurd (cc)
 -- a parse that fails otherwise than for want of memory refuses them
 pub refused : (a : App) (words : List (String Global)) (k : ErrorKind) → a ≡ program
     → (is_simple_and_free a ≡ true → (k ≡ OutOfMemory) ⊎ IsAmong k (fault_of a (texts_of words))) → k ≢ OutOfMemory →
-    AreTaken words → ⊥
-unfolding AreTaken
+    AreWordsTaken words → ⊥
+unfolding AreWordsTaken
 refused a words k e h n t =
     elim (h (ap is_simple_and_free e ∙ program_is_simple_and_free)) [
       | inl m ↦ n m

@@ -54,7 +54,7 @@ use Rattle.edit_history.specs.declared.history.Edit.TheVariants.{Add}
 use Rattle.edit_history.specs.declared.history.Entry.{Entry}
 use Rattle.edit_history.specs.Edits.{point_of, after}
 use Rattle.edit_history.specs.Histories.{IsLegal, entries_from}
-use Rattle.edit_history.specs.Opening.{Four, opening_four}
+use Rattle.edit_history.specs.Opening.{opening_four, FourPlaces}
 use Rattle.edit_history.specs.OneThread.{Keeps, line_of, lines_of_one_thread, one_thread, tagged_lines}
 use Rattle.edit_history.proofs.Cited.{keeps_law}
 use Rattle.plain_laws.specs.Running.{
@@ -201,7 +201,8 @@ pub points_many : (points : List ℕ) (four : List ℕ) → AreOpening points fo
     length (one_thread points []) ≡ length points
 points_many points four found =
     let kept : Keeps points [] 1 (one_thread points []) =
-    subst (λ (o : Option Four). IfSome o (λ _. Keeps points [] 1 (one_thread points []))) found.1 (keeps_law points [])
+    subst (λ (o : Option FourPlaces). IfSome o (λ _. Keeps points [] 1 (one_thread points []))) found.1
+    (keeps_law points [])
     in
     let p = length_permutation (tagged_lines points []) (map line_of (one_thread points [])) kept.lines in
     let n = numbered_length 0 (map Add points ++ []) in

@@ -15,7 +15,7 @@ use Rattle.delaunay_cli.specs.Page.{IsFitToWrite, text_of_page}
 use Rattle.delaunay_cli.specs.Run.{ReadsTo, limit_of}
 use Rattle.delaunay_cli.specs.Statuses.{HasText, IsToldLine, IsWrittenWhole, plain_line}
 use Rattle.delaunay_cli.specs.Stops.{line_of_stop, line_of_end, status_of, status_of_end, status_of_made}
-use Rattle.delaunay_cli.specs.Words.{AreTaken, ReadsSource, kind_of}
+use Rattle.delaunay_cli.specs.Words.{ReadsSource, AreWordsTaken, kind_of_words}
 use Rattle.delaunay_cli.proofs.Judging.{reads_front}
 use Rattle.delaunay_cli.proofs.TextStatuses.{no_other, stopped_only, whole_only}
 use Rattle.delaunay_cli.proofs.CommandPromises.{
@@ -42,12 +42,12 @@ module _ (words : List (String Global)) (left_old left_new : Option (List ℕ)) 
     (held holds : Option (List ℕ)) (write_failed : Type 0) where
   -- how much was read, where the source is
   abbrev HasRead : ℕ → Type 0
-  HasRead status = ReadsSource words → ReadsTo (limit_of (kind_of words)) left_old left_new status
+  HasRead status = ReadsSource words → ReadsTo (limit_of (kind_of_words words)) left_old left_new status
 
   -- a run that stopped before a write
   unmade : (status : ℕ) → (status ≤ 7) × (status ≢ 0) × (status ≢ 4) →
-      (status ≢ 1 → status ≡ 2 ↔ (AreTaken words → ⊥)) → (status ≡ 3 → read_failed)
-      → Promise (kind_of words) words left_old status [] [] → HasRead status →
+      (status ≢ 1 → status ≡ 2 ↔ (AreWordsTaken words → ⊥)) → (status ≡ 3 → read_failed)
+      → Promise (kind_of_words words) words left_old status [] [] → HasRead status →
       Keeps held holds
       → Ends words left_old left_new read_failed held holds write_failed status []
   unmade status n usage read promise reads keeps =
@@ -73,14 +73,14 @@ module _ (words : List (String Global)) (left_old left_new : Option (List ℕ)) 
       → Ends words left_old left_new read_failed held holds write_failed (status_of stop) []
   stopped Memory s reads keeps =
       unmade 1 (omega arith, λ e. omega (arith, e), λ e. omega (arith, e)) (λ n. absurd (n refl))
-      (λ e. absurd (omega (arith, e))) (promise_early (kind_of words) words left_old 1 (inl refl)) reads keeps
+      (λ e. absurd (omega (arith, e))) (promise_early (kind_of_words words) words left_old 1 (inl refl)) reads keeps
   stopped Usage s reads keeps =
       unmade 2 (omega arith, λ e. omega (arith, e), λ e. omega (arith, e)) (λ n. (λ e. s, λ k. refl))
-      (λ e. absurd (omega (arith, e))) (promise_early (kind_of words) words left_old 2 (inr refl)) reads keeps
+      (λ e. absurd (omega (arith, e))) (promise_early (kind_of_words words) words left_old 2 (inr refl)) reads keeps
   stopped stop s reads keeps =
-      let n = status_unmade (kind_of words) left_old read_failed stop s.1 in
+      let n = status_unmade (kind_of_words words) left_old read_failed stop s.1 in
       unmade (status_of stop) (n.0, n.1, n.3) (λ k. (λ e. absurd (n.2 e), λ t. absurd (t s.0))) n.4
-      (promise_unmade (kind_of words) words left_old read_failed stop s.1) reads keeps
+      (promise_unmade (kind_of_words words) words left_old read_failed stop s.1) reads keeps
 
   -- a run that wrote
   made : (late : ℕ) (h : List Entry) (text : List ℕ) → IsLegal h → IsMadeOfWords words left_old late h text →
@@ -102,7 +102,7 @@ module _ (words : List (String Global)) (left_old left_new : Option (List ℕ)) 
         to_its_end = λ r e. end r;
         legal = legal;
         text = text;
-        promise = promise_made (kind_of words) words left_old late h text m.1 status s;
+        promise = promise_made (kind_of_words words) words left_old late h text m.1 status s;
         whole = whole;
         front = front;
         none_kept = λ k. absurd (k has);
@@ -139,24 +139,24 @@ module _ (words : List (String Global)) (left_old left_new : Option (List ℕ)) 
           let k = subst IsWrittenWhole (sym z) l.0 in
           kept w.1 (made (status_of_end v.after) v.kept.items (text_of_page v.page) sound.legal m (λ r. end r refl)
           status (inl z) (inl k) (subst (λ (n : ℕ). n ≤ 10) (sym z) l.1)
-          (λ r. reads_front (limit_of (kind_of words)) left_old left_new status (reads r)) (λ f. absurd
+          (λ r. reads_front (limit_of (kind_of_words words)) left_old left_new status (reads r)) (λ f. absurd
           (whole_only status 4 k (omega arith) (omega arith) f)) (λ f. w.2)
           (λ f. absurd (whole_only status 4 k (omega arith) (omega arith) f)))
       by (inr (inl w)) =
           let z = e ∙ ap status_of_end w.0 in
           kept w.1 (made (status_of_end v.after) v.kept.items (text_of_page v.page) sound.legal m (λ r. end r refl)
           status (inr (z, w.4)) (inr z) (omega (arith, z))
-          (λ r. reads_front (limit_of (kind_of words)) left_old left_new status (reads r)) (λ f. w.2)
+          (λ r. reads_front (limit_of (kind_of_words words)) left_old left_new status (reads r)) (λ f. w.2)
           (λ f. absurd (whole_only status 4 f (omega arith) (omega arith) z)) (λ f. w.3))
       by (inr (inr w)) =
           subst (λ (n : ℕ). Ends words left_old left_new read_failed held holds write_failed n h)
           (sym (e ∙ ap status_of_end w.0))
           (subst (λ (l : List Entry). Ends words left_old left_new read_failed held holds write_failed 1 l) (sym w.1)
-          (stopped Memory tt (λ r. reads_stopped (limit_of (kind_of words)) left_old left_new (reads r)) w.2))
+          (stopped Memory tt (λ r. reads_stopped (limit_of (kind_of_words words)) left_old left_new (reads r)) w.2))
 
   -- and its line
   abbrev TheLine : ℕ → List ℕ → Type 0
-  TheLine status line = IsToldLine (kind_of words) left_old status line
+  TheLine status line = IsToldLine (kind_of_words words) left_old status line
 
   -- the line of the end is that of its status, of what was made or of why nothing was
   pub told : (m : Result Made Stop) (stop : Option Stop) (status : ℕ) (h : List Entry) → IfOk m IsFitToWrite →
@@ -164,7 +164,7 @@ module _ (words : List (String Global)) (left_old left_new : Option (List ℕ)) 
       → IfOk m (λ made. IsPutOut write_failed held holds (text_of_page made.page) made.after made.kept.items stop h) →
       IfErr m (λ s. (stop ≡ Some s) × (h ≡ []) × Keeps held holds) → TheLine status (line_of_end stop)
   told (Err s) stop status h sound u e put stopped_by =
-      subst (λ (n : ℕ). IsToldLine (kind_of words) left_old n (line_of_end stop)) (sym e)
+      subst (λ (n : ℕ). IsToldLine (kind_of_words words) left_old n (line_of_end stop)) (sym e)
       (subst (λ (o : Option Stop). TheLine (status_of_end o) (line_of_end o)) (sym stopped_by.0)
       (by s u))
     where
@@ -172,19 +172,19 @@ module _ (words : List (String Global)) (left_old left_new : Option (List ℕ)) 
       by (BadLine line) u = record {
         plain = λ n. absurd (n refl);
         bad =
-            λ k. fault_told (kind_of words) left_old read_failed line u.1;
+            λ k. fault_told (kind_of_words words) left_old read_failed line u.1;
       }
       by s u = record { plain = λ n. refl; bad = λ k. absurd (omega (arith, k)) }
   told (Ok v) stop status h sound u e put stopped_by = subst (λ (n : ℕ). TheLine n (line_of_end stop))
       (sym e) (by put)
     where
       at : (o : Option Stop) → stop ≡ o → line_of_end o ≡ plain_line (status_of_end o) → status_of_end o ≢ 5 →
-          IsToldLine (kind_of words) left_old (status_of_end stop) (line_of_end stop)
+          IsToldLine (kind_of_words words) left_old (status_of_end stop) (line_of_end stop)
       at o z l n = subst (λ (p : Option Stop). TheLine (status_of_end p) (line_of_end p)) (sym z)
           (record { plain = λ k. l; bad = λ k. absurd (n k) })
 
       by : IsPutOut write_failed held holds (text_of_page v.page) v.after v.kept.items stop h →
-          IsToldLine (kind_of words) left_old (status_of_end stop) (line_of_end stop)
+          IsToldLine (kind_of_words words) left_old (status_of_end stop) (line_of_end stop)
       by (inl w) = let l = late_whole v.after sound.late in at v.after w.0 l.2
           (λ k. whole_only (status_of_end v.after) 5 l.0 (omega arith) (omega arith) k)
       by (inr (inl w)) = at (Some WriteFault) w.0 refl (λ k. omega (arith, k))

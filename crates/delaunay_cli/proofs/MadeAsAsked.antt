@@ -24,7 +24,6 @@ use Rattle.delaunay_cli.specs.Stepped.{IsSteppedFile}
 use Rattle.delaunay_cli.specs.Run.{Reads, ReadsTo, input_limit, limit_of, mesh_limit}
 use Rattle.delaunay_cli.specs.Stops.{status_of_end}
 use Rattle.delaunay_cli.specs.Words.{
-  AreTaken,
   Checks,
   DrawsFile,
   Draws,
@@ -50,7 +49,8 @@ use Rattle.delaunay_cli.specs.Words.{
   asks_parts,
   asks_shape,
   asks_steps,
-  kind_of,
+  AreWordsTaken,
+  kind_of_words,
 }
 use Rattle.delaunay_cli.specs.Drawn.{IsDrawn}
 use Rattle.delaunay_cli.specs.Tasks.{IsTask}
@@ -63,7 +63,7 @@ kind_by drawn check steps parts near =
     cond drawn Draws (cond check Checks (cond steps Steps (cond parts Parts (cond near Queries Reports))))
 
 -- words that draw a file are of the kind that draws
-pub draws : (words : List (String Global)) → DrawsFile words → kind_of words ≡ Draws
+pub draws : (words : List (String Global)) → DrawsFile words → kind_of_words words ≡ Draws
 draws words d =
     ap (λ (b : Bool). kind_by b (asks_check words) (asks_steps words) (asks_parts words) (asks_near words)) d
 
@@ -75,26 +75,27 @@ checks_kind words r t =
 
 -- words that read a file are of the kind that their command tells
 file_kind : (words : List (String Global)) → ReadsFile words →
-    kind_of words ≡ kind_by false false (asks_steps words) (asks_parts words) (asks_near words)
+    kind_of_words words ≡ kind_by false false (asks_steps words) (asks_parts words) (asks_near words)
 file_kind words r =
     ap (λ (b : Bool). kind_by b (asks_check words) (asks_steps words) (asks_parts words) (asks_near words)) r.0
     ∙ ap (λ (b : Bool). kind_by false b (asks_steps words) (asks_parts words) (asks_near words)) r.1
 
 -- those of `steps`
-pub steps_kind : (words : List (String Global)) → ReadsFile words → asks_steps words ≡ true → kind_of words ≡ Steps
+pub steps_kind : (words : List (String Global)) → ReadsFile words → asks_steps words ≡ true →
+    kind_of_words words ≡ Steps
 steps_kind words r t =
     file_kind words r ∙ ap (λ (b : Bool). kind_by false false b (asks_parts words) (asks_near words)) t
 
 -- those of `parts`
 pub parts_kind : (words : List (String Global)) → ReadsFile words → asks_steps words ≡ false →
-    asks_parts words ≡ true → kind_of words ≡ Parts
+    asks_parts words ≡ true → kind_of_words words ≡ Parts
 parts_kind words r t p =
     file_kind words r ∙ ap (λ (d : Bool). kind_by false false d (asks_parts words) (asks_near words)) t
     ∙ ap (λ (d : Bool). kind_by false false false d (asks_near words)) p
 
 -- those of `near`, and of `mesh` and `shape`
 pub read_kind : (words : List (String Global)) (b : Bool) → ReadsFile words → asks_steps words ≡ false →
-    asks_parts words ≡ false → asks_near words ≡ b → kind_of words ≡ cond b Queries Reports
+    asks_parts words ≡ false → asks_near words ≡ b → kind_of_words words ≡ cond b Queries Reports
 read_kind words b r t p n =
     file_kind words r ∙ ap (λ (d : Bool). kind_by false false d (asks_parts words) (asks_near words)) t
     ∙ ap (λ (d : Bool). kind_by false false false d (asks_near words)) p
@@ -129,13 +130,13 @@ reading words k =
       ]
     ]
   where
-    drawn : kind_of words ≡ Draws → WritesOfFile words → ⊥
+    drawn : kind_of_words words ≡ Draws → WritesOfFile words → ⊥
     drawn e (inl w) = let z : Draws ≡ Reports = sym e ∙ w in cc
     drawn e (inr (inl w)) = let z : Draws ≡ Steps = sym e ∙ w in cc
     drawn e (inr (inr (inl w))) = let z : Draws ≡ Parts = sym e ∙ w in cc
     drawn e (inr (inr (inr w))) = let z : Draws ≡ Queries = sym e ∙ w in cc
 
-    checks : kind_of words ≡ Checks → WritesOfFile words → ⊥
+    checks : kind_of_words words ≡ Checks → WritesOfFile words → ⊥
     checks e (inl w) = let z : Checks ≡ Reports = sym e ∙ w in cc
     checks e (inr (inl w)) = let z : Checks ≡ Steps = sym e ∙ w in cc
     checks e (inr (inr (inl w))) = let z : Checks ≡ Parts = sym e ∙ w in cc
@@ -150,7 +151,7 @@ mesh_reading words w =
     ]
 
 -- what an edit file may have of bytes
-pub file_limit : (words : List (String Global)) → ReadsFile words → limit_of (kind_of words) ≡ input_limit
+pub file_limit : (words : List (String Global)) → ReadsFile words → limit_of (kind_of_words words) ≡ input_limit
 file_limit words r = elim (kind_read words r) [
   | inl k ↦ ap limit_of k
   | inr (inl k) ↦ ap limit_of k
@@ -160,18 +161,18 @@ file_limit words r = elim (kind_read words r) [
 
 -- how much was read is as it may be
 pub reads_within : (words : List (String Global)) (old new : Option (List ℕ)) (status : ℕ) → ReadsFile words →
-    Reads old new status → ReadsTo (limit_of (kind_of words)) old new status
+    Reads old new status → ReadsTo (limit_of (kind_of_words words)) old new status
 reads_within words old new status r k =
     subst (λ (limit : ℕ). ReadsTo limit old new status) (sym (file_limit words r)) k
 
 -- so with the text of a mesh
 pub mesh_within : (words : List (String Global)) (old new : Option (List ℕ)) (status : ℕ) → ReadsMesh words →
-    ReadsTo mesh_limit old new status → ReadsTo (limit_of (kind_of words)) old new status
+    ReadsTo mesh_limit old new status → ReadsTo (limit_of (kind_of_words words)) old new status
 mesh_within words old new status r k =
     subst (λ (kind : Kind). ReadsTo (limit_of kind) old new status) (sym r) k
 
 module _ (words : List (String Global)) (left : Option (List ℕ)) (failed : Type 0) (making : Making)
-    (taken : AreTaken words) where
+    (taken : AreWordsTaken words) where
   -- `mesh` and `shape`
   pub reported_made : (asked : Asked) → IsTask words (Report making asked) → (m : Result Made Stop)
       → IfOk m (λ made. IfSome left (IsReported making.workers asked.shape asked.order made.kept.items
@@ -193,7 +194,8 @@ module _ (words : List (String Global)) (left : Option (List ℕ)) (failed : Typ
       )
 
   -- and where no mesh is made
-  unmade_as : {A : Type 0} (kind : Kind) → kind_of words ≡ kind → (MakesNone kind left failed ≡ HasNoMesh left failed) →
+  unmade_as : {A : Type 0} (kind : Kind) → kind_of_words words ≡ kind →
+      (MakesNone kind left failed ≡ HasNoMesh left failed) →
       (m : Result A Stop) → IfErr m (HasNoMesh left failed) → IfErr m (IsUnmade words left failed)
   unmade_as kind k same (Ok made) u = tt
   unmade_as kind k same (Err Memory) u = tt
@@ -304,7 +306,7 @@ module _ (words : List (String Global)) (left : Option (List ℕ)) (failed : Typ
       )
 
 -- `check`
-module _ (words : List (String Global)) (left : Option (List ℕ)) (failed : Type 0) (taken : AreTaken words)
+module _ (words : List (String Global)) (left : Option (List ℕ)) (failed : Type 0) (taken : AreWordsTaken words)
     (t : IsTask words Check) where
   -- the words read the text of a mesh
   pub reads_mesh : ReadsMesh words

@@ -6,14 +6,14 @@ use Rattle.mesh_reader.specs.Grammar.{IsMeshText, MeshParts}
 use Rattle.mesh_reader.specs.Order.{IsInOrder}
 use Rattle.mesh_check.specs.declared.flaw.Verdict.{Verdict}
 use Rattle.mesh_check.specs.declared.flaw.Verdict.TheVariants.{Good, Bad}
-use Rattle.mesh_check.specs.Flaws.{AreCells, listed}
+use Rattle.mesh_check.specs.Flaws.{AreCells, as_cells}
 use Rattle.mesh_check.specs.Text.{IsTold}
 use Rattle.mesh_check.proofs.Cited.{cells_listed}
 use Rattle.delaunay_cli.specs.Checked.{IsChecked, IsJudged, TellsVerdict, status_of_verdict}
 use Rattle.delaunay_cli.specs.Run.{mesh_limit}
 
 -- its lists are as the check asks for
-pub cells_of : (mesh : MeshParts) → IsInOrder mesh → AreCells mesh.points (listed mesh.cells mesh.hull)
+pub cells_of : (mesh : MeshParts) → IsInOrder mesh → AreCells mesh.points (as_cells mesh.cells mesh.hull)
 cells_of mesh o =
     cells_listed mesh.points mesh.cells mesh.hull o.cells.sorted o.hull.sorted o.cells.ascending o.hull.ascending
     o.cells.inside o.hull.inside
@@ -21,12 +21,12 @@ cells_of mesh o =
 -- what is told of its lists is told of the mesh
 pub told_of_mesh : (mesh : MeshParts) (points : List ℕ) (cells hull : List (List ℕ)) (good : Bool) (status : ℕ)
     (text : List ℕ) → points ≡ mesh.points → cells ≡ mesh.cells → hull ≡ mesh.hull →
-    IsTold points (listed cells hull) good text → status ≡ cond good 0 10 → IsJudged mesh status text
+    IsTold points (as_cells cells hull) good text → status ≡ cond good 0 10 → IsJudged mesh status text
 told_of_mesh mesh points cells hull good status text p c h t e =
-    let of : IsTold mesh.points (listed mesh.cells mesh.hull) good text =
-    subst (λ (s : List ℕ). IsTold s (listed mesh.cells mesh.hull) good text) p
-    (subst (λ (l : List (List ℕ)). IsTold points (listed l mesh.hull) good text) c
-    (subst (λ (l : List (List ℕ)). IsTold points (listed cells l) good text) h t)) in
+    let of : IsTold mesh.points (as_cells mesh.cells mesh.hull) good text =
+    subst (λ (s : List ℕ). IsTold s (as_cells mesh.cells mesh.hull) good text) p
+    (subst (λ (l : List (List ℕ)). IsTold points (as_cells l mesh.hull) good text) c
+    (subst (λ (l : List (List ℕ)). IsTold points (as_cells cells l) good text) h t)) in
     record {
       verdict = of.verdict;
       is_verdict = of.is_verdict;

@@ -55,7 +55,6 @@ use Rattle.delaunay_cli.specs.Words.{
   SayGenText,
   SayMeshing,
   SayPartsAt,
-  AreTaken,
   DrawsFile,
   ReadsFile,
   asked_alpha,
@@ -85,6 +84,7 @@ use Rattle.delaunay_cli.specs.Words.{
   program,
   texts_of,
   worker_count,
+  AreWordsTaken,
 }
 
 -- ---- the decimal text of a number
@@ -204,9 +204,9 @@ gen_text_found name c s = (
 -- so they are taken, and ask for the file of the count and the start
 gen_asked : (words : List (String Global)) (texts : List Text) (count start : ℕ) (text : Bool) → count ≤ most_count →
     start ≤ most_start → texts_of words ≡ texts → AreFoundGen texts (decimal count) (decimal start) text →
-    AreTaken words × DrawsFile words × (drawn_count words ≡ count) × (drawn_start words ≡ start) ×
+    AreWordsTaken words × DrawsFile words × (drawn_count words ≡ count) × (drawn_start words ≡ start) ×
     (asks_text words ≡ text)
-unfolding AreTaken grid_size asks_drawn drawn_count drawn_start asks_text
+unfolding AreWordsTaken grid_size asks_drawn drawn_count drawn_start asks_text
 gen_asked words texts count start text few small e found =
     let f = subst (λ (w : List Text). AreFoundGen w (decimal count) (decimal start) text) (sym e) found in (
       (
@@ -223,7 +223,7 @@ gen_asked words texts count start text few small e found =
 -- the words `gen`, `--count=N` and `--start=M` ask for the file of N and M, and with `--text` for its text
 pub gen_words : (words : List (String Global)) (count start : ℕ) → count ≤ most_count → start ≤ most_start →
     SayGen count start words →
-    AreTaken words × DrawsFile words × (drawn_count words ≡ count) × (drawn_start words ≡ start) ×
+    AreWordsTaken words × DrawsFile words × (drawn_count words ≡ count) × (drawn_start words ≡ start) ×
     (asks_text words ≡ false)
 unfolding gen_texts
 gen_words words count start few small m = gen_asked words (gen_texts m.0 (decimal count) (decimal start) []) count start
@@ -232,7 +232,7 @@ gen_words words count start few small m = gen_asked words (gen_texts m.0 (decima
 -- the same words with `--text`
 pub gen_text_words : (words : List (String Global)) (count start : ℕ) → count ≤ most_count → start ≤ most_start →
     SayGenText count start words →
-    AreTaken words × DrawsFile words × (drawn_count words ≡ count) × (drawn_start words ≡ start) ×
+    AreWordsTaken words × DrawsFile words × (drawn_count words ≡ count) × (drawn_start words ≡ start) ×
     (asks_text words ≡ true)
 unfolding gen_texts
 gen_text_words words count start few small m = gen_asked words (gen_texts m.0 (decimal count) (decimal start)
@@ -293,10 +293,12 @@ parts_at_found name a m i = (
 parts_asked_at : (words : List (String Global)) (texts : List Text) (alpha most index : ℕ) → alpha ≤ most_alpha →
     most ≤ most_index → index ≤ most_index → texts_of words ≡ texts →
     AreFoundParts texts (decimal alpha) (decimal most) (decimal index) →
-    AreTaken words × (worker_count words ≡ 1) × (grid_size words ≡ 4) × ReadsFile words × (asks_steps words ≡ false)
+    AreWordsTaken words × (worker_count words ≡ 1) × (grid_size words ≡ 4) × ReadsFile words
+    × (asks_steps words ≡ false)
     × (asks_parts words ≡ true) × (asked_alpha words ≡ alpha) × (asked_most words ≡ most)
     × (asked_index words ≡ Some index)
-unfolding AreTaken grid_size worker_count asks_drawn asks_check asks_steps asks_parts asked_alpha asked_most asked_index
+unfolding AreWordsTaken grid_size worker_count asks_drawn asks_check asks_steps asks_parts asked_alpha
+    asked_most asked_index
 parts_asked_at words texts alpha most index a m i e found =
     let f = subst (λ (w : List Text). AreFoundParts w (decimal alpha) (decimal most) (decimal index)) (sym e) found in (
       (
@@ -318,7 +320,8 @@ parts_asked_at words texts alpha most index a m i e found =
 -- the words `parts`, `--alpha=A`, `--most=K` and `--off=I` ask for A, K and I
 pub parts_at_words : (words : List (String Global)) (alpha most index : ℕ) → alpha ≤ most_alpha → most ≤ most_index →
     index ≤ most_index → SayPartsAt alpha most index words →
-    AreTaken words × (worker_count words ≡ 1) × (grid_size words ≡ 4) × ReadsFile words × (asks_steps words ≡ false)
+    AreWordsTaken words × (worker_count words ≡ 1) × (grid_size words ≡ 4) × ReadsFile words
+    × (asks_steps words ≡ false)
     × (asks_parts words ≡ true) × (asked_alpha words ≡ alpha) × (asked_most words ≡ most)
     × (asked_index words ≡ Some index)
 unfolding parts_texts
@@ -439,7 +442,7 @@ near_found name w g = (
 -- so they are taken, and ask for these workers and this grid
 abbrev AreAskedMeshing : List (String Global) → ℕ → ℕ → Bool → Bool → Bool → Bool → Type 0
 AreAskedMeshing words workers grid shape steps parts near =
-    AreTaken words × (worker_count words ≡ workers) × (grid_size words ≡ grid) × (asks_shape words ≡ shape) ×
+    AreWordsTaken words × (worker_count words ≡ workers) × (grid_size words ≡ grid) × (asks_shape words ≡ shape) ×
     ReadsFile words × (asks_steps words ≡ steps) × (asks_parts words ≡ parts) ×
     (asks_near words ≡ near)
 
@@ -448,7 +451,7 @@ meshing_asked : (words : List (String Global)) (texts : List Text) (workers grid
     0 < workers → workers ≤ most_workers → is_grid_size grid ≡ true → texts_of words ≡ texts
     → AreFoundMeshing texts (decimal workers) (decimal grid) shape steps parts near →
     AreAskedMeshing words workers grid shape steps parts near
-unfolding AreTaken asks_drawn asks_check worker_count grid_size asks_shape asks_steps asks_parts asks_near
+unfolding AreWordsTaken asks_drawn asks_check worker_count grid_size asks_shape asks_steps asks_parts asks_near
 meshing_asked words texts workers grid shape steps parts near some few size e found =
     let f = subst (λ (w : List Text). AreFoundMeshing w (decimal workers) (decimal grid) shape steps parts near) (sym e)
     found in

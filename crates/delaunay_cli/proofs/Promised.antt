@@ -68,7 +68,6 @@ use Rattle.delaunay_cli.specs.Stepped.{IsStepped, StepEnds}
 use Rattle.delaunay_cli.specs.Run.{IsKept, IsSolidFile, Writes, WritesFront, input_limit}
 use Rattle.delaunay_cli.specs.Statuses.{HasText, IsEarly, IsWrittenWhole}
 use Rattle.delaunay_cli.specs.Words.{
-  AreTaken,
   Checks,
   Draws,
   DrawsFile,
@@ -89,8 +88,9 @@ use Rattle.delaunay_cli.specs.Words.{
   asks_order,
   asks_shape,
   asks_text,
-  kind_of,
   worker_count,
+  AreWordsTaken,
+  kind_of_words,
 }
 use Rattle.delaunay_cli.proofs.MadeAsAsked.{draws, kind_read, reading}
 use Rattle.delaunay_cli.proofs.TextStatuses.{has_text, stopped_only}
@@ -230,7 +230,7 @@ module _ {words : List (String Global)} {left left_after : Option (List ℕ)} {r
   -- how high the status is, and of what command
   pub highest : (status ≤ 10) × ((status ≡ 8) ⊎ (status ≡ 9) → WritesParts words) × (status ≡ 10 → ReadsMesh words)
   unfolding IsUpTo
-  highest = up_to_10 (kind_of words) words left status kept e.text e.promise
+  highest = up_to_10 (kind_of_words words) words left status kept e.text e.promise
 
   -- the status is none of a text
   pub no_text : status ≢ 0 → status ≢ 4 → status ≤ 7 → HasText status → ⊥
@@ -340,7 +340,7 @@ module _ {words : List (String Global)} {left left_after : Option (List ℕ)} {r
       kept e.legal m.0
 
   -- of a solid file within the limit a run ends with status 1 or one of a whole text
-  pub completes : AreTaken words → ReadsFile words → IfSome left (λ bytes. IsSolidFile bytes → (read_failed → ⊥) →
+  pub completes : AreWordsTaken words → ReadsFile words → IfSome left (λ bytes. IsSolidFile bytes → (read_failed → ⊥) →
       (write_failed → ⊥) → IsWrittenWhole status ⊎ (status ≡ 1))
   completes w k = by left (verdict k)
     where
@@ -371,7 +371,7 @@ module _ {words : List (String Global)} {left left_after : Option (List ℕ)} {r
           ]
 
   -- and of a command other than `parts` with 0 or 1
-  pub completes_plainly : AreTaken words → WritesReport words ⊎ WritesSteps words ⊎ WritesNear words →
+  pub completes_plainly : AreWordsTaken words → WritesReport words ⊎ WritesSteps words ⊎ WritesNear words →
       IfSome left (λ bytes. IsSolidFile bytes → (read_failed → ⊥) → (write_failed → ⊥) → (status ≡ 0) ⊎ (status ≡ 1))
   completes_plainly w k =
       let few : status ≤ 7 = elim k [
@@ -535,7 +535,7 @@ module _ {words : List (String Global)} {left left_after : Option (List ℕ)} {r
       ]
 
   -- a drawn file ends a run with status 0 or 1
-  pub drawn_completes : AreTaken words → DrawsFile words → (write_failed → ⊥) → (status ≡ 0) ⊎ (status ≡ 1)
+  pub drawn_completes : AreWordsTaken words → DrawsFile words → (write_failed → ⊥) → (status ≡ 0) ⊎ (status ≡ 1)
   drawn_completes w d nw =
       elim (cases_eq status 1) [
         | inl k ↦ inr k

@@ -26,7 +26,7 @@ use Rattle.alpha_complex.specs.Admitted.{kind}
 use Rattle.alpha_complex.specs.Shapes.{ShapeParts, shape_of, shape_seen}
 use Rattle.alpha_complex.specs.Slots.{ShapeSlots}
 use Rattle.mesh_files.specs.Report.{AreCountedInOrder, shapes_seen}
-use Rattle.mesh_files.specs.Text.{counted}
+use Rattle.mesh_files.specs.Text.{counted_points}
 use Rattle.edit_files.specs.Versions.{alpha_of}
 use Rattle.edit_files.specs.declared.version.Version.{Version}
 
@@ -71,7 +71,7 @@ shapes_lent v seen s lent_points radii lent_radii e p r =
     ∙ ap (λ (l : List ℕ). map (λ radius. (radius, shape_of s (alpha_of v radius))) l) r
 
 -- the points of a shape, without their kinds, are those of the set
-points_are : (s : List ℕ) (alpha : ℕ) → counted (shape_of s alpha) ≡ s
+points_are : (s : List ℕ) (alpha : ℕ) → counted_points (shape_of s alpha) ≡ s
 points_are s alpha = firsts s
   where
     -- each point by itself
@@ -89,6 +89,6 @@ shapes_counted v radii s a = record {
   where
     -- the shape of a radius
     by : (p : ℕ × ShapeParts) → ((r : ℕ) × IsIn r radii × ((r, shape_of s (alpha_of v r)) ≡ p)) →
-        IsAscending (counted p.1)
-    by p k = subst (λ (x : ℕ × ShapeParts). IsAscending (counted x.1)) k.2 (subst IsAscending
+        IsAscending (counted_points p.1)
+    by p k = subst (λ (x : ℕ × ShapeParts). IsAscending (counted_points x.1)) k.2 (subst IsAscending
         (sym (points_are s (alpha_of v k.0))) a)

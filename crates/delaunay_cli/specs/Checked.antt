@@ -8,7 +8,7 @@ use Rattle.mesh_reader.specs.Grammar.{IsMeshText, MeshParts}
 use Rattle.mesh_reader.specs.Order.{IsInOrder}
 use Rattle.mesh_reader.specs.Pieces.{HasTaken}
 use Rattle.mesh_check.specs.declared.flaw.Verdict.{Verdict}
-use Rattle.mesh_check.specs.Flaws.{IsVerdict, listed}
+use Rattle.mesh_check.specs.Flaws.{IsVerdict, as_cells}
 use Rattle.mesh_check.specs.Laws.{IsComplex}
 use Rattle.mesh_check.specs.Text.{is_good, verdict_text}
 use Rattle.delaunay_cli.specs.declared.stop.Stop.{Stop}
@@ -23,7 +23,7 @@ status_of_verdict verdict = if is_good verdict then 0 else 10
 -- What is told of a mesh: the status and the text of the verdict on it.
 pub record IsJudged (mesh : MeshParts) (status : ℕ) (text : List ℕ) : Type 0 where
   pub verdict : Verdict
-  pub is_verdict : IsVerdict mesh.points (listed mesh.cells mesh.hull) verdict
+  pub is_verdict : IsVerdict mesh.points (as_cells mesh.cells mesh.hull) verdict
   pub status_is : status ≡ status_of_verdict verdict
   pub text_is : text ≡ verdict_text mesh.points verdict
 
@@ -61,7 +61,7 @@ IsUnchecked left failed stop = ⊥
 
 -- the mesh is the complex of its points, which are solid
 abbrev pub IsTrueMesh : MeshParts → Type 0
-IsTrueMesh mesh = IsComplex mesh.points (listed mesh.cells mesh.hull)
+IsTrueMesh mesh = IsComplex mesh.points (as_cells mesh.cells mesh.hull)
 
 -- the bytes, within the limit, are the text of a mesh
 abbrev pub IsMeshWithin : List ℕ → Type 0

@@ -10,17 +10,17 @@ use Rattle.delaunay_cli.specs.declared.stop.Stop.TheVariants.{Memory, Usage, Wri
 use Rattle.delaunay_cli.specs.Commands.{Makes, MakesNone, Promise}
 use Rattle.delaunay_cli.specs.Run.{ReadsTo, limit_of}
 use Rattle.delaunay_cli.specs.Statuses.{HasText, IsWrittenWhole}
-use Rattle.delaunay_cli.specs.Words.{AreTaken, ReadsSource, kind_of}
+use Rattle.delaunay_cli.specs.Words.{ReadsSource, AreWordsTaken, kind_of_words}
 
 -- the words are taken, and this is the history and the text that their command makes
 abbrev pub IsMadeOfWords : List (String Global) → Option (List ℕ) → ℕ → List Entry → List ℕ → Type 0
-IsMadeOfWords words left late h text = AreTaken words × Makes (kind_of words) words left late h text
+IsMadeOfWords words left late h text = AreWordsTaken words × Makes (kind_of_words words) words left late h text
 
 -- why nothing is made, where the source had these bytes left, and by whether it failed
 abbrev pub IsUnmade : List (String Global) → Option (List ℕ) → Type 0 → Stop → Type 0
 IsUnmade words left failed Memory = ⊤
-IsUnmade words left failed Usage = AreTaken words → ⊥
-IsUnmade words left failed stop = AreTaken words × MakesNone (kind_of words) left failed stop
+IsUnmade words left failed Usage = AreWordsTaken words → ⊥
+IsUnmade words left failed stop = AreWordsTaken words × MakesNone (kind_of_words words) left failed stop
 
 -- why a text is not put whole: for want of memory, before anything of it, or behind a front of it, where the output
 -- failed
@@ -43,14 +43,14 @@ IsPutOut failed held holds text after kept stop h =
 pub record Ends (words : List (String Global)) (left_old left_new : Option (List ℕ)) (read_failed : Type 0)
     (held holds : Option (List ℕ)) (write_failed : Type 0) (status : ℕ) (h : List Entry) : Type 0 where
   pub statuses : status ≤ 10
-  pub usage : status ≢ 1 → (status ≡ 2 ↔ (AreTaken words → ⊥))
+  pub usage : status ≢ 1 → (status ≡ 2 ↔ (AreWordsTaken words → ⊥))
   pub read_fault : status ≡ 3 → read_failed
   pub write_fault : status ≡ 4 → write_failed
-  pub reads : ReadsSource words → ReadsTo (limit_of (kind_of words)) left_old left_new status
+  pub reads : ReadsSource words → ReadsTo (limit_of (kind_of_words words)) left_old left_new status
   pub to_its_end : ReadsSource words → IsWrittenWhole status → IsAtEnd left_new
   pub legal : IsLegal h
   pub text : List ℕ
-  pub promise : Promise (kind_of words) words left_old status h text
+  pub promise : Promise (kind_of_words words) words left_old status h text
   pub whole : IsWrittenWhole status → Appends held holds text
   pub front : status ≡ 4 → AppendsFront held holds text
   pub none_kept : (HasText status → ⊥) → h ≡ []

@@ -6,21 +6,21 @@ use Rattle.edit_files.specs.Content.{Content}
 use Rattle.edit_files.specs.Writing.{file_text}
 use Rattle.mesh_files.specs.Summary.{summary_text}
 use Rattle.mesh_files.specs.Text.{ReportParts, report_text}
-use Rattle.plain_laws.specs.Plain.{lines_of, plain_replies, plain_set}
+use Rattle.plain_laws.specs.Plain.{plain_replies, plain_set, all_edits}
 use Rattle.delaunay_cli.specs.Drawn.{drawn_file}
 use Rattle.delaunay_cli.specs.Report.{shapes_of}
 use Rattle.delaunay_cli.specs.Words.{asks_text}
 
 -- the points that a file leaves, as its lines tell them
 abbrev pub plain_points : Content → List ℕ
-plain_points file = plain_set (lines_of file.points file.edits)
+plain_points file = plain_set (all_edits file.points file.edits)
 
 -- the report that a file's lines tell by themselves, with a shape for each of its radii or none, and without an order
 -- block
 abbrev pub plain_report : Bool → Content → ReportParts
 plain_report shape file =
     record {
-      replies = plain_replies (lines_of file.points file.edits);
+      replies = plain_replies (all_edits file.points file.edits);
       points = plain_points file;
       cells = complex (plain_points file);
       shapes = shapes_of shape file.version file.radii (plain_points file);

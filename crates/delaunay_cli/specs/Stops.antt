@@ -17,7 +17,7 @@ use Rattle.delaunay_cli.specs.declared.stop.Stop.TheVariants.{
   BadMesh,
 }
 use Rattle.delaunay_cli.specs.Statuses.{plain_line}
-use Rattle.delaunay_cli.specs.Words.{AreTaken}
+use Rattle.delaunay_cli.specs.Words.{AreWordsTaken}
 
 abbrev pub status_of : Stop → ℕ
 status_of Memory = 1
@@ -65,4 +65,4 @@ stop_of_read NoRoom = Memory
 
 -- why words are not read
 abbrev pub AreRefused : List (String Global) → Stop → Type 0
-AreRefused words stop = (stop ≡ Memory) ⊎ ((stop ≡ Usage) × (AreTaken words → ⊥))
+AreRefused words stop = (stop ≡ Memory) ⊎ ((stop ≡ Usage) × (AreWordsTaken words → ⊥))

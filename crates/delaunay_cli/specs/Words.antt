@@ -308,8 +308,8 @@ unfoldable pub grid_size : List (String Global) → ℕ
 grid_size words = number_of (codes "grid") 1 most_grid (subcommand_of program (texts_of words))
 
 -- the program takes the words: as `clap` reads them, nothing is at fault, and there is a grid of the size
-unfoldable pub AreTaken : List (String Global) → Type 0
-AreTaken words = (fault_of program (texts_of words) ≡ []) × (is_grid_size (grid_size words) ≡ true)
+unfoldable pub AreWordsTaken : List (String Global) → Type 0
+AreWordsTaken words = (fault_of program (texts_of words) ≡ []) × (is_grid_size (grid_size words) ≡ true)
 
 -- what a command does: it writes the report of a file that it reads (`mesh` and `shape`), its least alphas (`steps`),
 -- its solid parts (`parts`) or the answers to its queries (`near`), it judges a mesh that it reads (`check`), or it
@@ -323,8 +323,8 @@ pub data Kind : Type 0 where
   Draws : Kind
 
 -- what the command of the words does
-abbrev pub kind_of : List (String Global) → Kind
-kind_of words =
+abbrev pub kind_of_words : List (String Global) → Kind
+kind_of_words words =
     if asks_drawn words then Draws
     else (if asks_check words then Checks
     else (if asks_steps words then Steps
@@ -332,19 +332,19 @@ kind_of words =
 
 -- the report of a file is written
 abbrev pub WritesReport : List (String Global) → Type 0
-WritesReport words = kind_of words ≡ Reports
+WritesReport words = kind_of_words words ≡ Reports
 
 -- the least alphas of a file are written
 abbrev pub WritesSteps : List (String Global) → Type 0
-WritesSteps words = kind_of words ≡ Steps
+WritesSteps words = kind_of_words words ≡ Steps
 
 -- the solid parts of a file are written, or the boundary of one
 abbrev pub WritesParts : List (String Global) → Type 0
-WritesParts words = kind_of words ≡ Parts
+WritesParts words = kind_of_words words ≡ Parts
 
 -- the answers to the queries of a file are written
 abbrev pub WritesNear : List (String Global) → Type 0
-WritesNear words = kind_of words ≡ Queries
+WritesNear words = kind_of_words words ≡ Queries
 
 -- the source is read
 abbrev pub ReadsSource : List (String Global) → Type 0
@@ -356,7 +356,7 @@ ReadsFile words = ReadsSource words × (asks_check words ≡ false)
 
 -- the text of a mesh is read, and judged
 abbrev pub ReadsMesh : List (String Global) → Type 0
-ReadsMesh words = kind_of words ≡ Checks
+ReadsMesh words = kind_of_words words ≡ Checks
 
 -- a file is drawn, and the source is not read
 abbrev pub DrawsFile : List (String Global) → Type 0

@@ -34,7 +34,7 @@ ghost use Rattle.near_vertex.specs.declared.answers.Near.{Near};
 ghost use Rattle.near_vertex.specs.Answers.{AreNear};
 ghost use Rattle.near_vertex.specs.Text.{near_text};
 ghost use Rattle.mesh_check.specs.declared.flaw.Verdict.{Verdict};
-ghost use Rattle.mesh_check.specs.Flaws.{IsVerdict, listed};
+ghost use Rattle.mesh_check.specs.Flaws.{IsVerdict, as_cells};
 ghost use Rattle.mesh_check.specs.Text.{verdict_text};
 ghost use Rattle.delaunay_cli.specs.Checked.{HasMeshFault, IsTrueMesh, IsMeshWithin};
 ghost use Rattle.delaunay_cli.specs.Taken.{file_limits};
@@ -57,7 +57,6 @@ ghost use Rattle.delaunay_cli.specs.Words.{
   SayShape,
   SayShapeOrder,
   SaySteps,
-  AreTaken,
   DrawsFile,
   ReadsFile,
   ReadsMesh,
@@ -81,6 +80,7 @@ ghost use Rattle.delaunay_cli.specs.Words.{
   most_start,
   most_workers,
   worker_count,
+  AreWordsTaken,
 };
 
 /// The words `mesh` and `shape` alone are taken, and ask for no order block; with `--order` they ask for it. Both write
@@ -91,53 +91,53 @@ ghost use Rattle.delaunay_cli.specs.Words.{
 /// The words `gen`, `--count=N` and `--start=M` are taken for every count and start, and with `--text` ask for the
 /// file's text.
 pub fn words_are_taken()
-    ensures mesh { (words : List (String Global)) → SayMesh words → AreTaken words × (asks_shape words ≡ false)
+    ensures mesh { (words : List (String Global)) → SayMesh words → AreWordsTaken words × (asks_shape words ≡ false)
         × (asks_order words ≡ false) }
     ensures mesh_order { (words : List (String Global)) → SayMeshOrder words
-        → AreTaken words × (asks_shape words ≡ false) × (asks_order words ≡ true) }
-    ensures shape { (words : List (String Global)) → SayShape words → AreTaken words × (asks_shape words ≡ true)
+        → AreWordsTaken words × (asks_shape words ≡ false) × (asks_order words ≡ true) }
+    ensures shape { (words : List (String Global)) → SayShape words → AreWordsTaken words × (asks_shape words ≡ true)
         × (asks_order words ≡ false) }
     ensures shape_order { (words : List (String Global)) → SayShapeOrder words
-        → AreTaken words × (asks_shape words ≡ true) × (asks_order words ≡ true) }
+        → AreWordsTaken words × (asks_shape words ≡ true) × (asks_order words ≡ true) }
     ensures one_worker { (words : List (String Global)) →
         SayMesh words ⊎ SayMeshOrder words ⊎ SayShape words ⊎ SayShapeOrder words
         → (worker_count words ≡ 1) × (grid_size words ≡ 4) }
     ensures report { (words : List (String Global)) →
         SayMesh words ⊎ SayMeshOrder words ⊎ SayShape words ⊎ SayShapeOrder words → WritesReport words }
-    ensures steps { (words : List (String Global)) → SaySteps words → AreTaken words × WritesSteps words
+    ensures steps { (words : List (String Global)) → SaySteps words → AreWordsTaken words × WritesSteps words
         × (worker_count words ≡ 1) × (grid_size words ≡ 4) }
-    ensures parts { (words : List (String Global)) → SayParts words → AreTaken words × WritesParts words
+    ensures parts { (words : List (String Global)) → SayParts words → AreWordsTaken words × WritesParts words
         × (worker_count words ≡ 1) × (grid_size words ≡ 4) × (asked_alpha words ≡ 0) × (asked_most words ≡ 0)
         × (asked_index words ≡ None) }
-    ensures near { (words : List (String Global)) → SayNear words → AreTaken words × WritesNear words
+    ensures near { (words : List (String Global)) → SayNear words → AreWordsTaken words × WritesNear words
         × (worker_count words ≡ 1) × (grid_size words ≡ 4) }
-    ensures check { (words : List (String Global)) → SayCheck words → AreTaken words × ReadsMesh words }
+    ensures check { (words : List (String Global)) → SayCheck words → AreWordsTaken words × ReadsMesh words }
     ensures parts_at { (words : List (String Global)) (alpha most index : ℕ) → alpha ≤ most_alpha
         → most ≤ most_index → index ≤ most_index → SayPartsAt alpha most index words
-        → AreTaken words × WritesParts words × (worker_count words ≡ 1) × (grid_size words ≡ 4)
+        → AreWordsTaken words × WritesParts words × (worker_count words ≡ 1) × (grid_size words ≡ 4)
         × (asked_alpha words ≡ alpha) × (asked_most words ≡ most) × (asked_index words ≡ Some index) }
     ensures mesh_workers { (words : List (String Global)) (workers grid : ℕ) → 0 < workers → workers ≤ most_workers
-        → is_grid_size grid ≡ true → SayMeshing (codes "mesh") workers grid words → AreTaken words
+        → is_grid_size grid ≡ true → SayMeshing (codes "mesh") workers grid words → AreWordsTaken words
         × (worker_count words ≡ workers) × (grid_size words ≡ grid) × (asks_shape words ≡ false)
         × WritesReport words }
     ensures shape_workers { (words : List (String Global)) (workers grid : ℕ) → 0 < workers → workers ≤ most_workers
-        → is_grid_size grid ≡ true → SayMeshing (codes "shape") workers grid words → AreTaken words
+        → is_grid_size grid ≡ true → SayMeshing (codes "shape") workers grid words → AreWordsTaken words
         × (worker_count words ≡ workers) × (grid_size words ≡ grid) × (asks_shape words ≡ true)
         × WritesReport words }
     ensures steps_workers { (words : List (String Global)) (workers grid : ℕ) → 0 < workers → workers ≤ most_workers
-        → is_grid_size grid ≡ true → SayMeshing (codes "steps") workers grid words → AreTaken words
+        → is_grid_size grid ≡ true → SayMeshing (codes "steps") workers grid words → AreWordsTaken words
         × (worker_count words ≡ workers) × (grid_size words ≡ grid) × WritesSteps words }
     ensures parts_workers { (words : List (String Global)) (workers grid : ℕ) → 0 < workers → workers ≤ most_workers
-        → is_grid_size grid ≡ true → SayMeshing (codes "parts") workers grid words → AreTaken words
+        → is_grid_size grid ≡ true → SayMeshing (codes "parts") workers grid words → AreWordsTaken words
         × (worker_count words ≡ workers) × (grid_size words ≡ grid) × WritesParts words }
     ensures near_workers { (words : List (String Global)) (workers grid : ℕ) → 0 < workers → workers ≤ most_workers
-        → is_grid_size grid ≡ true → SayMeshing (codes "near") workers grid words → AreTaken words
+        → is_grid_size grid ≡ true → SayMeshing (codes "near") workers grid words → AreWordsTaken words
         × (worker_count words ≡ workers) × (grid_size words ≡ grid) × WritesNear words }
     ensures generator { (words : List (String Global)) (count start : ℕ) → count ≤ most_count → start ≤ most_start
-        → SayGen count start words → AreTaken words × DrawsFile words × (drawn_count words ≡ count)
+        → SayGen count start words → AreWordsTaken words × DrawsFile words × (drawn_count words ≡ count)
         × (drawn_start words ≡ start) × (asks_text words ≡ false) }
     ensures generator_text { (words : List (String Global)) (count start : ℕ) → count ≤ most_count
-        → start ≤ most_start → SayGenText count start words → AreTaken words × DrawsFile words
+        → start ≤ most_start → SayGenText count start words → AreWordsTaken words × DrawsFile words
         × (drawn_count words ≡ count) × (drawn_start words ≡ start) × (asks_text words ≡ true) }
     ensures read { (words : List (String Global))
         → WritesReport words ⊎ WritesSteps words ⊎ WritesParts words ⊎ WritesNear words → ReadsFile words }
@@ -184,7 +184,7 @@ pub fn run_that_parts()
     ensures front { (r : ARun) → WritesParts r.words → r.status ≡ 4
         → IfSome r.left (λ bytes. (text : List ℕ) × IsParted (replay r.kept) (asked_alpha r.words)
         (asked_most r.words) (asked_index r.words) 0 text × AppendsFront r.held r.holds text) }
-    ensures complete { (r : ARun) → AreTaken r.words → WritesParts r.words
+    ensures complete { (r : ARun) → AreWordsTaken r.words → WritesParts r.words
         → IfSome r.left (λ bytes. IsSolidFile bytes → (Rose r.read_faults r.read_faults_after → ⊥)
         → (Rose r.write_faults r.write_faults_after → ⊥) → IsWrittenWhole r.status ⊎ (r.status ≡ 1)) }
 {}
@@ -202,7 +202,7 @@ pub fn run_that_answers()
         → IfSome r.left (λ bytes. (file : Content) → IsFile file_limits bytes file
         → (nears : List Near) × AreNear (replay r.kept) file.queries nears
         × AppendsFront r.held r.holds (near_text (replay r.kept) nears)) }
-    ensures complete { (r : ARun) → AreTaken r.words → WritesNear r.words
+    ensures complete { (r : ARun) → AreWordsTaken r.words → WritesNear r.words
         → IfSome r.left (λ bytes. IsSolidFile bytes → (Rose r.read_faults r.read_faults_after → ⊥)
         → (Rose r.write_faults r.write_faults_after → ⊥) → (r.status ≡ 0) ⊎ (r.status ≡ 1)) }
 {}
@@ -225,13 +225,13 @@ pub fn run_that_checks()
         → IfSome r.left (λ bytes. (mesh : MeshParts) → IsMeshText bytes mesh → (r.status ≡ 0 ↔ IsTrueMesh mesh)) }
     ensures written { (r : ARun) → ReadsMesh r.words → IsWrittenWhole r.status
         → IfSome r.left (λ bytes. (mesh : MeshParts) → IsMeshText bytes mesh
-        → (verdict : Verdict) × IsVerdict mesh.points (listed mesh.cells mesh.hull) verdict
+        → (verdict : Verdict) × IsVerdict mesh.points (as_cells mesh.cells mesh.hull) verdict
         × Appends r.held r.holds (verdict_text mesh.points verdict)) }
     ensures front { (r : ARun) → ReadsMesh r.words → r.status ≡ 4
         → IfSome r.left (λ bytes. (mesh : MeshParts) → IsMeshText bytes mesh
-        → (verdict : Verdict) × IsVerdict mesh.points (listed mesh.cells mesh.hull) verdict
+        → (verdict : Verdict) × IsVerdict mesh.points (as_cells mesh.cells mesh.hull) verdict
         × AppendsFront r.held r.holds (verdict_text mesh.points verdict)) }
-    ensures complete { (r : ARun) → AreTaken r.words → ReadsMesh r.words
+    ensures complete { (r : ARun) → AreWordsTaken r.words → ReadsMesh r.words
         → IfSome r.left (λ bytes. IsMeshWithin bytes → (Rose r.read_faults r.read_faults_after → ⊥)
         → (Rose r.write_faults r.write_faults_after → ⊥) → IsWrittenWhole r.status ⊎ (r.status ≡ 1)) }
 {}
@@ -252,6 +252,6 @@ pub fn run_that_draws()
     ensures plain { (r : ARun) → DrawsFile r.words → r.status ≡ 0 → Appends r.held r.holds (plain_drawn r.words) }
     ensures plain_front { (r : ARun) → DrawsFile r.words → r.status ≡ 4
         → AppendsFront r.held r.holds (plain_drawn r.words) }
-    ensures complete { (r : ARun) → AreTaken r.words → DrawsFile r.words
+    ensures complete { (r : ARun) → AreWordsTaken r.words → DrawsFile r.words
         → (Rose r.write_faults r.write_faults_after → ⊥) → (r.status ≡ 0) ⊎ (r.status ≡ 1) }
 {}

@@ -15,7 +15,6 @@ ghost use Rattle.delaunay_cli.specs.Run.{AreDealt, IsSolidFile, Writes, WritesFr
 ghost use Rattle.delaunay_cli.specs.Statuses.{HasText, Tells};
 ghost use Rattle.delaunay_cli.specs.Stops.{line_of_end};
 ghost use Rattle.delaunay_cli.specs.Words.{
-  AreTaken,
   DrawsFile,
   ReadsFile,
   WritesNear,
@@ -23,8 +22,9 @@ ghost use Rattle.delaunay_cli.specs.Words.{
   WritesSteps,
   asks_order,
   asks_shape,
-  kind_of,
   worker_count,
+  AreWordsTaken,
+  kind_of_words,
 };
 
 use crate::outcome::Run;
@@ -63,7 +63,8 @@ pub fn run<R: Threads + Sync, S: Source, O: Sink, E: Sink, G: Gate + Sync>(
     ensures ends { Ends words.now (S.left src.old) (S.left src.new) (Rose (S.faults src.old) (S.faults src.new))
         (O.holds out.old) (O.holds out.new) (Rose (O.faults out.old) (O.faults out.new)) result.status
         result.kept.items }
-    ensures told { Tells (kind_of words.now) (S.left src.old) (E.holds err.old) (E.holds err.new) (E.faults err.old)
+    ensures told { Tells (kind_of_words words.now) (S.left src.old) (E.holds err.old) (E.holds err.new)
+        (E.faults err.old)
         (E.faults err.new) result.status }
 
     // What is kept where a file is read, and written where that is its report.
@@ -97,7 +98,7 @@ pub fn run<R: Threads + Sync, S: Source, O: Sink, E: Sink, G: Gate + Sync>(
 
     // The whole text of a solid file within the limit is written, unless memory is wanting or the source or the output
     // fails.
-    ensures complete { AreTaken words.now → WritesReport words.now ⊎ WritesSteps words.now ⊎ WritesNear words.now
+    ensures complete { AreWordsTaken words.now → WritesReport words.now ⊎ WritesSteps words.now ⊎ WritesNear words.now
         → IfSome (S.left src.old) (λ bytes. IsSolidFile bytes
         → (Rose (S.faults src.old) (S.faults src.new) → ⊥) → (Rose (O.faults out.old) (O.faults out.new) → ⊥)
         → (result.status ≡ 0) ⊎ (result.status ≡ 1)) }

@@ -5,7 +5,12 @@ ghost use Rattle.clap.specs.Words.{App, Rule, found_of, rows_of, rule_of, subcom
 ghost use Rattle.clap.specs.Words.{with_rule, with_subcommand};
 ghost use Rattle.cell_store.specs.Grids.{is_grid_size};
 ghost use Rattle.delaunay_cli.specs.Built.{IsBuilt, IsLine};
-ghost use Rattle.delaunay_cli.specs.Words.{AreTaken, command_of, gen_command as gen_command_of, program as program_of};
+ghost use Rattle.delaunay_cli.specs.Words.{
+  command_of,
+  gen_command as gen_command_of,
+  program as program_of,
+  AreWordsTaken,
+};
 ghost use Rattle.delaunay_cli.specs.Stops.{AreRefused};
 ghost use Rattle.delaunay_cli.specs.Tasks.{IsMakingOf, IsTask, IsTaskOf};
 ghost use Rattle.delaunay_cli.specs.Words.{
@@ -321,7 +326,7 @@ fn task_of(matches: &ArgMatches, making: Making) -> Task
 ///
 /// `Usage` for words that the program does not take, a call for help and a grid of another size included, and `Memory`.
 pub fn read_words(alloc: Global, words: &[String]) -> Result<Task, Stop>
-    ensures taken { IfOk result (λ task. AreTaken words.now) }
+    ensures taken { IfOk result (λ task. AreWordsTaken words.now) }
     ensures task { IfOk result (λ task. IsTask words.now task) }
     ensures refused { IfErr result (AreRefused words.now) }
 {

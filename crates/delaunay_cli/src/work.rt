@@ -9,7 +9,7 @@ ghost use Rattle.delaunay_cli.specs.Page.{IsFitToWrite, text_of_page};
 ghost use Rattle.delaunay_cli.specs.Run.{ReadsTo, limit_of};
 ghost use Rattle.delaunay_cli.specs.Statuses.{IsToldLine};
 ghost use Rattle.delaunay_cli.specs.Stops.{line_of_end, status_of_end, status_of_made};
-ghost use Rattle.delaunay_cli.specs.Words.{DrawsFile, ReadsSource, kind_of};
+ghost use Rattle.delaunay_cli.specs.Words.{DrawsFile, ReadsSource, kind_of_words};
 
 use crate::checked::check_source;
 use crate::drawn::draw;
@@ -50,7 +50,8 @@ fn make<R: Threads + Sync, S: Source, G: Gate + Sync>(
         made.kept.items (text_of_page made.page)) }
     ensures sound { IfOk result IsFitToWrite }
     ensures stop { IfErr result (IsUnmade words.now (S.left src.old) (Rose (S.faults src.old) (S.faults src.new))) }
-    ensures reads { ReadsSource words.now → ReadsTo (limit_of (kind_of words.now)) (S.left src.old) (S.left src.new)
+    ensures reads { ReadsSource words.now →
+        ReadsTo (limit_of (kind_of_words words.now)) (S.left src.old) (S.left src.new)
         (status_of_made result) }
     ensures to_its_end { ReadsSource words.now → IsOk result → IsAtEnd (S.left src.new) }
     ensures source { DrawsFile words.now → src.new ≡ src.old }
@@ -126,7 +127,7 @@ pub fn work<R: Threads + Sync, S: Source, O: Sink, G: Gate + Sync>(
     ensures ends { Ends words.now (S.left src.old) (S.left src.new) (Rose (S.faults src.old) (S.faults src.new))
         (O.holds out.old) (O.holds out.new) (Rose (O.faults out.old) (O.faults out.new)) result.run.status
         result.run.kept.items }
-    ensures line { IsToldLine (kind_of words.now) (S.left src.old) result.run.status (line_of_end result.stop) }
+    ensures line { IsToldLine (kind_of_words words.now) (S.left src.old) result.run.status (line_of_end result.stop) }
     ensures source { DrawsFile words.now → src.new ≡ src.old }
     ensures unread { result.run.status ≡ 2 → src.new ≡ src.old }
     ensures later_source { S.faults src.old ≤ S.faults src.new }

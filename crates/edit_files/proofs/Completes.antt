@@ -41,7 +41,18 @@ use Rattle.edit_files.specs.Versions.{row, titled}
 use Rattle.edit_files.specs.declared.version.Version.{Version}
 use Rattle.edit_files.specs.declared.version.Version.TheVariants.{One, Two, Three, Four}
 use Rattle.edit_files.specs.Faults.{is_word}
-use Rattle.edit_files.specs.Judging.{State, step, judge, point, edit, radius, nothing, start, with_title, word_behind}
+use Rattle.edit_files.specs.Judging.{
+  State,
+  judge,
+  point,
+  edit,
+  radius,
+  start,
+  with_title,
+  word_behind,
+  after_line,
+  no_content,
+}
 use Rattle.edit_files.proofs.Turns.{judge_on, judge_end}
 use Rattle.edit_files.proofs.Decided.{points_decided}
 use Rattle.edit_files.proofs.DecidedEdits.{edits_decided, radii_decided}
@@ -71,7 +82,7 @@ goes_none : (limits : Limits) (s : State) (lines : List (List ℕ)) → Goes lim
 goes_none limits s lines = record { leads = λ n. (n, refl) }
 
 -- a line whose step leads to another state is such a way
-goes_one : (limits : Limits) (s t : State) (line : List ℕ) (rest : List (List ℕ)) → step limits s line ≡ Ok t →
+goes_one : (limits : Limits) (s t : State) (line : List ℕ) (rest : List (List ℕ)) → after_line limits s line ≡ Ok t →
     Goes limits s (line ∷ rest) t rest
 goes_one limits s t line rest h = record { leads = λ n. (n + 1, judge_on limits n s t (line ∷ rest) line rest refl h) }
 
@@ -90,43 +101,46 @@ of_version v t = record t { version = v }
 
 -- the title of a version that is none after the newest leads to the word `points`
 step_title : (limits : Limits) (t : Content) (v : Version) → IsWithinNewest limits v →
-    step limits (at places.Title t) (row v).title ≡ Ok (at places.Heading (of_version v t))
-unfolding step
+    after_line limits (at places.Title t) (row v).title ≡ Ok (at places.Heading (of_version v t))
+unfolding after_line
 step_title limits t v le =
     let within : leb (row v).number (row limits.newest).number ≡ true = le-leb _ _ le in
     ap (with_title limits.newest t) (titled_title v) ∙ rw within refl
 
 -- that word leads to the points
-step_points : (limits : Limits) (t : Content) → step limits (at places.Heading t) (codes "points") ≡ Ok
+step_points : (limits : Limits) (t : Content) → after_line limits (at places.Heading t) (codes "points") ≡ Ok
     (at places.Points t)
-unfolding step
+unfolding after_line
 step_points limits t = refl
 
 -- the word `edits` leads from the points to the edits
-step_edits : (limits : Limits) (t : Content) → step limits (at places.Points t) (codes "edits") ≡ Ok (at places.Edits t)
-unfolding step
+step_edits : (limits : Limits) (t : Content) → after_line limits (at places.Points t) (codes "edits")
+    ≡ Ok (at places.Edits t)
+unfolding after_line
 step_edits limits t = refl
 
 -- the word `radii` leads from the edits to the radii
-step_radii : (limits : Limits) (t : Content) → step limits (at places.Edits t) (codes "radii") ≡ Ok (at places.Radii t)
-unfolding step
+step_radii : (limits : Limits) (t : Content) → after_line limits (at places.Edits t) (codes "radii")
+    ≡ Ok (at places.Radii t)
+unfolding after_line
 step_radii limits t = refl
 
 -- in a version with queries the word `queries` leads from the radii to the queries
 step_queries : (limits : Limits) (t : Content) → (row t.version).queries ≡ true →
-    step limits (at places.Radii t) (codes "queries") ≡ Ok (at places.Queries t)
-unfolding step
+    after_line limits (at places.Radii t) (codes "queries") ≡ Ok (at places.Queries t)
+unfolding after_line
 step_queries limits t has = rw has refl
 
 -- in one without, the word `end` leads from the radii to the end
 step_none : (limits : Limits) (t : Content) → (row t.version).queries ≡ false →
-    step limits (at places.Radii t) (codes "end") ≡ Ok (at places.End t)
-unfolding step
+    after_line limits (at places.Radii t) (codes "end") ≡ Ok (at places.End t)
+unfolding after_line
 step_none limits t has = rw has refl
 
 -- and from the queries it does so
-step_end : (limits : Limits) (t : Content) → step limits (at places.Queries t) (codes "end") ≡ Ok (at places.End t)
-unfolding step
+step_end : (limits : Limits) (t : Content) → after_line limits (at places.Queries t) (codes "end")
+    ≡ Ok (at places.End t)
+unfolding after_line
 step_end limits t = refl
 
 -- ---- lines of the lists
@@ -149,9 +163,9 @@ more_queries t qs = record t { queries = t.queries ++ qs }
 
 -- a line that says a point is taken as that point, where there is room for a line
 step_point : (limits : Limits) (t : Content) (line : List ℕ) (p : ℕ) → IsPointLine line p →
-    length t.points + length t.edits < limits.lines → step limits (at places.Points t) line ≡ Ok (at places.Points
+    length t.points + length t.edits < limits.lines → after_line limits (at places.Points t) line ≡ Ok (at places.Points
     (more_points t (p ∷ [])))
-unfolding step
+unfolding after_line
 step_point limits t line p says lt =
     let word : is_word t.version line ≡ false = none_word t.version line (point_no_word line p says) in
     let none : bytes_eq line (codes "edits") ≡ false = (point_no_word line p says).edits in
@@ -161,9 +175,9 @@ step_point limits t line p says lt =
 
 -- one that says an edit is taken as that edit
 step_edit : (limits : Limits) (t : Content) (line : List ℕ) (e : Edit) → IsEditLine t.version line e →
-    length t.points + length t.edits < limits.lines → step limits (at places.Edits t) line ≡ Ok (at places.Edits
+    length t.points + length t.edits < limits.lines → after_line limits (at places.Edits t) line ≡ Ok (at places.Edits
     (more_edits t (e ∷ [])))
-unfolding step
+unfolding after_line
 step_edit limits t line e says lt =
     let word : is_word t.version line ≡ false = none_word t.version line (edit_no_word t.version line e says) in
     let none : bytes_eq line (codes "radii") ≡ false = (edit_no_word t.version line e says).radii in
@@ -181,8 +195,9 @@ none_behind v line n = by (row v).queries
 
 -- one that says a radius, where there is room for a radius
 step_radius : (limits : Limits) (t : Content) (line : List ℕ) (r : ℕ) → IsRadiusLine t.version line r →
-    length t.radii < radius_limit → step limits (at places.Radii t) line ≡ Ok (at places.Radii (more_radii t (r ∷ [])))
-unfolding step
+    length t.radii < radius_limit → after_line limits (at places.Radii t) line
+    ≡ Ok (at places.Radii (more_radii t (r ∷ [])))
+unfolding after_line
 step_radius limits t line r says lt =
     let word : is_word t.version line ≡ false = none_word t.version line (radius_no_word t.version line r says) in
     let none : bytes_eq line (word_behind t.version) ≡ false = none_behind t.version line (radius_no_word t.version line
@@ -193,9 +208,10 @@ step_radius limits t line r says lt =
 
 -- and one that says the place of a query, where there is room for a query
 step_query : (limits : Limits) (t : Content) (line : List ℕ) (q : ℕ) → IsPointLine line q →
-    length t.queries < query_limit → step limits (at places.Queries t) line ≡ Ok (at places.Queries (more_queries t
+    length t.queries < query_limit → after_line limits (at places.Queries t) line
+    ≡ Ok (at places.Queries (more_queries t
     (q ∷ [])))
-unfolding step
+unfolding after_line
 step_query limits t line q says lt =
     let word : is_word t.version line ≡ false = none_word t.version line (point_no_word line q says) in
     let none : bytes_eq line (codes "end") ≡ false = (point_no_word line q says).end in
@@ -318,12 +334,12 @@ goes_all limits lines f are =
     let in_radii : List (List ℕ) = are.radii ++ behind in
     let in_edits : List (List ℕ) = are.edits ++ (codes "radii" ∷ in_radii) in
     let in_points : List (List ℕ) = are.points ++ (codes "edits" ∷ in_edits) in
-    let t0 : Content = of_version v nothing in
+    let t0 : Content = of_version v no_content in
     let t1 : Content = more_points t0 f.points in
     let t2 : Content = more_edits t1 f.edits in
     let t3 : Content = more_radii t2 f.radii in
     let a : Goes limits start ((row v).title ∷ codes "points" ∷ in_points) (at places.Heading t0) (codes "points"
-    ∷ in_points) = goes_one limits _ _ _ _ (step_title limits nothing v are.version) in
+    ∷ in_points) = goes_one limits _ _ _ _ (step_title limits no_content v are.version) in
     let b : Goes limits (at places.Heading t0) (codes "points" ∷ in_points) (at places.Points t0) in_points =
     goes_one limits _ _ _ _ (step_points limits t0) in
     let c : Goes limits (at places.Points t0) in_points (at places.Points t1) (codes "edits" ∷ in_edits) =

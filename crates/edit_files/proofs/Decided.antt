@@ -41,7 +41,7 @@ use Rattle.point_order.specs.Coordinates.{x_of, y_of, z_of}
 use Rattle.edit_files.specs.declared.fault.Why.{Why}
 use Rattle.edit_files.specs.declared.fault.Why.TheVariants.{Field, Range}
 use Rattle.edit_files.specs.Numbers.{IsNumber}
-use Rattle.edit_files.specs.Forms.{spaced, HasPointForm, IsPointLine}
+use Rattle.edit_files.specs.Forms.{HasPointForm, IsPointLine, three_spaced}
 use Rattle.edit_files.specs.Judging.{number, point, point_at, point_from, point_from_fields, fields_of}
 use Rattle.edit_files.proofs.Values.{number_read, number_some, number_of, of_number, reading}
 use Rattle.edit_files.proofs.Points.{point_at_own, coordinate_below}
@@ -103,9 +103,9 @@ pub number_no_space : (bs : List ℕ) → IsNumber bs → HasNoSpace bs
 number_no_space bs h = number_without 32 bs (omega arith) h
 
 -- three numbers with one space between two are the fields of their line
-three_fields : (x y z : List ℕ) → IsNumber x → IsNumber y → IsNumber z → fields_of (spaced x y z) ≡ x ∷ y ∷ z ∷ []
+three_fields : (x y z : List ℕ) → IsNumber x → IsNumber y → IsNumber z → fields_of (three_spaced x y z) ≡ x ∷ y ∷ z ∷ []
 three_fields x y z a b c =
-    let whole : spaced x y z ≡ x ++ (32 ∷ (y ++ 32 ∷ z)) = append_assoc x (32 ∷ y) (32 ∷ z) in
+    let whole : three_spaced x y z ≡ x ++ (32 ∷ (y ++ 32 ∷ z)) = append_assoc x (32 ∷ y) (32 ∷ z) in
     let first : fields_of (x ++ (32 ∷ (y ++ 32 ∷ z))) ≡ x ∷ fields_of (y ++ 32 ∷ z) =
     fields_front x (y ++ 32 ∷ z) (number_no_space x a) in
     let second : fields_of (y ++ 32 ∷ z) ≡ y ∷ fields_of z = fields_front y z (number_no_space y b) in
@@ -114,7 +114,7 @@ three_fields x y z a b c =
     ∙ ap (λ (fs : List (List ℕ)). y ∷ fs) third)
 
 -- a line with three fields is the three with one space between two
-from_fields : (line x y z : List ℕ) → fields_of line ≡ x ∷ y ∷ z ∷ [] → line ≡ spaced x y z
+from_fields : (line x y z : List ℕ) → fields_of line ≡ x ∷ y ∷ z ∷ [] → line ≡ three_spaced x y z
 from_fields line x y z e =
     let back : line ≡ join_with_byte 32 (x ∷ y ∷ z ∷ []) = sym (join_with_byte-slice_split 32 line)
     ∙ ap (join_with_byte 32) e in
@@ -122,9 +122,9 @@ from_fields line x y z e =
 
 -- three fields and what follows them
 pub four_fields : (x y z rest : List ℕ) → IsNumber x → IsNumber y → IsNumber z →
-    fields_of (spaced x y z ++ 32 ∷ rest) ≡ x ∷ y ∷ z ∷ fields_of rest
+    fields_of (three_spaced x y z ++ 32 ∷ rest) ≡ x ∷ y ∷ z ∷ fields_of rest
 four_fields x y z rest a b c =
-    let whole : spaced x y z ++ 32 ∷ rest ≡ x ++ (32 ∷ (y ++ (32 ∷ (z ++ 32 ∷ rest)))) =
+    let whole : three_spaced x y z ++ 32 ∷ rest ≡ x ++ (32 ∷ (y ++ (32 ∷ (z ++ 32 ∷ rest)))) =
     append_assoc (x ++ 32 ∷ y) (32 ∷ z) (32 ∷ rest) ∙ append_assoc x (32 ∷ y) (32 ∷ (z ++ 32 ∷ rest)) in
     ap fields_of whole
     ∙ fields_front x (y ++ (32 ∷ (z ++ 32 ∷ rest))) (number_no_space x a)
@@ -133,7 +133,7 @@ four_fields x y z rest a b c =
 
 -- a line with four fields or more is the first three, a space, and the others with spaces between
 pub from_four : (line x y z u : List ℕ) (fs : List (List ℕ)) → fields_of line ≡ x ∷ y ∷ z ∷ u ∷ fs →
-    line ≡ spaced x y z ++ 32 ∷ join_with_byte 32 (u ∷ fs)
+    line ≡ three_spaced x y z ++ 32 ∷ join_with_byte 32 (u ∷ fs)
 from_four line x y z u fs e =
     let rest : List ℕ = join_with_byte 32 (u ∷ fs) in
     let back : line ≡ join_with_byte 32 (x ∷ y ∷ z ∷ u ∷ fs) =
@@ -180,7 +180,7 @@ record Three (line : List ℕ) : Type 0 where
   a : ℕ
   b : ℕ
   c : ℕ
-  fields : line ≡ spaced x y z
+  fields : line ≡ three_spaced x y z
   x_read : number x ≡ Some a
   y_read : number y ≡ Some b
   z_read : number z ≡ Some c

@@ -30,7 +30,7 @@ use Rattle.edit_files.specs.Forms.{IsPointLine, IsEditLine, IsRadiusLine}
 use Rattle.edit_files.specs.Grammar.{AreFileLines, IsWithinNewest, Limits, query_limit, query_section, radius_limit}
 use Rattle.edit_files.specs.Versions.{row}
 use Rattle.edit_files.specs.Faults.{AreFirstLines}
-use Rattle.edit_files.specs.Judging.{nothing}
+use Rattle.edit_files.specs.Judging.{no_content}
 use Rattle.edit_files.proofs.Texts.{first_lines_of}
 
 -- the lines of the lists, up to each
@@ -175,7 +175,7 @@ first_within Three = omega arith
 first_within Four = omega arith
 
 -- no lines lead to the title, and nothing was taken
-pub at_start : (limits : Limits) → Leads limits [] places.Title nothing
+pub at_start : (limits : Limits) → Leads limits [] places.Title no_content
 at_start limits = record {
   version = first_within limits.newest;
   points = [];

@@ -64,7 +64,7 @@ use Rattle.std.specs.Prelude.{All}
 use Rattle.list_laws.proofs.Cited.{all_of_each, mapped_from}
 use Rattle.edit_files.specs.Grammar.{up_to}
 use Rattle.edit_files.specs.declared.version.Version.TheVariants.{One}
-use Rattle.edit_files.specs.Writing.{IsEditOf, IsWithin}
+use Rattle.edit_files.specs.Writing.{IsEditOf, IsWithinLimits}
 use Rattle.edit_files.specs.Keys.{coordinate_count, key_of}
 use Rattle.edit_files.specs.Generator.{
   next_state,
@@ -271,7 +271,7 @@ lines_keys start (i ∷ is) = (
 )
 
 -- with so many edits at most, a generated file is within the limits
-pub generated_within : (count start : ℕ) → count ≤ most_edits → IsWithin (up_to One) (generated count start)
+pub generated_within : (count start : ℕ) → count ≤ most_edits → IsWithinLimits (up_to One) (generated count start)
 generated_within count start few = record {
   version = lit≤ tt;
   points = (lit< tt, (lit< tt, (lit< tt, (lit< tt, tt))));

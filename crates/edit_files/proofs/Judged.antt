@@ -36,7 +36,7 @@ use Rattle.edit_files.specs.Content.{Content, content}
 use Rattle.edit_files.specs.Lines.{lines_of}
 use Rattle.edit_files.specs.Grammar.{AreFileLines, IsFile, Limits}
 use Rattle.edit_files.specs.Faults.{AreFirstLines, IsBadLine, IsFaultOfLine, IsFaultOfEnd, IsFault}
-use Rattle.edit_files.specs.Judging.{State, step, judge, judged, ended, start, Gives, Fails}
+use Rattle.edit_files.specs.Judging.{State, judge, judged, ended, start, Gives, Fails, after_line}
 use Rattle.edit_files.proofs.Texts.{file_from_first}
 use Rattle.edit_files.proofs.Turns.{judge_on, judge_bad, judge_end}
 use Rattle.edit_files.proofs.Completes.{judged_file}
@@ -121,7 +121,7 @@ at_end limits front s r =
 
 -- a line that is taken leads one line further
 further : (limits : Limits) (front : List (List ℕ)) (s t : State) (line : List ℕ) → Reached limits front s →
-    step limits s line ≡ Ok t → Reached limits (front ++ line ∷ []) t
+    after_line limits s line ≡ Ok t → Reached limits (front ++ line ∷ []) t
 further limits front s t line r h = record {
   leads = leads_on limits front s t line r.leads h;
   on = λ rest. (let n : length (front ++ line ∷ []) + 1 ≡ length front + 1 + 1 =
@@ -133,7 +133,7 @@ further limits front s t line r h = record {
 
 -- a line that is not taken is the fault
 bad_line : (limits : Limits) (front : List (List ℕ)) (s : State) (line : List ℕ) (rest : List (List ℕ)) (why : Why) →
-    Reached limits front s → step limits s line ≡ Err why → Refuses limits front (line ∷ rest) s
+    Reached limits front s → after_line limits s line ≡ Err why → Refuses limits front (line ∷ rest) s
 bad_line limits front s line rest why r h =
     let n : ℕ = length front + 1 in
     record {
@@ -168,7 +168,7 @@ Outcome limits front lines s = Accepts limits front lines s ⊎ Refuses limits f
 
 -- so it is of a line and those behind it, where it is of those once the line is taken
 decide_line : (limits : Limits) (front : List (List ℕ)) (line : List ℕ) (lines : List (List ℕ)) (s : State) →
-    Reached limits front s → (o : Result State Why) → step limits s line ≡ o
+    Reached limits front s → (o : Result State Why) → after_line limits s line ≡ o
     → ((t : State) → Reached limits (front ++ line ∷ []) t → Outcome limits (front ++ line ∷ []) lines t) →
     Outcome limits front (line ∷ lines) s
 decide_line limits front line lines s r (Err why) h next = inr (bad_line limits front s line lines why r h)
@@ -197,7 +197,8 @@ decide : (limits : Limits) (front lines : List (List ℕ)) (s : State) → Reach
     Outcome limits front lines s
 decide limits front [] s r = at_end limits front s r
 decide limits front (line ∷ lines) s r =
-    decide_line limits front line lines s r (step limits s line) refl (λ t q. decide limits (front ++ line ∷ []) lines t
+    decide_line limits front line lines s r (after_line limits s line) refl
+    (λ t q. decide limits (front ++ line ∷ []) lines t
     q)
 
 -- before all lines the reader is at the start

@@ -36,7 +36,7 @@ use Rattle.edit_history.specs.declared.history.Edit.{Edit}
 use Rattle.edit_history.specs.declared.history.Edit.TheVariants.{Move}
 use Rattle.edit_files.specs.declared.fault.Why.{Why}
 use Rattle.edit_files.specs.declared.fault.Why.TheVariants.{Section, Field, Range, TooMany, Truncated}
-use Rattle.edit_files.specs.Forms.{spaced, HasPointForm, HasPairForm, IsPairLine}
+use Rattle.edit_files.specs.Forms.{HasPointForm, HasPairForm, IsPairLine, three_spaced}
 use Rattle.edit_files.specs.Judging.{point, fields_of, halves, halves_of, worse, move_from, move_of, edit_from}
 use Rattle.edit_files.proofs.Points.{some_field}
 use Rattle.edit_files.proofs.Decided.{
@@ -91,7 +91,7 @@ cut_view line (x ∷ y ∷ []) e = inl (halves_fields line (x ∷ y ∷ []) e)
 cut_view line (x ∷ y ∷ z ∷ []) e = inl (halves_fields line (x ∷ y ∷ z ∷ []) e)
 cut_view line (x ∷ y ∷ z ∷ u ∷ fs) e =
     inr (record {
-      from = spaced x y z;
+      from = three_spaced x y z;
       to = join_with_byte 32 (u ∷ fs);
       fields = from_four line x y z u fs e;
       reads = ap move_of (halves_fields line (x ∷ y ∷ z ∷ u ∷ fs) e);
@@ -310,7 +310,7 @@ halves_at line x r y q z to a b c =
     ∙ ap (λ (fs : List (List ℕ)). x ∷ y ∷ z ∷ fs) more.2 in
     let back : join_with_byte 32 (more.0 ∷ more.1) ≡ to =
     ap (join_with_byte 32) (sym more.2) ∙ join_with_byte-slice_split 32 to in
-    let from : List ℕ = spaced x y z in
+    let from : List ℕ = three_spaced x y z in
     let whole : line ≡ from ++ 32 ∷ to =
     from_four line x y z more.0 more.1 all ∙ ap (λ (l : List ℕ). from ++ 32 ∷ l) back in
     let len : length line ≡ length from + (length to + 1) =

@@ -53,22 +53,20 @@ use Rattle.edit_files.specs.Versions.{row, titled}
 use Rattle.edit_files.specs.declared.version.Version.{Version}
 use Rattle.edit_files.specs.declared.version.Version.TheVariants.{One, Two, Three, Four}
 use Rattle.edit_files.specs.Faults.{
-  has,
   is_word,
   lines_after,
-  is_full,
   told_or_first,
   version_in,
   IsForWords,
   HasForm,
   IsReason,
+  has_line,
+  is_list_full,
 }
 use Rattle.edit_files.specs.Judging.{
   State,
-  step,
   step_at,
   with_title,
-  with_point,
   with_edit,
   with_radius,
   with_query,
@@ -77,6 +75,8 @@ use Rattle.edit_files.specs.Judging.{
   point,
   edit,
   radius,
+  after_line,
+  taking_point,
 }
 use Rattle.edit_files.proofs.Decided.{err_same, points_decided}
 use Rattle.edit_files.proofs.DecidedEdits.{edits_decided, radii_decided}
@@ -99,8 +99,8 @@ record InList (limits : Limits) (v : Version) (front : List (List ℕ)) (line : 
     : Type 0 where
   told : version_in front ≡ v
   long : 2 ≤ length front
-  unended : has (codes "end") front ≡ false
-  full_is : is_full limits front ≡ full
+  unended : has_line (codes "end") front ≡ false
+  full_is : is_list_full limits front ≡ full
   to : HasForm front line → Form
   from : Form → HasForm front line
 
@@ -135,7 +135,7 @@ reason_by limits v front line true false Form w why l field range only word h =
     )
 reason_by limits v front line false false Form w why l field range only word h =
     let here = not_for_words limits v front line false Form l word in
-    let room : not (is_full limits front) ≡ true = rw l.full_is refl in
+    let room : not (is_list_full limits front) ≡ true = rw l.full_is refl in
     elim (only why h) [
       | inl e ↦ subst (λ (x : Why). IsReason limits front line x) (sym e) (
         here,
@@ -161,7 +161,7 @@ abbrev bad_point : Why → Result ℕ Why
 bad_point why = Err why
 
 -- a point that is not taken was not read, for the same reason
-point_err : (t : Content) (r : Result ℕ Why) (why : Why) → with_point t r ≡ Err why → r ≡ Err why
+point_err : (t : Content) (r : Result ℕ Why) (why : Why) → taking_point t r ≡ Err why → r ≡ Err why
 point_err t (Ok p) why h = absurd cc
 point_err t (Err v) why h = ap bad_point (err_same v why h)
 
@@ -196,16 +196,17 @@ record IsLater (word : List ℕ) : Type 0 where
 
 -- a later word stands nowhere up to the points
 has_lead : (v : Version) (word : List ℕ) → IsLater word → (pls : List (List ℕ)) → HaveNoWord pls →
-    has word (to_points v pls) ≡ false
+    has_line word (to_points v pls) ≡ false
 has_lead v word w pls z = or_from _ _ (w.none (row v).title (title_no_word v)) (or_from _ _ w.heading (has_none word
     w.none pls z))
 
 -- a word that stands in neither of two lists stands not in both together
-has_both : (word : List ℕ) (a b : List (List ℕ)) → has word a ≡ false → has word b ≡ false → has word (a ++ b) ≡ false
+has_both : (word : List ℕ) (a b : List (List ℕ)) → has_line word a ≡ false → has_line word b ≡ false →
+    has_line word (a ++ b) ≡ false
 has_both word a b p q = list_any-append (λ line. bytes_eq line word) a b ∙ or_from _ _ p q
 
 -- one that stands in the second stands in both together
-has_second : (word : List ℕ) (a b : List (List ℕ)) → has word b ≡ true → has word (a ++ b) ≡ true
+has_second : (word : List ℕ) (a b : List (List ℕ)) → has_line word b ≡ true → has_line word (a ++ b) ≡ true
 has_second word a b q = list_any-append (λ line. bytes_eq line word) a b ∙ or_right _ _ q
 
 -- the words behind the points
@@ -226,7 +227,7 @@ ends_later = record { heading = refl; none = λ l n. n.end }
 
 -- a list behind its word has no later word
 has_list : (word here : List ℕ) (lines : List (List ℕ)) → IsLater word → bytes_eq here word ≡ false → HaveNoWord lines →
-    has word (here ∷ lines) ≡ false
+    has_line word (here ∷ lines) ≡ false
 has_list word here lines w e z = or_from _ _ e (has_none word w.none lines z)
 
 -- how many of some lines are no section words
@@ -252,24 +253,25 @@ count_both v pls els p q = sum_by-append (counts v) (codes "points" ∷ pls) (co
     ∙ omega (arith, count_points v pls p, count_edits v els q)
 
 -- which form a line is to have
-form_points : (front : List (List ℕ)) (line : List ℕ) → has (codes "queries") front ≡ false →
-    has (codes "radii") front ≡ false → has (codes "edits") front ≡ false → (HasForm front line →
+form_points : (front : List (List ℕ)) (line : List ℕ) → has_line (codes "queries") front ≡ false →
+    has_line (codes "radii") front ≡ false → has_line (codes "edits") front ≡ false → (HasForm front line →
     HasPointForm line) × (HasPointForm line → HasForm front line)
 form_points front line q r e = (λ h. rw (q, r, e) at h, λ f. rw (q, r, e) f)
 
 -- behind the edits' word the form of an edit line of the version
 form_edits : (v : Version) (front : List (List ℕ)) (line : List ℕ) → version_in front ≡ v →
-    has (codes "queries") front ≡ false → has (codes "radii") front ≡ false → has (codes "edits") front ≡ true →
+    has_line (codes "queries") front ≡ false → has_line (codes "radii") front ≡ false →
+    has_line (codes "edits") front ≡ true →
     (HasForm front line → HasEditForm v line) × (HasEditForm v line → HasForm front line)
 form_edits v front line t q r e = (λ h. rw (t, q, r, e) at h, λ f. rw (t, q, r, e) f)
 
 -- behind the radii's a number
-form_radii : (front : List (List ℕ)) (line : List ℕ) → has (codes "queries") front ≡ false →
-    has (codes "radii") front ≡ true → (HasForm front line → IsNumber line) × (IsNumber line → HasForm front line)
+form_radii : (front : List (List ℕ)) (line : List ℕ) → has_line (codes "queries") front ≡ false →
+    has_line (codes "radii") front ≡ true → (HasForm front line → IsNumber line) × (IsNumber line → HasForm front line)
 form_radii front line q r = (λ h. rw (q, r) at h, λ f. rw (q, r) f)
 
 -- behind the queries' the form of a point line
-form_queries : (front : List (List ℕ)) (line : List ℕ) → has (codes "queries") front ≡ true → (HasForm front line →
+form_queries : (front : List (List ℕ)) (line : List ℕ) → has_line (codes "queries") front ≡ true → (HasForm front line →
     HasPointForm line) × (HasPointForm line → HasForm front line)
 form_queries front line q = (λ h. rw q at h, λ f. rw q f)
 
@@ -298,7 +300,7 @@ known {t = t} k = record {
 -- no word behind the edits stands in the points and edits
 no_later : {limits : Limits} {front : List (List ℕ)} {place : Place} {t : Content} (k : Leads limits front place t)
     (word : List ℕ) → IsLater word → bytes_eq (codes "edits") word ≡ false →
-    has word (to_edits t.version k.points k.edits) ≡ false
+    has_line word (to_edits t.version k.points k.edits) ≡ false
 no_later {t = t} k word w e =
     has_both word (to_points t.version k.points) (codes "edits" ∷ k.edits) (has_lead t.version word w k.points
     (known k).points)
@@ -307,7 +309,7 @@ no_later {t = t} k word w e =
 -- nor one behind the radii in these and the radii
 no_last : {limits : Limits} {front : List (List ℕ)} {place : Place} {t : Content} (k : Leads limits front place t)
     (word : List ℕ) → IsLater word → bytes_eq (codes "edits") word ≡ false → bytes_eq (codes "radii") word ≡ false
-    → has word (to_radii t.version k.points k.edits k.radii) ≡ false
+    → has_line word (to_radii t.version k.points k.edits k.radii) ≡ false
 no_last {t = t} k word w e r =
     has_both word (to_edits t.version k.points k.edits) (codes "radii" ∷ k.radii) (no_later k word w e) (has_list word
     (codes "radii") k.radii w r (known k).radii)
@@ -320,13 +322,13 @@ in_points limits front t line k =
     let v : Version = t.version in
     let told : version_in front ≡ v = told_by v front (codes "points" ∷ k.points) k.order in
     let z : HaveNoWord k.points = (known k).points in
-    let queries : has (codes "queries") front ≡ false = ap (has (codes "queries")) k.order
+    let queries : has_line (codes "queries") front ≡ false = ap (has_line (codes "queries")) k.order
     ∙ has_lead v (codes "queries") queries_later k.points z in
-    let radii : has (codes "radii") front ≡ false = ap (has (codes "radii")) k.order
+    let radii : has_line (codes "radii") front ≡ false = ap (has_line (codes "radii")) k.order
     ∙ has_lead v (codes "radii") radii_later k.points z in
-    let edits : has (codes "edits") front ≡ false = ap (has (codes "edits")) k.order
+    let edits : has_line (codes "edits") front ≡ false = ap (has_line (codes "edits")) k.order
     ∙ has_lead v (codes "edits") edits_later k.points z in
-    let ends : has (codes "end") front ≡ false = ap (has (codes "end")) k.order
+    let ends : has_line (codes "end") front ≡ false = ap (has_line (codes "end")) k.order
     ∙ has_lead v (codes "end") ends_later k.points z in
     let none : length k.edits ≡ 0 = ap length k.unmet.0 in
     let count : counted (version_in front) (drop 1 front) ≡ length t.points + length t.edits =
@@ -357,13 +359,13 @@ in_edits limits front t line k =
     let v : Version = t.version in
     let tail : List (List ℕ) = codes "edits" ∷ k.edits in
     let told : version_in front ≡ v = told_by v front (codes "points" ∷ k.points ++ tail) k.order in
-    let queries : has (codes "queries") front ≡ false = ap (has (codes "queries")) k.order
+    let queries : has_line (codes "queries") front ≡ false = ap (has_line (codes "queries")) k.order
     ∙ no_later k (codes "queries") queries_later refl in
-    let radii : has (codes "radii") front ≡ false = ap (has (codes "radii")) k.order
+    let radii : has_line (codes "radii") front ≡ false = ap (has_line (codes "radii")) k.order
     ∙ no_later k (codes "radii") radii_later refl in
-    let edits : has (codes "edits") front ≡ true = ap (has (codes "edits")) k.order
+    let edits : has_line (codes "edits") front ≡ true = ap (has_line (codes "edits")) k.order
     ∙ has_second (codes "edits") (to_points v k.points) tail refl in
-    let ends : has (codes "end") front ≡ false = ap (has (codes "end")) k.order
+    let ends : has_line (codes "end") front ≡ false = ap (has_line (codes "end")) k.order
     ∙ no_later k (codes "end") ends_later refl in
     let count : counted (version_in front) (drop 1 front) ≡ length t.points + length t.edits =
     ap (λ (u : Version). counted u (drop 1 front)) told ∙ ap (λ (ls : List (List ℕ)). counted v (drop 1 ls)) k.order
@@ -392,11 +394,11 @@ in_radii limits front t line k =
     let before : List (List ℕ) = to_edits v k.points k.edits in
     let told : version_in front ≡ v = told_by v front (codes "points" ∷ k.points ++ codes "edits" ∷ k.edits ++ codes
     "radii" ∷ k.radii) k.order in
-    let queries : has (codes "queries") front ≡ false = ap (has (codes "queries")) k.order
+    let queries : has_line (codes "queries") front ≡ false = ap (has_line (codes "queries")) k.order
     ∙ no_last k (codes "queries") queries_later refl refl in
-    let radii : has (codes "radii") front ≡ true = ap (has (codes "radii")) k.order
+    let radii : has_line (codes "radii") front ≡ true = ap (has_line (codes "radii")) k.order
     ∙ has_second (codes "radii") before (codes "radii" ∷ k.radii) refl in
-    let ends : has (codes "end") front ≡ false = ap (has (codes "end")) k.order
+    let ends : has_line (codes "end") front ≡ false = ap (has_line (codes "end")) k.order
     ∙ no_last k (codes "end") ends_later refl refl in
     let after : length (lines_after (codes "radii") front) ≡ length t.radii =
     ap (λ (ls : List (List ℕ)). length (lines_after (codes "radii") ls)) k.order
@@ -428,9 +430,9 @@ in_queries limits front t line k =
     let tail : List (List ℕ) = codes "queries" ∷ k.queries in
     let told : version_in front ≡ v = told_by v front (codes "points" ∷ k.points ++ codes "edits" ∷ k.edits ++ codes
     "radii" ∷ k.radii ++ tail) k.order in
-    let queries : has (codes "queries") front ≡ true = ap (has (codes "queries")) k.order
+    let queries : has_line (codes "queries") front ≡ true = ap (has_line (codes "queries")) k.order
     ∙ has_second (codes "queries") before tail refl in
-    let ends : has (codes "end") front ≡ false = ap (has (codes "end")) k.order
+    let ends : has_line (codes "end") front ≡ false = ap (has_line (codes "end")) k.order
     ∙ has_both (codes "end") before tail (no_last k (codes "end") ends_later refl refl) (has_list (codes "end")
     (codes "queries") k.queries ends_later refl (known k).queries) in
     let after : length (lines_after (codes "queries") front) ≡ length t.queries =
@@ -477,7 +479,7 @@ reason_at limits front places.Heading t line why k h =
     why h) (inl (omega (arith, ap length k.order)))
 reason_at limits front places.Points t line why k h =
     reason_by limits t.version front line (leb limits.lines (length t.points + length t.edits)) (is_word t.version line)
-    (HasPointForm line) (with_point t (point line)) why (in_points limits front t line k)
+    (HasPointForm line) (taking_point t (point line)) why (in_points limits front t line k)
     (λ e. points_decided.field line (point_err t (point line) Field e)) (λ e. points_decided.range line
     (point_err t (point line) Range e)) (λ v e. points_decided.only line v (point_err t (point line) v e))
     refl (refused (bytes_eq line (codes "edits")) (at places.Edits t) _ why h)
@@ -504,13 +506,13 @@ reason_at limits front places.Queries t line why k h =
     (query_err t (point line) Range e)) (λ v e. points_decided.only line v (query_err t (point line) v e))
     refl (refused (bytes_eq line (codes "end")) (at places.End t) _ why h)
 reason_at limits front places.End t line why k h =
-    let ends : has (codes "end") front ≡ true = ap (has (codes "end")) k.order
+    let ends : has_line (codes "end") front ≡ true = ap (has_line (codes "end")) k.order
     ∙ has_second (codes "end") (to_radii t.version k.points k.edits k.radii ++ query_section t.version k.queries)
     (codes "end" ∷ []) refl in
     subst (λ (v : Why). IsReason limits front line v) (err_same Section why h) (inr (inl ends))
 
 -- a line that is not taken is bad, for this reason
 pub reason_is : (limits : Limits) (front : List (List ℕ)) (s : State) (line : List ℕ) (why : Why) →
-    Leads limits front s.place s.taken → step limits s line ≡ Err why → IsReason limits front line why
-unfolding step
+    Leads limits front s.place s.taken → after_line limits s line ≡ Err why → IsReason limits front line why
+unfolding after_line
 reason_is limits front s line why k h = reason_at limits front s.place s.taken line why k h

@@ -53,11 +53,8 @@ use Rattle.edit_files.specs.declared.version.Version.TheVariants.{One, Two, Thre
 use Rattle.edit_files.specs.Faults.{is_word}
 use Rattle.edit_files.specs.Judging.{
   State,
-  step,
   step_at,
-  listed,
   with_title,
-  with_point,
   with_edit,
   with_radius,
   with_query,
@@ -66,6 +63,9 @@ use Rattle.edit_files.specs.Judging.{
   point,
   edit,
   radius,
+  after_line,
+  list_line,
+  taking_point,
 }
 use Rattle.edit_files.proofs.Decided.{points_decided}
 use Rattle.edit_files.proofs.DecidedEdits.{edits_decided, radii_decided}
@@ -104,12 +104,12 @@ listed_ok v false line false w s e h = record { word = e; room = refl; taken = h
 
 -- what was taken in a list is the word that ends it, or a line of it
 list_ok : (v : Version) (b : Bool) (x : State) (line : List ℕ) (full : Bool) (w : Result State Why) (s : State) →
-    cond b (Ok x) (listed v line full w) ≡ Ok s → ((b ≡ true) × (x ≡ s)) ⊎ Listed v line full w s
+    cond b (Ok x) (list_line v line full w) ≡ Ok s → ((b ≡ true) × (x ≡ s)) ⊎ Listed v line full w s
 list_ok v true x line full w s h = inl (refl, state_same x s h)
 list_ok v false x line full w s h = inr (listed_ok v (is_word v line) line full w s refl h)
 
 -- a point that was taken was read, and stands behind the others
-point_ok : (t : Content) (r : Result ℕ Why) (s : State) → with_point t r ≡ Ok s →
+point_ok : (t : Content) (r : Result ℕ Why) (s : State) → taking_point t r ≡ Ok s →
     (p : ℕ) × (r ≡ Ok p) × (at places.Points (more_points t (p ∷ [])) ≡ s)
 point_ok t (Ok p) s h = (p, refl, state_same _ s h)
 point_ok t (Err why) s h = absurd cc
@@ -489,7 +489,7 @@ leads_at limits front places.Heading t line s k h =
     (same line (codes "points") c.0))
 leads_at limits front places.Points t line s k h =
     elim (list_ok t.version (bytes_eq line (codes "edits")) (at places.Edits t) line (leb limits.lines (length t.points
-    + length t.edits)) (with_point t (point line)) s h) [
+    + length t.edits)) (taking_point t (point line)) s h) [
       | inl c ↦ subst (λ (u : State). LeadsTo limits (front ++ line ∷ []) u) c.1 (at_edits limits front t line k
           (same line (codes "edits") c.0))
       | inr l ↦
@@ -531,6 +531,7 @@ leads_at limits front places.End t line s k h = absurd cc
 
 -- a line that is taken leads on
 pub leads_on : (limits : Limits) (front : List (List ℕ)) (s t : State) (line : List ℕ) →
-    Leads limits front s.place s.taken → step limits s line ≡ Ok t → Leads limits (front ++ line ∷ []) t.place t.taken
-unfolding step
+    Leads limits front s.place s.taken → after_line limits s line ≡ Ok t →
+    Leads limits (front ++ line ∷ []) t.place t.taken
+unfolding after_line
 leads_on limits front s t line k h = leads_at limits front s.place s.taken line t k h

@@ -34,7 +34,7 @@ use Rattle.edit_files.specs.declared.fault.Why.TheVariants.{Field}
 use Rattle.edit_files.specs.declared.version.Version.{Version}
 use Rattle.edit_files.specs.Versions.{row}
 use Rattle.edit_files.specs.Forms.{IsPointLine, IsEditLine, IsRadiusLine}
-use Rattle.edit_files.specs.Faults.{has, is_word, lines_after}
+use Rattle.edit_files.specs.Faults.{is_word, lines_after, has_line}
 use Rattle.edit_files.specs.Judging.{point, edit, radius, number, digits, digits_from}
 use Rattle.edit_files.proofs.Decided.{points_decided}
 use Rattle.edit_files.proofs.DecidedEdits.{edits_decided, radii_decided}
@@ -122,7 +122,7 @@ said_no_word Says h (l ∷ ls) (v ∷ vs) z = (h l v z.0, said_no_word Says h ls
 
 -- a section word does not stand among lines that are none
 pub has_none : (word : List ℕ) → ((line : List ℕ) → IsNone line → bytes_eq line word ≡ false) →
-    (lines : List (List ℕ)) → HaveNoWord lines → has word lines ≡ false
+    (lines : List (List ℕ)) → HaveNoWord lines → has_line word lines ≡ false
 has_none word h [] z = refl
 has_none word h (l ∷ ls) z = or_from _ _ (h l z.0) (has_none word h ls z.1)
 
@@ -136,10 +136,11 @@ count_all v (l ∷ ls) z =
     sum_by-cons f l ls ∙ omega (arith, here, count_all v ls z.1)
 
 -- behind the first place of a word are the lines that follow it
-pub lines_after_at : (word : List ℕ) (front rest : List (List ℕ)) → bytes_eq word word ≡ true → has word front ≡ false →
+pub lines_after_at : (word : List ℕ) (front rest : List (List ℕ)) → bytes_eq word word ≡ true →
+    has_line word front ≡ false →
     lines_after word (front ++ word ∷ rest) ≡ rest
 lines_after_at word [] rest w h = rw w refl
 lines_after_at word (l ∷ ls) rest w h =
-    let p = or_parts (bytes_eq l word) (has word ls) h in
+    let p = or_parts (bytes_eq l word) (has_line word ls) h in
     let e : bytes_eq l word ≡ false = p.0 in
     rw e (lines_after_at word ls rest w p.1)

@@ -43,7 +43,7 @@ use Rattle.edit_files.specs.Grammar.{IsFile, Limits, query_section}
 use Rattle.edit_files.specs.Versions.{row}
 use Rattle.edit_files.specs.declared.version.Version.{Version}
 use Rattle.std.specs.List.{AllZip}
-use Rattle.edit_files.specs.Writing.{point_text, edit_text, file_lines, file_text, IsEditOf, IsWithin}
+use Rattle.edit_files.specs.Writing.{edit_text, file_lines, file_text, IsEditOf, line_of_point, IsWithinLimits}
 use Rattle.edit_files.proofs.Points.{coordinate_below}
 use Rattle.edit_files.proofs.Texts.{text_is_file}
 use Rattle.edit_files.proofs.DecidedEdits.{end_far}
@@ -67,7 +67,7 @@ decimal_is n lt =
     }
 
 -- what is written of a key says the point
-pub point_line : (p : ℕ) → IsKey p → IsPointLine (point_text p) p
+pub point_line : (p : ℕ) → IsKey p → IsPointLine (line_of_point p) p
 point_line p key =
     let below = coordinate_below p in
     record {
@@ -83,16 +83,16 @@ point_line p key =
 
 -- what is written of an edit that the version may hold says the edit
 edit_line : (v : Version) (e : Edit) → IsEditOf v e → IsEditLine v (edit_text e) e
-edit_line v (Add p) k = (point_text p, refl, point_line p k.0)
-edit_line v (Take p) k = (point_text p, refl, point_line p k.0)
+edit_line v (Add p) k = (line_of_point p, refl, point_line p k.0)
+edit_line v (Take p) k = (line_of_point p, refl, point_line p k.0)
 edit_line v (Move a b) k = (
-  point_text a ++ codes " " ++ point_text b,
+  line_of_point a ++ codes " " ++ line_of_point b,
   refl,
   k.1 refl,
   record {
-    from = point_text a;
-    to = point_text b;
-    fields = append_assoc (point_text a) (codes " ") (point_text b);
+    from = line_of_point a;
+    to = line_of_point b;
+    fields = append_assoc (line_of_point a) (codes " ") (line_of_point b);
     from_point = point_line a k.0.0;
     to_point = point_line b k.0.1;
   },
@@ -104,27 +104,27 @@ radius_line v r lt = (decimal_is r (omega (arith, lt, end_far v)), lt)
 
 -- what is written of no queries is nothing
 none_written : (v : Version) (queries : List ℕ) → ((row v).queries ≡ false → queries ≡ []) → (row v).queries ≡ false →
-    map point_text queries ≡ []
-none_written v queries h none = ap (map point_text) (h none)
+    map line_of_point queries ≡ []
+none_written v queries h none = ap (map line_of_point) (h none)
 
 -- the text that is written of a file within the limits is of that file
-pub written_is_file : (limits : Limits) (f : Content) → IsWithin limits f → IsFile limits (file_text f) f
+pub written_is_file : (limits : Limits) (f : Content) → IsWithinLimits limits f → IsFile limits (file_text f) f
 written_is_file limits f w = text_is_file limits (file_lines f) f (record {
   version = w.version;
-  points = map point_text f.points;
+  points = map line_of_point f.points;
   edits = map edit_text f.edits;
   radii = map decimal f.radii;
-  queries = map point_text f.queries;
+  queries = map line_of_point f.queries;
   order = refl;
-  point_lines = zip_map IsPointLine point_text IsKey point_line f.points w.points;
+  point_lines = zip_map IsPointLine line_of_point IsKey point_line f.points w.points;
   edit_lines = zip_map (IsEditLine f.version) edit_text (IsEditOf f.version) (edit_line f.version) f.edits w.edits;
   radius_lines = zip_map (IsRadiusLine f.version) decimal (λ r. r < (row f.version).radius_end) (radius_line f.version)
       f.radii w.radii;
-  query_lines = zip_map IsPointLine point_text IsKey point_line f.queries w.queries;
+  query_lines = zip_map IsPointLine line_of_point IsKey point_line f.queries w.queries;
   unasked = none_written f.version f.queries w.unasked;
-  line_count = omega (arith, w.line_count, length-map f.points point_text, length-map f.edits edit_text);
+  line_count = omega (arith, w.line_count, length-map f.points line_of_point, length-map f.edits edit_text);
   radius_count = omega (arith, w.radius_count, length-map f.radii decimal);
-  query_count = omega (arith, w.query_count, length-map f.queries point_text);
+  query_count = omega (arith, w.query_count, length-map f.queries line_of_point);
 })
 
 -- an edit that a line says is one that the version may hold
@@ -140,7 +140,7 @@ none_read [] (q ∷ queries) z e = absurd z
 none_read (l ∷ lines) queries z e = absurd cc
 
 -- the file that a text is of is within the limits
-pub file_is_within : (limits : Limits) (bytes : List ℕ) (f : Content) → IsFile limits bytes f → IsWithin limits f
+pub file_is_within : (limits : Limits) (bytes : List ℕ) (f : Content) → IsFile limits bytes f → IsWithinLimits limits f
 file_is_within limits bytes f k = record {
   version = k.version;
   points = zip_all IsPointLine IsKey (λ line p s. s.key) k.points f.points k.point_lines;
@@ -198,15 +198,15 @@ lines_put {A} shown xs i old whole le so_far =
 
 -- what is put list by list, up to the radii
 pub to_radii_put : (f : Content) (b c d e g h : List ℕ) → b ≡ text_of ((row f.version).title ∷ codes "points" ∷ []) →
-    c ≡ b ++ text_of (map point_text f.points)
+    c ≡ b ++ text_of (map line_of_point f.points)
     → d ≡ c ++ text_of (codes "edits" ∷ []) → e ≡ d ++ text_of (map edit_text f.edits) →
     g ≡ e ++ text_of (codes "radii" ∷ []) → h ≡ g ++ text_of (map decimal f.radii)
-    → h ≡ text_of (to_radii f.version (map point_text f.points) (map edit_text f.edits) (map decimal f.radii))
+    → h ≡ text_of (to_radii f.version (map line_of_point f.points) (map edit_text f.edits) (map decimal f.radii))
 to_radii_put f b c d e g h pb pc pd pe pg ph =
-    let in_points : List (List ℕ) = to_points f.version (map point_text f.points) in
-    let in_edits : List (List ℕ) = to_edits f.version (map point_text f.points) (map edit_text f.edits) in
-    let qc : c ≡ text_of in_points = pc ∙ ap (λ (t : List ℕ). t ++ text_of (map point_text f.points)) pb
-    ∙ sym (text_of_append ((row f.version).title ∷ codes "points" ∷ []) (map point_text f.points)) in
+    let in_points : List (List ℕ) = to_points f.version (map line_of_point f.points) in
+    let in_edits : List (List ℕ) = to_edits f.version (map line_of_point f.points) (map edit_text f.edits) in
+    let qc : c ≡ text_of in_points = pc ∙ ap (λ (t : List ℕ). t ++ text_of (map line_of_point f.points)) pb
+    ∙ sym (text_of_append ((row f.version).title ∷ codes "points" ∷ []) (map line_of_point f.points)) in
     let qe : e ≡ text_of in_edits = pe ∙ ap (λ (t : List ℕ). t ++ text_of (map edit_text f.edits)) (pd
     ∙ ap (λ (t : List ℕ). t ++ text_of (codes "edits" ∷ [])) qc)
     ∙ pushed in_points (codes "edits") (map edit_text f.edits) in
@@ -221,29 +221,30 @@ title_put title a b e h = h ∙ ap (λ (t : List ℕ). t ++ codes "\npoints\n") 
 
 -- and the end, where there are no queries
 pub ended_put : (f : Content) (h i : List ℕ) → (row f.version).queries ≡ false →
-    h ≡ text_of (to_radii f.version (map point_text f.points) (map edit_text f.edits) (map decimal f.radii)) →
+    h ≡ text_of (to_radii f.version (map line_of_point f.points) (map edit_text f.edits) (map decimal f.radii)) →
     i ≡ h ++ text_of (codes "end" ∷ []) → i ≡ file_text f
 ended_put f h i none qh pi =
-    let before : List (List ℕ) = to_radii f.version (map point_text f.points) (map edit_text f.edits)
+    let before : List (List ℕ) = to_radii f.version (map line_of_point f.points) (map edit_text f.edits)
     (map decimal f.radii) in
-    let section : query_section f.version (map point_text f.queries) ≡ [] = rw none refl in
+    let section : query_section f.version (map line_of_point f.queries) ≡ [] = rw none refl in
     pi ∙ ap (λ (t : List ℕ). t ++ text_of (codes "end" ∷ [])) qh ∙ sym (text_of_append before (codes "end" ∷ []))
     ∙ ap (λ (ls : List (List ℕ)). text_of (ls ++ codes "end" ∷ [])) (sym (append-nil before))
     ∙ ap (λ (ls : List (List ℕ)). text_of (before ++ ls ++ codes "end" ∷ [])) (sym section)
 
 -- and where there are
 pub queries_put : (f : Content) (h j k i : List ℕ) → (row f.version).queries ≡ true →
-    h ≡ text_of (to_radii f.version (map point_text f.points) (map edit_text f.edits) (map decimal f.radii))
-    → j ≡ h ++ text_of (codes "queries" ∷ []) → k ≡ j ++ text_of (map point_text f.queries) →
+    h ≡ text_of (to_radii f.version (map line_of_point f.points) (map edit_text f.edits) (map decimal f.radii))
+    → j ≡ h ++ text_of (codes "queries" ∷ []) → k ≡ j ++ text_of (map line_of_point f.queries) →
     i ≡ k ++ text_of (codes "end" ∷ []) → i ≡ file_text f
 queries_put f h j k i has qh pj pk pi =
-    let before : List (List ℕ) = to_radii f.version (map point_text f.points) (map edit_text f.edits)
+    let before : List (List ℕ) = to_radii f.version (map line_of_point f.points) (map edit_text f.edits)
     (map decimal f.radii) in
-    let in_queries : List (List ℕ) = before ++ codes "queries" ∷ map point_text f.queries in
-    let section : query_section f.version (map point_text f.queries) ≡ codes "queries" ∷ map point_text f.queries =
+    let in_queries : List (List ℕ) = before ++ codes "queries" ∷ map line_of_point f.queries in
+    let section : query_section f.version (map line_of_point f.queries)
+    ≡ codes "queries" ∷ map line_of_point f.queries =
     rw has refl in
-    let qk : k ≡ text_of in_queries = pk ∙ ap (λ (t : List ℕ). t ++ text_of (map point_text f.queries)) (pj
+    let qk : k ≡ text_of in_queries = pk ∙ ap (λ (t : List ℕ). t ++ text_of (map line_of_point f.queries)) (pj
     ∙ ap (λ (t : List ℕ). t ++ text_of (codes "queries" ∷ [])) qh)
-    ∙ pushed before (codes "queries") (map point_text f.queries) in
+    ∙ pushed before (codes "queries") (map line_of_point f.queries) in
     pi ∙ ap (λ (t : List ℕ). t ++ text_of (codes "end" ∷ [])) qk ∙ sym (text_of_append in_queries (codes "end" ∷ []))
     ∙ ap (λ (ls : List (List ℕ)). text_of (before ++ ls ++ codes "end" ∷ [])) (sym section)

@@ -53,8 +53,8 @@ pub record IsBadLine (limits : Limits) (lines front : List (List ℕ)) (line : L
   pub no_more : AreFirstLines limits (front ++ line ∷ []) → ⊥
 
 -- the word is one of the lines
-abbrev pub has : List ℕ → List (List ℕ) → Bool
-has word lines = list_any (λ line. bytes_eq line word) lines
+abbrev pub has_line : List ℕ → List (List ℕ) → Bool
+has_line word lines = list_any (λ line. bytes_eq line word) lines
 
 -- the line is one of the section words of a version
 abbrev pub is_word : Version → List ℕ → Bool
@@ -79,14 +79,15 @@ lines_after word (line ∷ lines) = if bytes_eq line word then lines else lines_
 -- A line behind `front` may be no line of a list: it is line 1 or 2, or it
 -- stands behind `end`, or it is a section word of its version.
 abbrev pub IsForWords : List (List ℕ) → List ℕ → Type 0
-IsForWords front line = (length front < 2) ⊎ IsTrue (has (codes "end") front) ⊎ IsTrue (is_word (version_in front) line)
+IsForWords front line = (length front < 2) ⊎ IsTrue (has_line (codes "end") front)
+    ⊎ IsTrue (is_word (version_in front) line)
 
 -- The list that a line behind `front` would go to is full: of queries, or else of radii, or else of points and edits
 -- together.
-abbrev pub is_full : Limits → List (List ℕ) → Bool
-is_full limits front =
-    if has (codes "queries") front then nat_le query_limit (length (lines_after (codes "queries") front))
-    else (if has (codes "radii") front then nat_le radius_limit (length (lines_after (codes "radii") front))
+abbrev pub is_list_full : Limits → List (List ℕ) → Bool
+is_list_full limits front =
+    if has_line (codes "queries") front then nat_le query_limit (length (lines_after (codes "queries") front))
+    else (if has_line (codes "radii") front then nat_le radius_limit (length (lines_after (codes "radii") front))
     else nat_le limits.lines (count_by (λ line. not (is_word (version_in front) line)) (drop 1 front)))
 
 -- The form that lines have: that of point lines, where the word `queries` is there; else that of radius lines, where
@@ -100,17 +101,17 @@ HasFormIn version false false false line = HasPointForm line
 -- a line behind `front` has the form of its list
 abbrev pub HasForm : List (List ℕ) → List ℕ → Type 0
 HasForm front line =
-    HasFormIn (version_in front) (has (codes "queries") front) (has (codes "radii") front)
-    (has (codes "edits") front) line
+    HasFormIn (version_in front) (has_line (codes "queries") front) (has_line (codes "radii") front)
+    (has_line (codes "edits") front) line
 
 -- why a line behind `front` is bad: the first of the reasons that holds
 abbrev pub IsReason : Limits → List (List ℕ) → List ℕ → Why → Type 0
 IsReason limits front line Section = IsForWords front line
-IsReason limits front line TooMany = ¬ (IsForWords front line) × IsTrue (is_full limits front)
+IsReason limits front line TooMany = ¬ (IsForWords front line) × IsTrue (is_list_full limits front)
 IsReason limits front line Field =
-    ¬ (IsForWords front line) × IsTrue (not (is_full limits front)) × ¬ (HasForm front line)
+    ¬ (IsForWords front line) × IsTrue (not (is_list_full limits front)) × ¬ (HasForm front line)
 IsReason limits front line Range =
-    ¬ (IsForWords front line) × IsTrue (not (is_full limits front)) × HasForm front line
+    ¬ (IsForWords front line) × IsTrue (not (is_list_full limits front)) × HasForm front line
 IsReason limits front line Truncated = ⊥
 
 -- a line is bad: its number, from 1, and why

@@ -8,15 +8,15 @@ use Rattle.edit_files.specs.Versions.{row}
 use Rattle.edit_files.specs.declared.version.Version.{Version}
 
 -- three fields with one space (32) between them
-abbrev pub spaced : List ℕ → List ℕ → List ℕ → List ℕ
-spaced x y z = x ++ 32 ∷ y ++ 32 ∷ z
+abbrev pub three_spaced : List ℕ → List ℕ → List ℕ → List ℕ
+three_spaced x y z = x ++ 32 ∷ y ++ 32 ∷ z
 
 -- a line of the form of a point line: three numbers with one space between them
 pub record HasPointForm (line : List ℕ) : Type 0 where
   pub x : List ℕ
   pub y : List ℕ
   pub z : List ℕ
-  pub fields : line ≡ spaced x y z
+  pub fields : line ≡ three_spaced x y z
   pub x_number : IsNumber x
   pub y_number : IsNumber y
   pub z_number : IsNumber z
@@ -26,7 +26,7 @@ pub record IsPointLine (line : List ℕ) (point : ℕ) : Type 0 where
   pub x : List ℕ
   pub y : List ℕ
   pub z : List ℕ
-  pub fields : line ≡ spaced x y z
+  pub fields : line ≡ three_spaced x y z
   pub x_value : IsNumberOf x (x_of point)
   pub y_value : IsNumberOf y (y_of point)
   pub z_value : IsNumberOf z (z_of point)

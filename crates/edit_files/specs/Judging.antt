@@ -47,7 +47,7 @@ use Rattle.edit_files.specs.Lines.{lines_of}
 use Rattle.edit_files.specs.Numbers.{after_minus}
 use Rattle.edit_files.specs.Faults.{is_word}
 use Rattle.edit_files.specs.Keys.{coordinate_count, key_of}
-use Rattle.edit_files.specs.Forms.{spaced}
+use Rattle.edit_files.specs.Forms.{three_spaced}
 use Rattle.edit_files.specs.Grammar.{Limits, query_limit, radius_limit}
 use Rattle.edit_files.specs.Versions.{row, titled}
 use Rattle.edit_files.specs.declared.version.Version.{Version}
@@ -113,7 +113,7 @@ halves_of [] = None
 halves_of (x ∷ []) = None
 halves_of (x ∷ y ∷ []) = None
 halves_of (x ∷ y ∷ z ∷ []) = None
-halves_of (x ∷ y ∷ z ∷ u ∷ rest) = Some (spaced x y z, join_with_byte 32 (u ∷ rest))
+halves_of (x ∷ y ∷ z ∷ u ∷ rest) = Some (three_spaced x y z, join_with_byte 32 (u ∷ rest))
 
 unfoldable pub halves : List ℕ → Option (List ℕ × List ℕ)
 halves line = halves_of (fields_of line)
@@ -163,9 +163,9 @@ state r = record { place = r.place; taken = content r.file }
 abbrev pub move : Place → Content → Result State Why
 move place taken = Ok (record { place = place; taken = taken })
 
-abbrev pub with_point : Content → Result ℕ Why → Result State Why
-with_point taken (Err why) = Err why
-with_point taken (Ok p) = move places.Points (record taken { points = taken.points ++ p ∷ [] })
+abbrev pub taking_point : Content → Result ℕ Why → Result State Why
+taking_point taken (Err why) = Err why
+taking_point taken (Ok p) = move places.Points (record taken { points = taken.points ++ p ∷ [] })
 
 abbrev pub with_edit : Content → Result Edit Why → Result State Why
 with_edit taken (Err why) = Err why
@@ -195,8 +195,8 @@ abbrev pub place_behind : Version → Place
 place_behind version = if (row version).queries then places.Queries else places.End
 
 -- a line of a list: it may be no word, and the list may not be full
-abbrev pub listed : Version → List ℕ → Bool → Result State Why → Result State Why
-listed version line full taken = if is_word version line then Err Section else (if full then Err TooMany else taken)
+abbrev pub list_line : Version → List ℕ → Bool → Result State Why → Result State Why
+list_line version line full taken = if is_word version line then Err Section else (if full then Err TooMany else taken)
 
 abbrev pub step_at : Limits → Place → Content → List ℕ → Result State Why
 step_at limits places.Title taken line = with_title limits.newest taken (titled line)
@@ -204,23 +204,23 @@ step_at limits places.Heading taken line =
     if bytes_eq line (codes "points") then move places.Points taken else Err Section
 step_at limits places.Points taken line =
     if bytes_eq line (codes "edits") then move places.Edits taken
-    else listed taken.version line (nat_le limits.lines (length taken.points + length taken.edits))
-    (with_point taken (point line))
+    else list_line taken.version line (nat_le limits.lines (length taken.points + length taken.edits))
+    (taking_point taken (point line))
 step_at limits places.Edits taken line =
     if bytes_eq line (codes "radii") then move places.Radii taken
-    else listed taken.version line (nat_le limits.lines (length taken.points + length taken.edits))
+    else list_line taken.version line (nat_le limits.lines (length taken.points + length taken.edits))
     (with_edit taken (edit taken.version line))
 step_at limits places.Radii taken line =
     if bytes_eq line (word_behind taken.version) then move (place_behind taken.version) taken
-    else listed taken.version line (nat_le radius_limit (length taken.radii))
+    else list_line taken.version line (nat_le radius_limit (length taken.radii))
     (with_radius taken (radius taken.version line))
 step_at limits places.Queries taken line =
     if bytes_eq line (codes "end") then move places.End taken
-    else listed taken.version line (nat_le query_limit (length taken.queries)) (with_query taken (point line))
+    else list_line taken.version line (nat_le query_limit (length taken.queries)) (with_query taken (point line))
 step_at limits places.End taken line = Err Section
 
-unfoldable pub step : Limits → State → List ℕ → Result State Why
-step limits s line = step_at limits s.place s.taken line
+unfoldable pub after_line : Limits → State → List ℕ → Result State Why
+after_line limits s line = step_at limits s.place s.taken line
 
 -- the end of the lines; n is the number of the line that is missing
 abbrev pub ended : ℕ → Place → Content → Result Content Fault
@@ -240,13 +240,13 @@ go_on n (Ok s) rest = rest s
 -- the lines from line n on
 unfoldable pub judge : Limits → ℕ → State → List (List ℕ) → Result Content Fault
 judge limits n s [] = ended n s.place s.taken
-judge limits n s (line ∷ lines) = go_on n (step limits s line) (λ t. judge limits (n + 1) t lines)
+judge limits n s (line ∷ lines) = go_on n (after_line limits s line) (λ t. judge limits (n + 1) t lines)
 
-abbrev pub nothing : Content
-nothing = record { version = One; points = []; edits = []; radii = []; queries = [] }
+abbrev pub no_content : Content
+no_content = record { version = One; points = []; edits = []; radii = []; queries = [] }
 
 abbrev pub start : State
-start = record { place = places.Title; taken = nothing }
+start = record { place = places.Title; taken = no_content }
 
 -- all lines
 abbrev pub judged : Limits → List ℕ → Result Content Fault

@@ -7,26 +7,26 @@ use Rattle.edit_history.specs.declared.history.Edit.TheVariants.{Add, Take, Move
 use Rattle.edit_history.specs.Edits.{HasKeys, is_move}
 use Rattle.edit_files.specs.Content.{Content}
 use Rattle.edit_files.specs.Lines.{text_of}
-use Rattle.edit_files.specs.Forms.{spaced}
+use Rattle.edit_files.specs.Forms.{three_spaced}
 use Rattle.edit_files.specs.Grammar.{IsWithinNewest, Limits, query_limit, query_section, radius_limit}
 use Rattle.edit_files.specs.Versions.{row}
 use Rattle.edit_files.specs.declared.version.Version.{Version}
 
 -- the point line that is written of a point
-abbrev pub point_text : ℕ → List ℕ
-point_text p = spaced (decimal (x_of p)) (decimal (y_of p)) (decimal (z_of p))
+abbrev pub line_of_point : ℕ → List ℕ
+line_of_point p = three_spaced (decimal (x_of p)) (decimal (y_of p)) (decimal (z_of p))
 
 -- the edit line that is written of an edit
 abbrev pub edit_text : Edit → List ℕ
-edit_text (Add p) = codes "+ " ++ point_text p
-edit_text (Take p) = codes "- " ++ point_text p
-edit_text (Move a b) = codes "= " ++ point_text a ++ codes " " ++ point_text b
+edit_text (Add p) = codes "+ " ++ line_of_point p
+edit_text (Take p) = codes "- " ++ line_of_point p
+edit_text (Move a b) = codes "= " ++ line_of_point a ++ codes " " ++ line_of_point b
 
 -- the lines that are written of a file
 abbrev pub file_lines : Content → List (List ℕ)
 file_lines f =
-    (row f.version).title ∷ codes "points" ∷ map point_text f.points ++ codes "edits" ∷ map edit_text f.edits
-    ++ codes "radii" ∷ map decimal f.radii ++ query_section f.version (map point_text f.queries) ++ codes "end" ∷ []
+    (row f.version).title ∷ codes "points" ∷ map line_of_point f.points ++ codes "edits" ∷ map edit_text f.edits
+    ++ codes "radii" ∷ map decimal f.radii ++ query_section f.version (map line_of_point f.queries) ++ codes "end" ∷ []
 
 abbrev pub file_text : Content → List ℕ
 file_text f = text_of (file_lines f)
@@ -37,7 +37,7 @@ IsEditOf version e = HasKeys e × (IsTrue (is_move e) → IsTrue (row version).m
 
 -- What a file may hold: a version that is taken, points, edits and radii of the version, queries where it has them,
 -- and no more lines than there may be.
-pub record IsWithin (limits : Limits) (f : Content) : Type 0 where
+pub record IsWithinLimits (limits : Limits) (f : Content) : Type 0 where
   pub version : IsWithinNewest limits f.version
   pub points : AllByRecursion IsKey f.points
   pub edits : AllByRecursion (IsEditOf f.version) f.edits

@@ -7,7 +7,7 @@ ghost use Rattle.edit_files.specs.Content.{Content};
 ghost use Rattle.edit_files.specs.Grammar.{IsFile, Limits, up_to};
 ghost use Rattle.edit_files.specs.Generator.{generated, most_edits};
 ghost use Rattle.edit_files.specs.Faults.{IsFault};
-ghost use Rattle.edit_files.specs.Writing.{IsWithin, file_text};
+ghost use Rattle.edit_files.specs.Writing.{file_text, IsWithinLimits};
 ghost use Rattle.edit_files.specs.declared.fault.Fault.{Fault};
 ghost use Rattle.edit_files.specs.declared.version.Version.TheVariants.{One};
 
@@ -37,12 +37,12 @@ pub fn one_fault()
 
 /// The text that is written of a file is of that file, where the file is within what a text may hold.
 pub fn written_is_read()
-    ensures { (limits : Limits) (f : Content) → IsWithin limits f → IsFile limits (file_text f) f }
+    ensures { (limits : Limits) (f : Content) → IsWithinLimits limits f → IsFile limits (file_text f) f }
 {}
 
 /// What a text can be of is within what a text may hold.
 pub fn file_is_within()
-    ensures { (limits : Limits) (bytes : List ℕ) (f : Content) → IsFile limits bytes f → IsWithin limits f }
+    ensures { (limits : Limits) (bytes : List ℕ) (f : Content) → IsFile limits bytes f → IsWithinLimits limits f }
 {}
 
 /// The file of a count and a start has independent points, and no edit takes one of its opening four.
@@ -57,5 +57,5 @@ pub fn generated_is_solid()
 
 /// With at most 262,140 edits it is within what a text may hold.
 pub fn generated_is_within()
-    ensures { (count start : ℕ) → count ≤ most_edits → IsWithin (up_to One) (generated count start) }
+    ensures { (count start : ℕ) → count ≤ most_edits → IsWithinLimits (up_to One) (generated count start) }
 {}

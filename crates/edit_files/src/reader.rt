@@ -8,10 +8,8 @@ ghost use Rattle.edit_files.specs.Faults.{IsFault, is_word};
 ghost use Rattle.edit_files.specs.Judging.{
   State,
   state,
-  step,
   step_at,
   move,
-  listed,
   judged,
   ended,
   start,
@@ -21,6 +19,8 @@ ghost use Rattle.edit_files.specs.Judging.{
   with_title,
   word_behind,
   place_behind,
+  after_line,
+  list_line,
 };
 ghost use Rattle.edit_files.specs.Versions.{titled};
 ghost use Rattle.edit_files.specs.declared.version.Version.{Version};
@@ -129,8 +129,8 @@ fn is_section_word(line: &[u8], version: Version) -> bool
 // A line of a list may be no section word, and the list may not be full.
 fn admit(line: &[u8], version: Version, is_full: bool) -> Result<(), Why>
     ensures { (r : Result State Why) →
-        MatchResult result (λ _. listed version line.now is_full r ≡ r)
-        (λ why. listed version line.now is_full r ≡ Err why) }
+        MatchResult result (λ _. list_line version line.now is_full r ≡ r)
+        (λ why. list_line version line.now is_full r ≡ Err why) }
 {
     if is_section_word(line, version) {
         return Err(Why::Section);
@@ -172,7 +172,7 @@ impl Reader {
 
     // Takes the line that follows.
     fn take_line(&mut self, line: &[u8], newest: Version) -> Result<(), LineRefused>
-        ensures { Steps result (state self.new) (step (up_to newest) (state self.old) line.now) }
+        ensures { Steps result (state self.new) (after_line (up_to newest) (state self.old) line.now) }
     {
         match self.place {
             Place::Title => self.take_title(line, newest),

@@ -3,7 +3,7 @@
 ghost use Rattle.std.specs.Prelude.{◌≡◌, List, ℕ, [], ◌∷◌, ◌++◌, codes, decimal, map, IfOk, OnOk};
 ghost use Rattle.edit_files.specs.Content.{content};
 ghost use Rattle.edit_files.specs.Lines.{text_of};
-ghost use Rattle.edit_files.specs.Writing.{point_text, edit_text, file_text};
+ghost use Rattle.edit_files.specs.Writing.{edit_text, file_text, line_of_point};
 
 use crate::file::File;
 use edit_history::Edit;
@@ -23,7 +23,7 @@ fn put_number(text: &mut Vec<u8>, number: u64, end: u8) -> Result<(), AllocError
 
 // Puts the coordinates of a point behind the text, and a byte behind them.
 fn put_place(text: &mut Vec<u8>, point: Point, end: u8) -> Result<(), AllocError>
-    ensures { OnOk result (text.new.items ≡ text.old.items ++ (point_text point ++ end ∷ [])) }
+    ensures { OnOk result (text.new.items ≡ text.old.items ++ (line_of_point point ++ end ∷ [])) }
 {
     put_number(text, point.x() as u64, b' ')?;
     put_number(text, point.y() as u64, b' ')?;
@@ -32,7 +32,7 @@ fn put_place(text: &mut Vec<u8>, point: Point, end: u8) -> Result<(), AllocError
 
 // Puts a point behind the text, as a point line.
 fn put_point(text: &mut Vec<u8>, point: Point) -> Result<(), AllocError>
-    ensures { OnOk result (text.new.items ≡ text.old.items ++ text_of (point_text point ∷ [])) }
+    ensures { OnOk result (text.new.items ≡ text.old.items ++ text_of (line_of_point point ∷ [])) }
 {
     put_place(text, point, b'\n')
 }
@@ -59,7 +59,7 @@ fn put_edit(text: &mut Vec<u8>, edit: Edit) -> Result<(), AllocError>
 }
 
 fn put_points(text: &mut Vec<u8>, points: &[Point]) -> Result<(), AllocError>
-    ensures { OnOk result (text.new.items ≡ text.old.items ++ text_of (map point_text points.now)) }
+    ensures { OnOk result (text.new.items ≡ text.old.items ++ text_of (map line_of_point points.now)) }
 {
     for point in points {
         put_point(text, *point)?;

@@ -28,7 +28,7 @@ use Rattle.std.proofs.lemmas.List.{take_rest}
 use Rattle.point_order.specs.Coordinates.{IsKey}
 use Rattle.point_order.specs.Orientation.{is_flat, is_collinear}
 use Rattle.point_order.specs.Solid.{is_solid}
-use Rattle.edit_history.specs.Opening.{Four}
+use Rattle.edit_history.specs.Opening.{FourPlaces}
 use Rattle.edit_history.specs.PassedOver.{is_kept, kept}
 use Rattle.edit_history.proofs.OpeningSolid.{no_second, no_third, at_fourth}
 

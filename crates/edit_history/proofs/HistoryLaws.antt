@@ -39,7 +39,7 @@ use Rattle.edit_history.specs.declared.history.Reply.TheVariants.{
 }
 use Rattle.edit_history.specs.Edits.{point_of, reply_to, arrived, changed, after}
 use Rattle.edit_history.specs.Histories.{replay_from, replay, entries_from, IsLegalFrom}
-use Rattle.edit_history.specs.Opening.{Four, opening_four}
+use Rattle.edit_history.specs.Opening.{opening_four, FourPlaces}
 use Rattle.edit_history.specs.OneThread.{is_opening, tagged_lines, opening_first, lines_of_one_thread}
 use Rattle.edit_history.specs.Laws.{SetLaw, LegalLaw, ReplayLaw, LeavesSet}
 use Rattle.edit_history.proofs.Solidity.{solid_ascending}
@@ -243,7 +243,8 @@ parts_leave t points =
 pub replay_law : ReplayLaw
 replay_law points = by (opening_four points)
   where
-    by : (o : Option Four) → IfSome o (λ _. replay (entries_from 0 [] (lines_of_one_thread o (tagged_lines points [])))
+    by : (o : Option FourPlaces) →
+        IfSome o (λ _. replay (entries_from 0 [] (lines_of_one_thread o (tagged_lines points [])))
         ≡ ascending points)
     by None = tt
     by (Some four) =

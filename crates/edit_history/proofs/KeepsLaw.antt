@@ -52,7 +52,7 @@ use Rattle.edit_history.specs.declared.history.Edit.TheVariants.{Add}
 use Rattle.edit_history.specs.declared.history.Entry.{Entry}
 use Rattle.edit_history.specs.Edits.{share_point, after}
 use Rattle.edit_history.specs.Histories.{entries_from}
-use Rattle.edit_history.specs.Opening.{Four, opening_four}
+use Rattle.edit_history.specs.Opening.{opening_four, FourPlaces}
 use Rattle.edit_history.specs.OneThread.{places, is_opening, tagged_lines, lines_of_one_thread, line_of, Keeps}
 use Rattle.edit_history.specs.Laws.{IsFirstPlace, AreIndependent, KeepsLaw}
 use Rattle.edit_history.proofs.LinesAtPlaces.{line_at, picked}
@@ -134,7 +134,7 @@ share_adds p q e = by (q == p) refl e
 
 -- ---- the file
 
-module _ (points : List ℕ) (edits : List Edit) (four : Four) (w : AreIndependent points four) where
+module _ (points : List ℕ) (edits : List Edit) (four : FourPlaces) (w : AreIndependent points four) where
   -- the numbered lines of the file
   abbrev all : List (ℕ × Edit)
   all = tagged_lines points edits
@@ -237,7 +237,8 @@ module _ (points : List ℕ) (edits : List Edit) (four : Four) (w : AreIndepende
   pub keeps : opening_four points ≡ Some four → Keeps points edits 1 history
   keeps found =
       record {
-        opening = subst (λ (o : Option Four). IfSome o (λ f. map (λ (e : Entry). e.tag) (take 4 history) ≡ places f))
+        opening = subst (λ (o : Option FourPlaces). IfSome o
+            (λ f. map (λ (e : Entry). e.tag) (take 4 history) ≡ places f))
             (sym found) first_four;
         lines = subst (IsPermutation all) (sym (entry_lines 0 []
             (filter opens all ++ filter (λ line. not (opens line)) all)))
@@ -256,7 +257,7 @@ module _ (points : List ℕ) (edits : List Edit) (four : Four) (w : AreIndepende
 pub keeps_law : KeepsLaw
 keeps_law points edits = by (opening_four points) refl (four_law points)
   where
-    by : (o : Option Four) → opening_four points ≡ o → IfSome o (AreIndependent points) →
+    by : (o : Option FourPlaces) → opening_four points ≡ o → IfSome o (AreIndependent points) →
         IfSome o (λ _. Keeps points edits 1 (entries_from 0 [] (lines_of_one_thread o (tagged_lines points edits))))
     by None e h = tt
     by (Some four) e h = keeps points edits four h e

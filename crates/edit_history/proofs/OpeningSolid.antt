@@ -42,7 +42,7 @@ use Rattle.list_laws.proofs.Cited.{and_not_from}
 use Rattle.point_order.specs.Coordinates.{IsKey}
 use Rattle.point_order.specs.Orientation.{is_flat, is_collinear}
 use Rattle.point_order.specs.Solid.{is_solid}
-use Rattle.edit_history.specs.Opening.{Four, next_place, opening_four}
+use Rattle.edit_history.specs.Opening.{next_place, opening_four, FourPlaces}
 use Rattle.edit_history.specs.PassedOver.{is_kept, kept, four_but}
 use Rattle.std.specs.Result.{result_ok}
 use Rattle.edit_history.specs.OneThread.{places}
@@ -77,19 +77,19 @@ fourth_of absent s i j k =
     next_place (λ d. is_kept absent d && not (is_flat (slice_index s i) (slice_index s j) (slice_index s k) d)) k s
 
 -- four places as one value
-abbrev four : ℕ → ℕ → ℕ → ℕ → Four
+abbrev four : ℕ → ℕ → ℕ → ℕ → FourPlaces
 four i j k l = record { first = i; second = j; third = k; fourth = l }
 
 -- the four of the search, where three places are found
-abbrev from_third : Option ℕ → List ℕ → ℕ → ℕ → ℕ → Option Four
+abbrev from_third : Option ℕ → List ℕ → ℕ → ℕ → ℕ → Option FourPlaces
 from_third absent s i j k = option_map (four i j k) (fourth_of absent s i j k)
 
 -- where two are found
-abbrev from_second : Option ℕ → List ℕ → ℕ → ℕ → Option Four
+abbrev from_second : Option ℕ → List ℕ → ℕ → ℕ → Option FourPlaces
 from_second absent s i j = option_and_then (from_third absent s i j) (third_of absent s i j)
 
 -- where one is found
-abbrev from_first : Option ℕ → List ℕ → ℕ → Option Four
+abbrev from_first : Option ℕ → List ℕ → ℕ → Option FourPlaces
 from_first absent s i = option_and_then (from_second absent s i) (second_of absent s i)
 
 -- the first two points that the search finds are keys
@@ -188,12 +188,13 @@ opening_law s h = solid_none s (keys_all None s h)
 -- ---- the search by code, which looks for each point in what is left of the list
 
 -- what the search has answered
-pub record Answers (absent : Option ℕ) (s : List ℕ) (answer : Option Four) : Type 0 where
+pub record Answers (absent : Option ℕ) (s : List ℕ) (answer : Option FourPlaces) : Type 0 where
   pub four : four_but absent s ≡ answer
   pub solid : is_some answer ≡ is_solid (kept absent s)
 
 -- the answer of the search has a value exactly where the points that are kept are solid
-answers : (absent : Option ℕ) (s : List ℕ) (answer : Option Four) → AreKeysFound absent s → four_but absent s ≡ answer →
+answers : (absent : Option ℕ) (s : List ℕ) (answer : Option FourPlaces) → AreKeysFound absent s →
+    four_but absent s ≡ answer →
     Answers absent s answer
 answers absent s answer keys e = record { four = e; solid = sym (ap is_some e) ∙ four_but_solid absent s keys }
 
@@ -237,7 +238,7 @@ module _ (absent : Option ℕ) (s : List ℕ) where
         k = j + 1 + n
 
         -- the four, by where the last search found a point behind place k
-        abbrev answer : Option ℕ → Option Four
+        abbrev answer : Option ℕ → Option FourPlaces
         answer o = option_map (four i j k) (option_map (λ l. k + 1 + l) o)
 
         -- what the last search finds is the answer
@@ -283,7 +284,7 @@ fourth_found absent s i j k a b c o ea eb ec e = sym (e ∙ rw (take_rest s (k +
 -- ---- the answer as a result
 
 -- there are no four where there are no places of them
-map_none : (o : Option Four) → option_map places o ≡ None → o ≡ None
+map_none : (o : Option FourPlaces) → option_map places o ≡ None → o ≡ None
 map_none None e = refl
 map_none (Some f) e = cc
 
@@ -387,5 +388,5 @@ module _ (s : List ℕ) where
 -- the opening four are independent points, each at the first place of its point
 pub four_law : FourLaw
 four_law s =
-    subst (λ (o : Option Four). IfSome o (AreIndependent s)) (four_but_none s)
+    subst (λ (o : Option FourPlaces). IfSome o (AreIndependent s)) (four_but_none s)
     (four_first s (position_from (is_kept None) 0 s) (next_is (is_kept None) 0 s))

@@ -7,7 +7,7 @@ use Rattle.point_order.specs.Sets.{IsAscending, ascending}
 use Rattle.edit_history.specs.declared.history.Edit.{Edit}
 use Rattle.edit_history.specs.declared.history.Entry.{Entry}
 use Rattle.edit_history.specs.Edits.{reply_to, after}
-use Rattle.edit_history.specs.Opening.{Four, opening_four}
+use Rattle.edit_history.specs.Opening.{opening_four, FourPlaces}
 use Rattle.edit_history.specs.Histories.{IsLegal, replay}
 use Rattle.edit_history.specs.OneThread.{one_thread, Keeps}
 
@@ -20,7 +20,7 @@ abbrev pub IsFirstPlace : List ℕ → ℕ → Type 0
 IsFirstPlace points i = (m : ℕ) → m < i → slice_index points m ≢ slice_index points i
 
 -- the four are independent points of the list, each at its first place
-pub record AreIndependent (points : List ℕ) (four : Four) : Type 0 where
+pub record AreIndependent (points : List ℕ) (four : FourPlaces) : Type 0 where
   pub ascending : (four.first < four.second) × (four.second < four.third) × (four.third < four.fourth)
   pub within : four.fourth < length points
   pub independent :

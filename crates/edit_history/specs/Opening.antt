@@ -6,7 +6,7 @@ use Rattle.std.specs.Prelude.{slice_index}
 use Rattle.point_order.specs.Orientation.{is_flat, is_collinear}
 
 -- four places in a list
-pub record Four : Type 0 where
+pub record FourPlaces : Type 0 where
   pub first : ℕ
   pub second : ℕ
   pub third : ℕ
@@ -18,7 +18,7 @@ next_place test i points = position_from test (i + 1) (drop (i + 1) points)
 
 -- the first point, the first after it that differs from it, the first after that off the line of the two,
 -- and the first after that off the plane of the three
-abbrev pub opening_four : List ℕ → Option Four
+abbrev pub opening_four : List ℕ → Option FourPlaces
 opening_four [] = None
 opening_four (a ∷ rest) =
     let points = a ∷ rest in

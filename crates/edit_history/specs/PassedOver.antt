@@ -3,7 +3,7 @@ use Rattle.std.specs.Prelude.{ℕ, Bool, true, not, ◌==◌, ◌&&◌, List, Op
 use Rattle.std.specs.List.{filter, position_from}
 use Rattle.std.specs.Option.{option_and_then, option_map}
 use Rattle.point_order.specs.Orientation.{is_flat, is_collinear}
-use Rattle.edit_history.specs.Opening.{Four, next_place}
+use Rattle.edit_history.specs.Opening.{next_place, FourPlaces}
 
 -- the point is not the one that is passed over
 abbrev pub is_kept : Option ℕ → ℕ → Bool
@@ -15,7 +15,7 @@ abbrev pub kept : Option ℕ → List ℕ → List ℕ
 kept absent points = filter (is_kept absent) points
 
 -- the places of the opening four of the points that are kept
-abbrev pub four_but : Option ℕ → List ℕ → Option Four
+abbrev pub four_but : Option ℕ → List ℕ → Option FourPlaces
 four_but absent points =
     option_and_then
     (λ i.

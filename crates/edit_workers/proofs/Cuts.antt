@@ -35,7 +35,7 @@ use Rattle.plain_laws.specs.Running.{Pair, clash, dealt_out, segments}
 use Rattle.plain_laws.proofs.Cited.{dealt_all, segments_begin, segments_go_on, share_flips}
 use Rattle.edit_workers.specs.declared.cutting.Marks.{Marks}
 use Rattle.edit_workers.specs.declared.cutting.Cutter.{Cutter}
-use Rattle.edit_workers.specs.Cutting.{AreCut, AreMarks, HasSeen, has, has_place}
+use Rattle.edit_workers.specs.Cutting.{AreCut, AreMarks, HasSeen, has_place, has_key}
 use Rattle.edit_workers.specs.Dealing.{all_of, lists_of, with_pair}
 use Rattle.edit_workers.proofs.Deals.{dealt_more, dealt_nothing}
 
@@ -123,21 +123,21 @@ module _ (lines : List Pair) (tag : ℕ) (keys : ℕ → Bool) where
 
 -- the marks tell it
 pub move_clash : (lines : List Pair) (tag : ℕ) (edit : Edit) (marks : Marks) (found : Bool) → is_move edit ≡ true →
-    HasSeen lines marks → found ≡ list_any (has marks.seen) (edit_points edit) →
+    HasSeen lines marks → found ≡ list_any (has_key marks.seen) (edit_points edit) →
     found ≡ list_any (λ earlier. clash earlier (tag, edit)) lines
 move_clash lines tag (Add p) marks found m are f = absurd (false≢true m)
 move_clash lines tag (Take p) marks found m are f = absurd (false≢true m)
 move_clash lines tag (Move a b) marks found m are f =
-    let seen = are.are_marks.seen are.are_seen in f ∙ two_clash lines tag (has marks.seen) a b (seen a) (seen b)
+    let seen = are.are_marks.seen are.are_seen in f ∙ two_clash lines tag (has_key marks.seen) a b (seen a) (seen b)
 
 -- of an edit that moves nothing the points of lines that move tell it
 pub still_clash : (lines : List Pair) (tag : ℕ) (edit : Edit) (marks : Marks) (found : Bool) → is_move edit ≡ false →
-    AreMarks lines marks → found ≡ list_any (has marks.moved) (edit_points edit) →
+    AreMarks lines marks → found ≡ list_any (has_key marks.moved) (edit_points edit) →
     found ≡ list_any (λ earlier. clash earlier (tag, edit)) lines
 still_clash lines tag (Add p) marks found m are f =
-    f ∙ one_clash lines tag (has marks.moved) (Add p) p refl refl (are.moved p)
+    f ∙ one_clash lines tag (has_key marks.moved) (Add p) p refl refl (are.moved p)
 still_clash lines tag (Take p) marks found m are f =
-    f ∙ one_clash lines tag (has marks.moved) (Take p) p refl refl (are.moved p)
+    f ∙ one_clash lines tag (has_key marks.moved) (Take p) p refl refl (are.moved p)
 still_clash lines tag (Move a b) marks found m are f = absurd (false≢true (sym m))
 
 -- ---- one line more
@@ -151,9 +151,9 @@ no_marks marks s m = record {
 
 -- marks that see the points of all lists of lines that were dealt
 pub marks_see : (n : ℕ) (lines : List Pair) (lists : List (List Pair)) (old new : Marks) → 0 < n →
-    lists ≡ dealt_out n lines → AreMarks lines old → ((p : ℕ) → has new.moved p ≡ has old.moved p) →
+    lists ≡ dealt_out n lines → AreMarks lines old → ((p : ℕ) → has_key new.moved p ≡ has_key old.moved p) →
     new.are_seen ≡ true →
-    ((p : ℕ) → has new.seen p ≡ list_any (has_place p) (all_of lists)) → HasSeen lines new
+    ((p : ℕ) → has_key new.seen p ≡ list_any (has_place p) (all_of lists)) → HasSeen lines new
 marks_see n lines lists old new some dealt are moved seen points = record {
   are_marks = record {
     moved = λ p. moved p ∙ are.moved p;
@@ -180,8 +180,8 @@ points_more f ls i x p old new b e o m =
 -- those of lines with one more
 pub marks_more : (lines : List Pair) (tag : ℕ) (edit : Edit) (old new : Marks) → AreMarks lines old →
     new.are_seen ≡ old.are_seen →
-    (old.are_seen ≡ true → (p : ℕ) → has new.seen p ≡ (has old.seen p || is_among p (edit_points edit))) →
-    ((p : ℕ) → has new.moved p ≡ (has old.moved p || (is_move edit && is_among p (edit_points edit)))) →
+    (old.are_seen ≡ true → (p : ℕ) → has_key new.seen p ≡ (has_key old.seen p || is_among p (edit_points edit))) →
+    ((p : ℕ) → has_key new.moved p ≡ (has_key old.moved p || (is_move edit && is_among p (edit_points edit)))) →
     AreMarks (lines ++ (tag, edit) ∷ []) new
 marks_more lines tag edit old new are same s m = record {
   seen = λ new_seen p.

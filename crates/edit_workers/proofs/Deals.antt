@@ -41,7 +41,7 @@ use Rattle.list_laws.proofs.Cited.{eq_same, map_but_one, one_value}
 use Rattle.point_order.specs.Sets.{is_among}
 use Rattle.edit_history.specs.declared.history.Edit.{Edit}
 use Rattle.edit_history.specs.Edits.{point_of}
-use Rattle.edit_history.specs.Opening.{Four, opening_four}
+use Rattle.edit_history.specs.Opening.{opening_four, FourPlaces}
 use Rattle.edit_history.specs.OneThread.{places}
 use Rattle.plain_laws.specs.Running.{Pair, dealt_to, dealt_out, other_lines}
 use Rattle.edit_workers.specs.Dealing.{with_pair, AreOpening}
@@ -50,7 +50,7 @@ use Rattle.edit_workers.specs.Dealing.{with_pair, AreOpening}
 pub are_opening : (points four : List ℕ) → option_map places (opening_four points) ≡ Some four → AreOpening points four
 are_opening points four e = by (opening_four points) refl e
   where
-    by : (o : Option Four) → opening_four points ≡ o → option_map places o ≡ Some four → AreOpening points four
+    by : (o : Option FourPlaces) → opening_four points ≡ o → option_map places o ≡ Some four → AreOpening points four
     by None f e = absurd (cc e)
     by (Some f) g e = (f, g, sym (one_value (places f) four e))
 

@@ -36,7 +36,7 @@ use Rattle.list_laws.proofs.Cited.{
 use Rattle.point_order.specs.Sets.{IsIn}
 use Rattle.edit_history.specs.Edits.{share_point}
 use Rattle.plain_laws.specs.Running.{Pair}
-use Rattle.edit_workers.specs.Working.{Marked, left_over, done, LeavesLater, first_ones}
+use Rattle.edit_workers.specs.Working.{Marked, left_over, LeavesLater, first_ones, pairs_done}
 use Rattle.edit_workers.specs.Trying.{shares_with}
 
 -- ---- how many share no point with an earlier one
@@ -83,7 +83,7 @@ left_more l x =
     ∙ map-append (λ (m : Marked). m.1) (filter (λ (m : Marked). m.0) l) ((true, x) ∷ [])
 
 -- and leaves what is done
-pub done_same : (l : List Marked) (x : Pair) → done (l ++ (true, x) ∷ []) ≡ done l
+pub done_same : (l : List Marked) (x : Pair) → pairs_done (l ++ (true, x) ∷ []) ≡ pairs_done l
 done_same l x =
     ap (map (λ (m : Marked). m.1)) (filter-append (λ (m : Marked). not m.0) l ((true, x) ∷ [])
     ∙ append-nil (filter (λ (m : Marked). not m.0) l))
@@ -95,7 +95,7 @@ left_same l x =
     ∙ append-nil (filter (λ (m : Marked). m.0) l))
 
 -- and is the last that is done
-pub done_more : (l : List Marked) (x : Pair) → done (l ++ (false, x) ∷ []) ≡ done l ++ x ∷ []
+pub done_more : (l : List Marked) (x : Pair) → pairs_done (l ++ (false, x) ∷ []) ≡ pairs_done l ++ x ∷ []
 done_more l x =
     ap (map (λ (m : Marked). m.1)) (filter-append (λ (m : Marked). not m.0) l ((false, x) ∷ []))
     ∙ map-append (λ (m : Marked). m.1) (filter (λ (m : Marked). not m.0) l) ((false, x) ∷ [])
@@ -110,7 +110,7 @@ all_parted [] = refl
 all_parted (x ∷ l) = ap (λ (t : List Pair). x ∷ t) (all_parted l)
 
 -- with such pairs behind it a list has done what it had
-pub none_done : (l : List Marked) (r : List Pair) → done (l ++ all_left r) ≡ done l
+pub none_done : (l : List Marked) (r : List Pair) → pairs_done (l ++ all_left r) ≡ pairs_done l
 none_done l r =
     ap (map (λ (m : Marked). m.1)) (filter-append (λ (m : Marked). not m.0) l (all_left r)
     ∙ ap (λ (t : List Marked). filter (λ (m : Marked). not m.0) l ++ t) (empty r)
@@ -121,11 +121,11 @@ none_done l r =
     empty (x ∷ r) = empty r
 
 -- no more are done than there are
-pub done_few : (l : List Marked) → length (done l) ≤ length l
+pub done_few : (l : List Marked) → length (pairs_done l) ≤ length l
 done_few [] = omega arith
 done_few (m ∷ l) = by m.0 (done_few l)
   where
-    by : (b : Bool) → length (done l) ≤ length l → length (map (λ (m : Marked). m.1)
+    by : (b : Bool) → length (pairs_done l) ≤ length l → length (map (λ (m : Marked). m.1)
         (if not b then m ∷ filter (λ (m : Marked). not m.0) l else filter (λ (m : Marked). not m.0) l)) ≤ length (m ∷ l)
     by true h = omega (arith, h)
     by false h = omega (arith, h)

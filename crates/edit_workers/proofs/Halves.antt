@@ -58,11 +58,11 @@ use Rattle.edit_workers.specs.Running.{
   CanRun,
   AscendAtPoint,
   AreHalves,
-  AreJoined,
   ArePartly,
   AreRunBut,
   AreWorked,
   IsOfWorker,
+  ArePassesJoined,
 }
 use Rattle.edit_workers.specs.Arranging.{IsArranged, IsInPlace}
 use Rattle.edit_workers.specs.Rounds.{IsWorkedInRounds}
@@ -401,7 +401,7 @@ module _ (ls lows highs : List lists.List) (parts allowance : ℕ) (table : Open
 
   -- what both halves did and left over, joined, is the work of the whole pass
   joined_both : (a b : List Pair) (p q : Standing) → AreWorked (pairs_in lows) a mid p →
-      AreWorked (pairs_in highs) b other q → AreJoined table (pairs_in ls) old a b p q
+      AreWorked (pairs_in highs) b other q → ArePassesJoined table (pairs_in ls) old a b p q
   joined_both a b p q low high = record {
     low =
         table_low (pairs_in lows) (pairs_in highs) old mid other some_low' some_high' split_cut a b p q fits

@@ -44,13 +44,13 @@ use Rattle.plain_laws.specs.Running.{Pair}
 use Rattle.edit_workers.specs.Working.{
   Marked,
   Stretch,
-  done,
   left_over,
   first_ones,
   AreEntriesOf,
   HasMade,
   IsWorked,
   IsBroken,
+  pairs_done,
 }
 use Rattle.edit_workers.specs.Trying.{
   OwnsAll,
@@ -482,7 +482,8 @@ module _ (list left : List Pair) (pair : Pair) (old now new : Standing) (w : IsW
             (not_both (shares_with pair.1 left) (ap (shares_with pair.1) w.left_is ∙ i) f.first));
         entries = w.entries ++ entry_of f.made.number old.first pair.0 pair.1 f.made.reply ∷ [];
         made = subst (λ (l : List Pair). AreEntriesOf old l (w.entries ++ entry_of f.made.number old.first pair.0 pair.1
-            f.made.reply ∷ [])) (sym (done_more w.marked pair)) (entries_more old now new (done w.marked) w.entries
+            f.made.reply ∷ [])) (sym (done_more w.marked pair))
+            (entries_more old now new (pairs_done w.marked) w.entries
             w.steps 64 pair.0 pair.1 w.made w.pass f.made);
         steps = w.steps ++ f.made.steps;
         pass = made_more old now new w.entries w.steps 64 pair.0 pair.1 w.pass f.made;

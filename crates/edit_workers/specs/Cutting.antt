@@ -10,8 +10,8 @@ use Rattle.edit_workers.specs.declared.cutting.Cutter.{Cutter}
 use Rattle.edit_workers.specs.Dealing.{lists_of}
 
 -- a set of keys has a point
-abbrev pub has : {S : Type 0} → HashSet ℕ S → ℕ → Bool
-has keys p = contains (λ a b. a == b) keys p
+abbrev pub has_key : {S : Type 0} → HashSet ℕ S → ℕ → Bool
+has_key keys p = contains (λ a b. a == b) keys p
 
 -- the line has the point, as one of its places
 abbrev pub has_place : ℕ → Pair → Bool
@@ -19,8 +19,8 @@ has_place p line = is_among p (edit_points line.1)
 
 -- One set has the points of the lines of a segment that move, the other one, where it says so, those of all its lines.
 pub record AreMarks (lines : List Pair) (marks : Marks) : Type 0 where
-  pub moved : (p : ℕ) → has marks.moved p ≡ list_any (λ line. is_move line.1 && has_place p line) lines
-  pub seen : marks.are_seen ≡ true → (p : ℕ) → has marks.seen p ≡ list_any (has_place p) lines
+  pub moved : (p : ℕ) → has_key marks.moved p ≡ list_any (λ line. is_move line.1 && has_place p line) lines
+  pub seen : marks.are_seen ≡ true → (p : ℕ) → has_key marks.seen p ≡ list_any (has_place p) lines
 
 -- They are, and the other set says so.
 pub record HasSeen (lines : List Pair) (marks : Marks) : Type 0 where

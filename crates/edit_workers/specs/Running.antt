@@ -106,7 +106,8 @@ pub record AreWorked (lists : List (List Pair)) (left : List Pair) (old new : St
 
 -- Two passes of the table, of which the second's parts come behind those of the first, have together done the lists of
 -- the pass that they were.
-pub record AreJoined (table : Opened) (lists : List (List Pair)) (old : Standing) (a b : List Pair) (p q : Standing) :
+pub record ArePassesJoined (table : Opened) (lists : List (List Pair)) (old : Standing) (a b : List Pair)
+    (p q : Standing) :
     Type 0 where
   pub low : p.table ≡ table
   pub high : q.table ≡ table
@@ -118,7 +119,7 @@ pub record AreHalves (table : Opened) (lists lows highs : List (List Pair)) (old
   pub low : CanRun table lows first
   pub high : CanRun table highs second
   pub both : (a b : List Pair) (p q : Standing) → AreWorked lows a first p → AreWorked highs b second q →
-      AreJoined table lists old a b p q
+      ArePassesJoined table lists old a b p q
 
 -- The history k is h, gone on with a run of the lists but for the pairs left over.
 pub record AreRunBut (lists : List (List Pair)) (left : List Pair) (h k : List Entry) : Type 0 where

@@ -39,8 +39,8 @@ Marked = Bool × Pair
 abbrev pub left_over : List Marked → List Pair
 left_over l = map (λ x. x.1) (filter (λ x. x.0) l)
 
-abbrev pub done : List Marked → List Pair
-done l = map (λ x. x.1) (filter (λ x. not x.0) l)
+abbrev pub pairs_done : List Marked → List Pair
+pairs_done l = map (λ x. x.1) (filter (λ x. not x.0) l)
 
 -- what shares a point with an earlier pair that is left over is left over too
 abbrev pub LeavesLater : List Marked → Type 0
@@ -92,7 +92,7 @@ pub record IsWorked (list left : List Pair) (old new : Standing) : Type 0 where
   pub left_is : left ≡ left_over marked
   pub later : LeavesLater marked
   pub entries : List Entry
-  pub made : AreEntriesOf old (done marked) entries
+  pub made : AreEntriesOf old (pairs_done marked) entries
   pub steps : List Act
   pub pass : HasMade old new entries steps
   pub stretches : List Stretch
@@ -107,6 +107,6 @@ pub record IsBroken (list : List Pair) (old new : Standing) : Type 0 where
   pub marked : List Marked
   pub parted : map (λ x. x.1) marked ≡ list
   pub entries : List Entry
-  pub made : AreEntriesOf old (done marked) entries
+  pub made : AreEntriesOf old (pairs_done marked) entries
   pub steps : List Act
   pub pass : HasMade old new entries steps

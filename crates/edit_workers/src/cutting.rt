@@ -7,7 +7,7 @@ ghost use Rattle.point_order.specs.Sets.{is_among};
 ghost use Rattle.edit_history.specs.Edits.{edit_points, is_move, point_of};
 ghost use Rattle.plain_laws.specs.Running.{Pair, clash as clash_of, dealt_out};
 ghost use Rattle.edit_workers.specs.Dealing.{all_of, lists_of, pairs_in, segments_of, with_pair};
-ghost use Rattle.edit_workers.specs.Cutting.{AreCut, AreMarks, HasSeen, has, has_place};
+ghost use Rattle.edit_workers.specs.Cutting.{AreCut, AreMarks, HasSeen, has_place, has_key};
 
 use crate::lists::{List, Lists, Segment};
 use edit_history::Edit;
@@ -41,7 +41,7 @@ fn moves(edit: &Edit) -> bool
 
 // Whether some point of the edit is in the set.
 fn has_point(keys: &HashSet<u64>, edit: &Edit) -> bool
-    ensures { result ≡ list_any (λ p. has keys.now p) (edit_points edit.now) }
+    ensures { result ≡ list_any (λ p. has_key keys.now p) (edit_points edit.now) }
 {
     match *edit {
         Edit::Add(p) => keys.contains(&p.key()),
@@ -52,7 +52,7 @@ fn has_point(keys: &HashSet<u64>, edit: &Edit) -> bool
 
 // Puts the points of the edit into the set.
 fn put_points(keys: &mut HashSet<u64>, edit: &Edit) -> Result<(), AllocError>
-    ensures { OnOk result ((p : ℕ) → has keys.new p ≡ (has keys.old p || is_among p (edit_points edit.now))) }
+    ensures { OnOk result ((p : ℕ) → has_key keys.new p ≡ (has_key keys.old p || is_among p (edit_points edit.now))) }
 {
     keys.insert(edit.point().key())?;
     if let Edit::Move(_, to) = *edit {
@@ -63,7 +63,7 @@ fn put_points(keys: &mut HashSet<u64>, edit: &Edit) -> Result<(), AllocError>
 
 // Puts the points of the edits of a list into the set.
 fn put_list(keys: &mut HashSet<u64>, pairs: &[(u32, Edit)]) -> Result<(), AllocError>
-    ensures { OnOk result ((p : ℕ) → has keys.new p ≡ (has keys.old p || list_any (has_place p) pairs.now)) }
+    ensures { OnOk result ((p : ℕ) → has_key keys.new p ≡ (has_key keys.old p || list_any (has_place p) pairs.now)) }
 {
     for pair in pairs {
         put_points(keys, &pair.1)?;
@@ -73,7 +73,7 @@ fn put_list(keys: &mut HashSet<u64>, pairs: &[(u32, Edit)]) -> Result<(), AllocE
 
 // The points of the edits of all lists.
 fn points_of(alloc: Global, lists: &[List]) -> Result<HashSet<u64>, AllocError>
-    ensures { IfOk result (λ keys. (p : ℕ) → has keys p ≡ list_any (has_place p) (all_of (pairs_in lists.now))) }
+    ensures { IfOk result (λ keys. (p : ℕ) → has_key keys p ≡ list_any (has_place p) (all_of (pairs_in lists.now))) }
 {
     let mut keys = HashSet::new(alloc);
     for list in lists {

@@ -61,9 +61,9 @@ use Rattle.point_order.specs.Sets.{IsIn, IsAscending, is_among}
 use Rattle.point_order.specs.Subsets.{subsets}
 use Rattle.del_laws.proofs.Cited.{part_ascending, part_inside, part_true}
 use Rattle.face_list.specs.declared.table.Table.{Table}
-use Rattle.face_list.specs.Faces.{points_in, parts_in, points_with_cells, with_cells}
-use Rattle.face_list.specs.Gather.{is_full, numbers_of, items_from, Gathers, AreAscending, AreItems}
-use Rattle.face_list.specs.Tables.{cell_at, numbered, paired, table_seen}
+use Rattle.face_list.specs.Faces.{points_in, parts_in, points_with_cells, with_cells_around}
+use Rattle.face_list.specs.Gather.{numbers_of, items_from, AreAscending, AreItems, is_a_full_cell, GathersItems}
+use Rattle.face_list.specs.Tables.{cell_at, paired, table_seen, cells_numbered}
 use Rattle.face_list.proofs.FaceLaws.{
   points_in_order,
   point_is_listed,
@@ -154,7 +154,7 @@ which_rise t n (c ∷ cells) = by (which_rise t (suc n) cells) (t c) refl
 
 -- and name the cells that pass
 which_are : (t : Cell → Bool) (all : List Cell) (n : ℕ) (cells : List Cell) →
-    ((i : ℕ) → cell_at all (n + i) ≡ cell_at cells i) → numbered all (which t n cells) ≡ filter t cells
+    ((i : ℕ) → cell_at all (n + i) ≡ cell_at cells i) → cells_numbered all (which t n cells) ≡ filter t cells
 which_are t all n [] f = refl
 which_are t all n (c ∷ cells) f = by (which_are t all (suc n) cells (λ i. ap (cell_at all) (omega arith) ∙ f (suc i)))
     (t c) refl
@@ -162,12 +162,12 @@ which_are t all n (c ∷ cells) f = by (which_are t all (suc n) cells (λ i. ap 
     first : cell_at all n ≡ c
     first = ap (cell_at all) (omega arith) ∙ f 0
 
-    by : numbered all (which t (suc n) cells) ≡ filter t cells → (b : Bool) → t c ≡ b →
-        numbered all (which t n (c ∷ cells)) ≡ filter t (c ∷ cells)
-    by rest true e = ap (numbered all) (which_true t n c cells e)
-        ∙ ap (λ (v : Cell). v ∷ numbered all (which t (suc n) cells)) first ∙ ap (λ (l : List Cell). c ∷ l) rest
+    by : cells_numbered all (which t (suc n) cells) ≡ filter t cells → (b : Bool) → t c ≡ b →
+        cells_numbered all (which t n (c ∷ cells)) ≡ filter t (c ∷ cells)
+    by rest true e = ap (cells_numbered all) (which_true t n c cells e)
+        ∙ ap (λ (v : Cell). v ∷ cells_numbered all (which t (suc n) cells)) first ∙ ap (λ (l : List Cell). c ∷ l) rest
         ∙ rw e refl
-    by rest false e = ap (numbered all) (which_false t n c cells e) ∙ rest ∙ rw e refl
+    by rest false e = ap (cells_numbered all) (which_false t n c cells e) ∙ rest ∙ rw e refl
 
 -- ---- the items of cells
 
@@ -273,7 +273,7 @@ module _ {K : Type 0} (cmp : K → K → Ordering) (o : IsTotalOrder cmp) (exact
       × ((i : ℕ) → i < length cells → test k (cell_at cells i) ≡ true → IsIn k (parts (cell_at cells i)))
 
   -- the numbers that are gathered under a key are those of the cells that pass its test
-  numbers_are : (t : Table K) (g : Gathers cmp cells (items_from 0 parts cells) t) (k : K) → Told k →
+  numbers_are : (t : Table K) (g : GathersItems cmp cells (items_from 0 parts cells) t) (k : K) → Told k →
       numbers_of cmp g.sorted k ≡ which (test k) 0 cells
   numbers_are t g k told = one_order nat_cmp nat_cmp_total (numbers_of cmp g.sorted k) (which (test k) 0 cells)
       (numbers_rise cmp o exact g.sorted k g.order) (which_rise (test k) 0 cells) there back
@@ -290,35 +290,36 @@ module _ {K : Type 0} (cmp : K → K → Ordering) (o : IsTotalOrder cmp) (exact
           (item_true parts 0 k n h.place cells h.inside h.is (told.1 h.place h.inside h.holds))))
 
   -- so they name these cells
-  cells_are : (t : Table K) (g : Gathers cmp cells (items_from 0 parts cells) t) (k : K) → Told k →
-      numbered cells (numbers_of cmp g.sorted k) ≡ filter (test k) cells
-  cells_are t g k told = ap (numbered cells) (numbers_are t g k told)
+  cells_are : (t : Table K) (g : GathersItems cmp cells (items_from 0 parts cells) t) (k : K) → Told k →
+      cells_numbered cells (numbers_of cmp g.sorted k) ≡ filter (test k) cells
+  cells_are t g k told = ap (cells_numbered cells) (numbers_are t g k told)
       ∙ which_are (test k) cells 0 cells (λ i. ap (cell_at cells) (omega arith))
 
   -- each key has the list of its cells
-  lists_are : (t : Table K) (g : Gathers cmp cells (items_from 0 parts cells) t) (ks : List K) →
-      ((k : K) → IsIn k ks → Told k) → paired ks (map (numbered cells) (map (numbers_of cmp g.sorted) ks)) ≡ map
+  lists_are : (t : Table K) (g : GathersItems cmp cells (items_from 0 parts cells) t) (ks : List K) →
+      ((k : K) → IsIn k ks → Told k) → paired ks (map (cells_numbered cells) (map (numbers_of cmp g.sorted) ks)) ≡ map
       (λ k. (k, filter (test k) cells)) ks
   lists_are t g [] f = refl
   lists_are t g (k ∷ ks) f =
-      ap (λ (l : List Cell). (k, l) ∷ paired ks (map (numbered cells) (map (numbers_of cmp g.sorted) ks)))
+      ap (λ (l : List Cell). (k, l) ∷ paired ks (map (cells_numbered cells) (map (numbers_of cmp g.sorted) ks)))
       (cells_are t g k (f k (inl refl)))
       ∙ ap (λ (l : List (K × List Cell)). (k, filter (test k) cells) ∷ l) (lists_are t g ks (λ j i. f j (inr i)))
 
   -- so the table shows each face with its cells
   pub seen_is :
-      (t : Table K) (faces : List K) → Gathers cmp cells (items_from 0 parts cells) t → IsStrictlySortedBy cmp faces →
+      (t : Table K) (faces : List K) → GathersItems cmp cells (items_from 0 parts cells) t →
+      IsStrictlySortedBy cmp faces →
       ((k : K) → IsIn k faces → Told k) →
       ((k : K) → (q : List ℕ) → IsIn (Full q) cells → IsIn k (parts (Full q)) → IsIn k faces) →
       ((k : K) → IsIn k faces → (q : List ℕ) × IsIn (Full q) cells × IsIn k (parts (Full q))) →
       table_seen cells t ≡ map (λ k. (k, filter (test k) cells)) faces
   seen_is t faces g s told there back =
-      ap (λ (l : List (List ℕ)). paired t.keys.items (map (numbered cells) l)) g.lists
-      ∙ ap (λ (l : List K). paired l (map (numbered cells) (map (numbers_of cmp g.sorted) l))) keys_are
+      ap (λ (l : List (List ℕ)). paired t.keys.items (map (cells_numbered cells) l)) g.lists
+      ∙ ap (λ (l : List K). paired l (map (cells_numbered cells) (map (numbers_of cmp g.sorted) l))) keys_are
       ∙ lists_are t g faces told
     where
       -- a Full cell by its number
-      full_cell : (k : K) (i : ℕ) → i < length cells → (c : Cell) → cell_at cells i ≡ c → is_full c ≡ true →
+      full_cell : (k : K) (i : ℕ) → i < length cells → (c : Cell) → cell_at cells i ≡ c → is_a_full_cell c ≡ true →
           IsIn k (parts c) → IsIn k faces
       full_cell k i h (Full q) e f p = there k q (subst (λ v. IsIn v cells) e (at_in cells i (Full []) h)) p
       full_cell k i h (Open q) e f p = cc
@@ -329,7 +330,7 @@ module _ {K : Type 0} (cmp : K → K → Ordering) (o : IsTotalOrder cmp) (exact
           let h = item_from parts 0 k f.0 cells ((g.same (k, f.0)).0 f.1) in
           let e : h.place ≡ f.0 = (let d = h.is in omega (arith, d)) in
           full_cell k h.place h.inside (cell_at cells h.place) refl
-          (subst (λ n. is_full (cell_at cells n) ≡ true) (sym e) f.2) h.holds)
+          (subst (λ n. is_a_full_cell (cell_at cells n) ≡ true) (sym e) f.2) h.holds)
 
       -- where it stands
       stands : (q : List ℕ) (i : ℕ) → i < length cells → get_or cells i (Full q) ≡ Full q → cell_at cells i ≡ Full q
@@ -347,7 +348,7 @@ module _ {K : Type 0} (cmp : K → K → Ordering) (o : IsTotalOrder cmp) (exact
           let e = stands b.0 p.0 p.1 p.2 in
           (g.keys k).1 (full_true cells g.sorted k p.0
           ((g.same (k, p.0)).1 (item_true parts 0 k p.0 p.0 cells p.1 (omega arith)
-          (subst (λ c. IsIn k (parts c)) (sym e) b.2))) (subst (λ c. is_full c ≡ true) (sym e) refl)))
+          (subst (λ c. IsIn k (parts c)) (sym e) b.2))) (subst (λ c. is_a_full_cell c ≡ true) (sym e) refl)))
 
       keys_are : t.keys.items ≡ faces
       keys_are = one_order cmp o t.keys.items faces g.keys_order s key_is_face face_is_key
@@ -356,7 +357,7 @@ module _ {K : Type 0} (cmp : K → K → Ordering) (o : IsTotalOrder cmp) (exact
 
 -- what is gathered under points
 pub points_gathered : (cells : List Cell) (t : Table ℕ) → AreAscending cells →
-    Gathers nat_cmp cells (items_from 0 points_of cells) t →
+    GathersItems nat_cmp cells (items_from 0 points_of cells) t →
     table_seen cells t ≡ points_with_cells (points_in cells) cells
 points_gathered cells t a g =
     seen_is nat_cmp nat_cmp_total exact_unsigned points_of (λ p c. list_all (λ e. is_among e (points_of c)) (p ∷ []))
@@ -395,8 +396,8 @@ part_length (suc k) (x ∷ q) p m = elim (from_append p (map (λ r. x ∷ r) (su
 
 -- what is gathered under parts of k points
 pub parts_gathered : (k : ℕ) (cells : List Cell) (t : Table (List ℕ)) → AreAscending cells →
-    Gathers (slice_cmp nat_cmp) cells (items_from 0 (λ c. subsets k (points_of c)) cells) t →
-    table_seen cells t ≡ with_cells (parts_in k cells) cells
+    GathersItems (slice_cmp nat_cmp) cells (items_from 0 (λ c. subsets k (points_of c)) cells) t →
+    table_seen cells t ≡ with_cells_around (parts_in k cells) cells
 parts_gathered k cells t a g =
     seen_is (slice_cmp nat_cmp) nat_list_cmp_total exact_bytes (λ c. subsets k (points_of c))
     (λ p c. list_all (λ e. is_among e (points_of c)) p) cells t (parts_in k cells) g (parts_in_order k cells)

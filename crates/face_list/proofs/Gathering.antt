@@ -44,7 +44,7 @@ use Rattle.list_laws.proofs.Cited.{
 use Rattle.point_order.specs.declared.cell.Cell.{Cell}
 use Rattle.point_order.specs.declared.cell.Cell.TheVariants.{Full}
 use Rattle.point_order.specs.Sets.{IsIn}
-use Rattle.face_list.specs.Gather.{item_cmp, numbers_of, full_keys, is_full, AreItems}
+use Rattle.face_list.specs.Gather.{item_cmp, numbers_of, full_keys, AreItems, is_a_full_cell}
 use Rattle.face_list.specs.Tables.{cell_at}
 
 -- ---- an item in front
@@ -172,21 +172,21 @@ number_of_item {K} cmp items k n m = (
 
 -- with one item more
 pub full_more : {K : Type 0} (cells : List Cell) (items : List (K × ℕ)) (i : K × ℕ) →
-    is_full (cell_at cells i.1) ≡ true → full_keys cells (items ++ i ∷ []) ≡ full_keys cells items ++ i.0 ∷ []
+    is_a_full_cell (cell_at cells i.1) ≡ true → full_keys cells (items ++ i ∷ []) ≡ full_keys cells items ++ i.0 ∷ []
 full_more {K} cells items i t = (
-    let e : filter (λ (j : K × ℕ). is_full (cell_at cells j.1)) (i ∷ []) ≡ i ∷ [] = rw t refl in
-    ap (map (λ (j : K × ℕ). j.0)) (filter-append (λ (j : K × ℕ). is_full (cell_at cells j.1)) items (i ∷ [])
-    ∙ ap (λ (l : List (K × ℕ)). filter (λ (j : K × ℕ). is_full (cell_at cells j.1)) items ++ l) e)
-    ∙ map-append (λ (j : K × ℕ). j.0) (filter (λ (j : K × ℕ). is_full (cell_at cells j.1)) items) (i ∷ []))
+    let e : filter (λ (j : K × ℕ). is_a_full_cell (cell_at cells j.1)) (i ∷ []) ≡ i ∷ [] = rw t refl in
+    ap (map (λ (j : K × ℕ). j.0)) (filter-append (λ (j : K × ℕ). is_a_full_cell (cell_at cells j.1)) items (i ∷ [])
+    ∙ ap (λ (l : List (K × ℕ)). filter (λ (j : K × ℕ). is_a_full_cell (cell_at cells j.1)) items ++ l) e)
+    ∙ map-append (λ (j : K × ℕ). j.0) (filter (λ (j : K × ℕ). is_a_full_cell (cell_at cells j.1)) items) (i ∷ []))
 
 -- an item of an Open cell adds no key
 pub open_more : {K : Type 0} (cells : List Cell) (items : List (K × ℕ)) (i : K × ℕ) →
-    is_full (cell_at cells i.1) ≡ false → full_keys cells (items ++ i ∷ []) ≡ full_keys cells items
+    is_a_full_cell (cell_at cells i.1) ≡ false → full_keys cells (items ++ i ∷ []) ≡ full_keys cells items
 open_more {K} cells items i t = (
-    let e : filter (λ (j : K × ℕ). is_full (cell_at cells j.1)) (i ∷ []) ≡ [] = rw t refl in
-    ap (map (λ (j : K × ℕ). j.0)) (filter-append (λ (j : K × ℕ). is_full (cell_at cells j.1)) items (i ∷ [])
-    ∙ ap (λ (l : List (K × ℕ)). filter (λ (j : K × ℕ). is_full (cell_at cells j.1)) items ++ l) e)
-    ∙ map-append (λ (j : K × ℕ). j.0) (filter (λ (j : K × ℕ). is_full (cell_at cells j.1)) items) []
+    let e : filter (λ (j : K × ℕ). is_a_full_cell (cell_at cells j.1)) (i ∷ []) ≡ [] = rw t refl in
+    ap (map (λ (j : K × ℕ). j.0)) (filter-append (λ (j : K × ℕ). is_a_full_cell (cell_at cells j.1)) items (i ∷ [])
+    ∙ ap (λ (l : List (K × ℕ)). filter (λ (j : K × ℕ). is_a_full_cell (cell_at cells j.1)) items ++ l) e)
+    ∙ map-append (λ (j : K × ℕ). j.0) (filter (λ (j : K × ℕ). is_a_full_cell (cell_at cells j.1)) items) []
     ∙ without_end (full_keys cells items))
   where
     without_end : (l : List K) → l ++ [] ≡ l
@@ -195,10 +195,10 @@ open_more {K} cells items i t = (
 
 -- a key of a Full cell's item stands beside a number
 pub full_from : {K : Type 0} (cells : List Cell) (items : List (K × ℕ)) (k : K) → IsIn k (full_keys cells items) →
-    (n : ℕ) × IsIn (k, n) items × (is_full (cell_at cells n) ≡ true)
+    (n : ℕ) × IsIn (k, n) items × (is_a_full_cell (cell_at cells n) ≡ true)
 full_from {K} cells items k m = (
-    let f = mapped_from (λ (j : K × ℕ). j.0) k (filter (λ (j : K × ℕ). is_full (cell_at cells j.1)) items) m in
-    let g = filtered_from (λ (j : K × ℕ). is_full (cell_at cells j.1)) items f.0 f.1 in
+    let f = mapped_from (λ (j : K × ℕ). j.0) k (filter (λ (j : K × ℕ). is_a_full_cell (cell_at cells j.1)) items) m in
+    let g = filtered_from (λ (j : K × ℕ). is_a_full_cell (cell_at cells j.1)) items f.0 f.1 in
     let e : f.0 ≡ (k, f.0.1) = both f.0 f.2 in
     (f.0.1, subst (λ (v : K × ℕ). IsIn v items) e g.0, g.1))
   where
@@ -207,12 +207,12 @@ full_from {K} cells items k m = (
 
 -- and a key beside the number of a Full cell is one of them
 pub full_true : {K : Type 0} (cells : List Cell) (items : List (K × ℕ)) (k : K) (n : ℕ) → IsIn (k, n) items →
-    is_full (cell_at cells n) ≡ true → IsIn k (full_keys cells items)
+    is_a_full_cell (cell_at cells n) ≡ true → IsIn k (full_keys cells items)
 full_true {K} cells items k n m t = mapped_true (λ (j : K × ℕ). j.0) (
   k,
   n,
-) (filter (λ (j : K × ℕ). is_full (cell_at cells j.1)) items)
-    (filtered_true (λ (j : K × ℕ). is_full (cell_at cells j.1)) items (k, n) m t)
+) (filter (λ (j : K × ℕ). is_a_full_cell (cell_at cells j.1)) items)
+    (filtered_true (λ (j : K × ℕ). is_a_full_cell (cell_at cells j.1)) items (k, n) m t)
 
 -- ---- lists that are taken apart
 

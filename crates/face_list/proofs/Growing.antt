@@ -58,7 +58,7 @@ use Rattle.point_order.specs.Sets.{IsIn}
 use Rattle.face_list.specs.declared.around.Gathering.{Gathering}
 use Rattle.face_list.specs.declared.table.Table.{Table}
 use Rattle.face_list.specs.Around.{AreGathered, BeginsWithin, GathersPoints}
-use Rattle.face_list.specs.Gather.{item_cmp, numbers_of, full_keys, is_full, items_from, AreItems, Gathers}
+use Rattle.face_list.specs.Gather.{item_cmp, numbers_of, full_keys, items_from, AreItems, is_a_full_cell, GathersItems}
 use Rattle.face_list.specs.Tables.{cell_at, stretches, AreStops, IsTable}
 use Rattle.face_list.proofs.FaceLists.{items_more}
 use Rattle.face_list.proofs.Gathering.{all_numbers, full_from, other_key}
@@ -96,9 +96,9 @@ numbers_append {K} cmp l m k =
 full_append : {K : Type 0} (cells : List Cell) (l m : List (K × ℕ)) → full_keys cells (l ++ m) ≡ full_keys cells l
     ++ full_keys cells m
 full_append {K} cells l m =
-    ap (map (λ (i : K × ℕ). i.0)) (filter-append (λ (i : K × ℕ). is_full (cell_at cells i.1)) l m)
-    ∙ map-append (λ (i : K × ℕ). i.0) (filter (λ (i : K × ℕ). is_full (cell_at cells i.1)) l)
-    (filter (λ (i : K × ℕ). is_full (cell_at cells i.1)) m)
+    ap (map (λ (i : K × ℕ). i.0)) (filter-append (λ (i : K × ℕ). is_a_full_cell (cell_at cells i.1)) l m)
+    ∙ map-append (λ (i : K × ℕ). i.0) (filter (λ (i : K × ℕ). is_a_full_cell (cell_at cells i.1)) l)
+    (filter (λ (i : K × ℕ). is_a_full_cell (cell_at cells i.1)) m)
 
 -- where no item has the key there is no number
 no_number : {K : Type 0} (cmp : K → K → Ordering) (l : List (K × ℕ)) (k : K) →
@@ -301,7 +301,7 @@ has_all {X} cmp o exact l all s f e x m = elim (true_or_false (list_any (λ y. i
 pub gathered_all :
     {K : Type 0} (cmp : K → K → Ordering) (o : IsTotalOrder cmp) (exact : CmpEqualImpliesEq cmp) (cells : List Cell)
     (all : List (K × ℕ)) (W : K → Type 0) (g : Gathering K) →
-    AreGathered cmp cells all W g → g.count ≡ length all → Gathers cmp cells all g.table
+    AreGathered cmp cells all W g → g.count ≡ length all → GathersItems cmp cells all g.table
 gathered_all cmp o exact cells all W g a e = record {
   sorted = a.sorted;
   order = a.order;

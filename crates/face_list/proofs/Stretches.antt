@@ -31,7 +31,7 @@ use Rattle.std.proofs.lemmas.List.{take_all, take_more, get_or-map, length-map, 
 use Rattle.std.proofs.lemmas.List.Elements.{All-take, All-drop}
 use Rattle.point_order.specs.declared.cell.Cell.{Cell}
 use Rattle.face_list.specs.declared.table.Table.{Table}
-use Rattle.face_list.specs.Tables.{numbered, stretches, AreStops, paired, table_seen, IsTable}
+use Rattle.face_list.specs.Tables.{stretches, AreStops, paired, table_seen, IsTable, cells_numbered}
 
 -- ---- one more stretch
 
@@ -188,20 +188,21 @@ paired_length (x ∷ xs) (y ∷ ys) h = ap suc (paired_length xs ys (omega (arit
 
 -- it has a list for each key
 lists_length : {K : Type 0} (cells : List Cell) (t : Table K) → IsTable (length cells) t →
-    length (map (numbered cells) (stretches t.numbers.items 0 t.ends.items)) ≡ length t.keys.items
-lists_length cells t s = length-map (stretches t.numbers.items 0 t.ends.items) (numbered cells)
+    length (map (cells_numbered cells) (stretches t.numbers.items 0 t.ends.items)) ≡ length t.keys.items
+lists_length cells t s = length-map (stretches t.numbers.items 0 t.ends.items) (cells_numbered cells)
     ∙ as_many t.numbers.items t.ends.items 0 ∙ s.ends
 
 -- its keys are those that are shown
 pub keys_seen : {K : Type 0} (cells : List Cell) (t : Table K) → IsTable (length cells) t →
     map (λ f. f.0) (table_seen cells t) ≡ t.keys.items
-keys_seen cells t s = paired_keys t.keys.items (map (numbered cells) (stretches t.numbers.items 0 t.ends.items))
+keys_seen cells t s = paired_keys t.keys.items (map (cells_numbered cells) (stretches t.numbers.items 0 t.ends.items))
     (lists_length cells t s)
 
 -- and as many
 pub seen_length : {K : Type 0} (cells : List Cell) (t : Table K) → IsTable (length cells) t →
     length (table_seen cells t) ≡ length t.keys.items
-seen_length cells t s = paired_length t.keys.items (map (numbered cells) (stretches t.numbers.items 0 t.ends.items))
+seen_length cells t s =
+    paired_length t.keys.items (map (cells_numbered cells) (stretches t.numbers.items 0 t.ends.items))
     (lists_length cells t s)
 
 -- a face by its index
@@ -209,15 +210,18 @@ pub face_seen :
     {K : Type 0} (cells : List Cell) (t : Table K) → IsTable (length cells) t → (i : ℕ) (k : K) (numbers : List ℕ) →
     i < length t.keys.items → k ≡ get_or t.keys.items i k →
     numbers ≡ get_or (stretches t.numbers.items 0 t.ends.items) i numbers →
-    ◌≡◌ {A = K × List Cell} (k, numbered cells numbers) (get_or (table_seen cells t) i (k, numbered cells numbers))
+    ◌≡◌ {A = K × List Cell} (k, cells_numbered cells numbers)
+    (get_or (table_seen cells t) i (k, cells_numbered cells numbers))
 face_seen {K} cells t s i k numbers h e f =
     let lists = stretches t.numbers.items 0 t.ends.items in
     let l : i < length lists = omega (arith, h, as_many t.numbers.items t.ends.items 0, s.ends) in
-    let m : get_or (map (numbered cells) lists) i (numbered cells numbers) ≡ numbered cells (get_or lists i numbers) =
-    get_or-map (numbered cells) lists i numbers (numbered cells numbers) l in
-    sym (paired_at t.keys.items (map (numbered cells) lists) i k (numbered cells numbers) (lists_length cells t s) h
-    ∙ ap (λ (v : List Cell). (get_or t.keys.items i k, v)) (m ∙ ap (numbered cells) (sym f))
-    ∙ ap (λ (v : K). (v, numbered cells numbers)) (sym e))
+    let m : get_or (map (cells_numbered cells) lists) i (cells_numbered cells numbers)
+    ≡ cells_numbered cells (get_or lists i numbers) =
+    get_or-map (cells_numbered cells) lists i numbers (cells_numbered cells numbers) l in
+    sym (paired_at t.keys.items (map (cells_numbered cells) lists) i k (cells_numbered cells numbers)
+    (lists_length cells t s) h
+    ∙ ap (λ (v : List Cell). (get_or t.keys.items i k, v)) (m ∙ ap (cells_numbered cells) (sym f))
+    ∙ ap (λ (v : K). (v, cells_numbered cells numbers)) (sym e))
 
 -- a stretch has numbers of the table
 pub numbers_seen :

@@ -34,8 +34,8 @@ abbrev pub cells_with : List ℕ → List Cell → List Cell
 cells_with ps cells = filter (λ c. list_all (λ p. is_among p (points_of c)) ps) cells
 
 -- faces, each with the cells that have its points
-abbrev pub with_cells : List (List ℕ) → List Cell → List (List ℕ × List Cell)
-with_cells faces cells = map (λ p. (p, cells_with p cells)) faces
+abbrev pub with_cells_around : List (List ℕ) → List Cell → List (List ℕ × List Cell)
+with_cells_around faces cells = map (λ p. (p, cells_with p cells)) faces
 
 -- points, each with the cells that have it
 abbrev pub points_with_cells : List ℕ → List Cell → List (ℕ × List Cell)

@@ -12,9 +12,9 @@ use Rattle.face_list.specs.declared.table.Table.{Table}
 use Rattle.face_list.specs.Tables.{cell_at, stretches}
 
 -- the cell is Full
-abbrev pub is_full : Cell → Bool
-is_full (Full q) = true
-is_full (Open t) = false
+abbrev pub is_a_full_cell : Cell → Bool
+is_a_full_cell (Full q) = true
+is_a_full_cell (Open t) = false
 
 -- by keys, and those of one key by numbers
 abbrev pub item_cmp : {K : Type 0} → (K → K → Ordering) → K × ℕ → K × ℕ → Ordering
@@ -26,7 +26,7 @@ numbers_of cmp items k = map (λ i. i.1) (filter (λ i. is_eq (cmp i.0 k)) items
 
 -- the keys of the items of Full cells
 abbrev pub full_keys : {K : Type 0} → List Cell → List (K × ℕ) → List K
-full_keys cells items = map (λ i. i.0) (filter (λ i. is_full (cell_at cells i.1)) items)
+full_keys cells items = map (λ i. i.0) (filter (λ i. is_a_full_cell (cell_at cells i.1)) items)
 
 -- the number of each cell under each of its parts, cell by cell, the cells counted from `first`
 abbrev pub items_from : {K : Type 0} → ℕ → (Cell → List K) → List Cell → List (K × ℕ)
@@ -39,7 +39,7 @@ AreItems {K} count items = (i : K × ℕ) → IsIn i items → i.1 < count
 
 -- The table has the keys of the Full cells' items, in order and each once, and each has the numbers of its items, in
 -- order and each once: `sorted` are the items so.
-pub record Gathers {K : Type 0} (cmp : K → K → Ordering) (cells : List Cell) (items : List (K × ℕ))
+pub record GathersItems {K : Type 0} (cmp : K → K → Ordering) (cells : List Cell) (items : List (K × ℕ))
     (t : Table K) : Type 0 where
   pub sorted : List (K × ℕ)
   pub order : IsStrictlySortedBy (item_cmp cmp) sorted

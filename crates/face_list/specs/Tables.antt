@@ -9,8 +9,8 @@ abbrev pub cell_at : List Cell → ℕ → Cell
 cell_at cells n = slice_index_or cells n (Full [])
 
 -- the cells of some numbers
-abbrev pub numbered : List Cell → List ℕ → List Cell
-numbered cells numbers = map (cell_at cells) numbers
+abbrev pub cells_numbered : List Cell → List ℕ → List Cell
+cells_numbered cells numbers = map (cell_at cells) numbers
 
 -- the stretches of a list that end at some places, the first of them beginning at `start`
 abbrev pub stretches : List ℕ → ℕ → List ℕ → List (List ℕ)
@@ -30,7 +30,7 @@ paired (x ∷ xs) (y ∷ ys) = (x, y) ∷ paired xs ys
 
 -- what a table shows: each key with the cells of its numbers
 abbrev pub table_seen : {K : Type 0} → List Cell → Table K → List (K × List Cell)
-table_seen cells t = paired t.keys.items (map (numbered cells) (stretches t.numbers.items 0 t.ends.items))
+table_seen cells t = paired t.keys.items (map (cells_numbered cells) (stretches t.numbers.items 0 t.ends.items))
 
 -- The table has a stretch for each key, and its numbers are those of cells of a list of `count`.
 pub record IsTable {K : Type 0} (count : ℕ) (t : Table K) : Type 0 where

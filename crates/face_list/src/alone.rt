@@ -5,8 +5,8 @@ ghost use Rattle.std.specs.List.Sorted.{IsStrictlySortedBy};
 ghost use Rattle.std.specs.Ordering.{nat_cmp};
 ghost use Rattle.std.proofs.lemmas.Map.Lookups.{CmpEqualImpliesEq};
 ghost use Rattle.point_order.specs.Sets.{IsIn};
-ghost use Rattle.face_list.specs.Faces.{parts_in, points_in, points_with_cells, with_cells};
-ghost use Rattle.face_list.specs.Gather.{AreAscending, AreItems, Gathers, item_cmp};
+ghost use Rattle.face_list.specs.Faces.{parts_in, points_in, points_with_cells, with_cells_around};
+ghost use Rattle.face_list.specs.Gather.{AreAscending, AreItems, item_cmp, GathersItems};
 ghost use Rattle.face_list.specs.Tables.{IsTable, table_seen};
 
 use crate::around::table_around;
@@ -27,7 +27,7 @@ fn gather<K: Ord + Copy>(
 ) -> Result<Table<K>, AllocError>
     requires exact { CmpEqualImpliesEq K.cmp }
     requires numbers { AreItems (length cells.now) items.items }
-    ensures gathers { IfOk result (λ t. Gathers K.cmp cells.now items.items t) }
+    ensures gathers { IfOk result (λ t. GathersItems K.cmp cells.now items.items t) }
     ensures table { IfOk result (λ t. IsTable (length cells.now) t) }
 {
     let items = sorted(items);
@@ -58,7 +58,7 @@ fn pair_table(
     requires ascending { AreAscending cells.now }
     requires points { IsTable (length cells.now) points.now }
     requires order { IsStrictlySortedBy nat_cmp points.now.keys.items }
-    ensures faces { IfOk result (λ t. table_seen cells.now t ≡ with_cells (parts_in 2 cells.now) cells.now) }
+    ensures faces { IfOk result (λ t. table_seen cells.now t ≡ with_cells_around (parts_in 2 cells.now) cells.now) }
     ensures table { IfOk result (λ t. IsTable (length cells.now) t) }
 {
     match table_around(alloc, cells, points)? {
@@ -80,7 +80,7 @@ fn triple_table(
     requires ascending { AreAscending cells.now }
     requires points { IsTable (length cells.now) points.now }
     requires order { IsStrictlySortedBy nat_cmp points.now.keys.items }
-    ensures faces { IfOk result (λ t. table_seen cells.now t ≡ with_cells (parts_in 3 cells.now) cells.now) }
+    ensures faces { IfOk result (λ t. table_seen cells.now t ≡ with_cells_around (parts_in 3 cells.now) cells.now) }
     ensures table { IfOk result (λ t. IsTable (length cells.now) t) }
 {
     match table_around(alloc, cells, points)? {
@@ -98,8 +98,8 @@ fn triple_table(
 /// Want of memory. Where 32 bits do not count the cells around all faces, there is none.
 pub fn few_faces(alloc: Global, cells: &[Cell]) -> Result<Faces<'_>, AllocError>
     ensures points { IfOk result (λ f. f.points ≡ points_with_cells (points_in cells.now) cells.now) }
-    ensures pairs { IfOk result (λ f. f.pairs ≡ with_cells (parts_in 2 cells.now) cells.now) }
-    ensures triples { IfOk result (λ f. f.triples ≡ with_cells (parts_in 3 cells.now) cells.now) }
+    ensures pairs { IfOk result (λ f. f.pairs ≡ with_cells_around (parts_in 2 cells.now) cells.now) }
+    ensures triples { IfOk result (λ f. f.triples ≡ with_cells_around (parts_in 3 cells.now) cells.now) }
     ensures cells { IfOk result (λ f. f.cells ≡ cells.now) }
 {
     number_of(cells.len())?;

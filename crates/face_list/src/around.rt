@@ -24,7 +24,7 @@ ghost use Rattle.point_order.specs.Sets.{IsIn};
 ghost use Rattle.point_order.specs.Subsets.{subsets};
 ghost use Rattle.face_list.specs.declared.table.Table.{Table};
 ghost use Rattle.face_list.specs.Around.{ArePut, CanAdd, GathersPoints, first_point};
-ghost use Rattle.face_list.specs.Gather.{Gathers, items_from};
+ghost use Rattle.face_list.specs.Gather.{items_from, GathersItems};
 ghost use Rattle.face_list.specs.Order.{before_by_first};
 ghost use Rattle.face_list.specs.Tables.{IsTable, cell_at};
 
@@ -315,7 +315,8 @@ pub fn table_around<K: Part>(
     requires exact { CmpEqualImpliesEq K.cmp }
     requires points { IsTable (length cells.now) points.now }
     requires order { IsStrictlySortedBy nat_cmp points.now.keys.items }
-    ensures gathers { IfOk result (λ o. IfSome o (λ t. Gathers K.cmp cells.now (items_from 0 K.parts_of cells.now) t)) }
+    ensures gathers { IfOk result
+        (λ o. IfSome o (λ t. GathersItems K.cmp cells.now (items_from 0 K.parts_of cells.now) t)) }
     ensures table { IfOk result (λ o. IfSome o (λ t. IsTable (length cells.now) t)) }
 {
     let room = room_for::<K>(cells, points)?;

@@ -9,7 +9,7 @@ ghost use Rattle.std.proofs.lemmas.Map.Lookups.{CmpEqualImpliesEq};
 ghost use Rattle.point_order.specs.declared.cell.Cell.{Cell};
 ghost use Rattle.face_list.specs.declared.table.Table.{Table};
 ghost use Rattle.face_list.specs.Around.{CanAdd, GathersPoints};
-ghost use Rattle.face_list.specs.Gather.{Gathers, items_from};
+ghost use Rattle.face_list.specs.Gather.{items_from, GathersItems};
 ghost use Rattle.face_list.specs.Tables.{AreStops, IsTable, stretches};
 
 use crate::around::{Gathering, Part, Room, add_points, nothing, room_for, whole};
@@ -194,7 +194,8 @@ pub fn table_beside<R: Threads + Sync, K: Part + Send>(
     requires exact { CmpEqualImpliesEq K.cmp }
     requires points { IsTable (length cells.now) points.now }
     requires order { IsStrictlySortedBy nat_cmp points.now.keys.items }
-    ensures gathers { IfOk result (λ o. IfSome o (λ t. Gathers K.cmp cells.now (items_from 0 K.parts_of cells.now) t)) }
+    ensures gathers { IfOk result
+        (λ o. IfSome o (λ t. GathersItems K.cmp cells.now (items_from 0 K.parts_of cells.now) t)) }
     ensures table { IfOk result (λ o. IfSome o (λ t. IsTable (length cells.now) t)) }
 {
     let room = room_for::<K>(cells, points)?;

@@ -1,7 +1,7 @@
 //! Faces, each with the cells that contain it.
 
 ghost use Rattle.std.specs.Prelude.{◌≡◌, ◌<◌, All, length, map, slice_index_or};
-ghost use Rattle.face_list.specs.Tables.{numbered};
+ghost use Rattle.face_list.specs.Tables.{cells_numbered};
 
 use crate::table::Table;
 use point_order::{Cell, Pair, Point, Tri};
@@ -68,8 +68,8 @@ impl<'a> Faces<'a> {
     /// The point of an index, and the numbers of the cells that have it, Open ones too, in their order.
     pub fn point(&self, index: usize) -> (Point, &[u32])
         requires { index < length self.now.points }
-        ensures face { (result.0, numbered self.now.cells result.1.now)
-            ≡ slice_index_or self.now.points index (result.0, numbered self.now.cells result.1.now) }
+        ensures face { (result.0, cells_numbered self.now.cells result.1.now)
+            ≡ slice_index_or self.now.points index (result.0, cells_numbered self.now.cells result.1.now) }
         ensures numbers { All (λ n. n < length self.now.cells) result.1.now }
     {
         self.points.face(index)
@@ -78,8 +78,8 @@ impl<'a> Faces<'a> {
     /// The pair of an index, and the numbers of the cells that have both points, Open ones too, in their order.
     pub fn pair(&self, index: usize) -> (Pair, &[u32])
         requires { index < length self.now.pairs }
-        ensures face { (result.0, numbered self.now.cells result.1.now)
-            ≡ slice_index_or self.now.pairs index (result.0, numbered self.now.cells result.1.now) }
+        ensures face { (result.0, cells_numbered self.now.cells result.1.now)
+            ≡ slice_index_or self.now.pairs index (result.0, cells_numbered self.now.cells result.1.now) }
         ensures numbers { All (λ n. n < length self.now.cells) result.1.now }
     {
         self.pairs.face(index)
@@ -88,8 +88,8 @@ impl<'a> Faces<'a> {
     /// The triple of an index, and the numbers of the cells that have all three points, Open ones too, in their order.
     pub fn triple(&self, index: usize) -> (Tri, &[u32])
         requires { index < length self.now.triples }
-        ensures face { (result.0, numbered self.now.cells result.1.now)
-            ≡ slice_index_or self.now.triples index (result.0, numbered self.now.cells result.1.now) }
+        ensures face { (result.0, cells_numbered self.now.cells result.1.now)
+            ≡ slice_index_or self.now.triples index (result.0, cells_numbered self.now.cells result.1.now) }
         ensures numbers { All (λ n. n < length self.now.cells) result.1.now }
     {
         self.triples.face(index)

@@ -7,7 +7,14 @@ ghost use Rattle.std.specs.Ordering.{is_gt, is_lt};
 ghost use Rattle.std.specs.declared.cmp.Ordering.TheVariants.{Less};
 ghost use Rattle.std.proofs.lemmas.Map.Lookups.{CmpEqualImpliesEq};
 ghost use Rattle.point_order.specs.Sets.{IsIn};
-ghost use Rattle.face_list.specs.Gather.{item_cmp, numbers_of, full_keys, is_full as is_full_cell, AreItems, Gathers};
+ghost use Rattle.face_list.specs.Gather.{
+  item_cmp,
+  numbers_of,
+  full_keys,
+  AreItems,
+  is_a_full_cell as is_full_cell,
+  GathersItems,
+};
 ghost use Rattle.face_list.specs.Tables.{AreStops, IsTable, stretches};
 
 use crate::counts::number_of;
@@ -215,7 +222,7 @@ pub fn gather<R: Threads + Sync, K: Ord + Copy + Send>(
 ) -> Result<Table<K>, AllocError>
     requires exact { CmpEqualImpliesEq K.cmp }
     requires numbers { AreItems (length cells.now) items.items }
-    ensures gathers { IfOk result (λ t. Gathers K.cmp cells.now items.items t) }
+    ensures gathers { IfOk result (λ t. GathersItems K.cmp cells.now items.items t) }
     ensures table { IfOk result (λ t. IsTable (length cells.now) t) }
 {
     let items = in_order(rt, items);

@@ -16,7 +16,7 @@
 #![tactic(auto)]
 
 ghost use Rattle.std.specs.Prelude.{◌≡◌, IfOk};
-ghost use Rattle.face_list.specs.Faces.{points_in, parts_in, points_with_cells, with_cells};
+ghost use Rattle.face_list.specs.Faces.{points_in, parts_in, points_with_cells, with_cells_around};
 
 mod alone;
 mod around;
@@ -55,8 +55,8 @@ pub fn faces<'a, R: Threads + Sync>(
     cells: &'a [Cell],
 ) -> Result<Faces<'a>, AllocError>
     ensures points { IfOk result (λ f. f.points ≡ points_with_cells (points_in cells.now) cells.now) }
-    ensures pairs { IfOk result (λ f. f.pairs ≡ with_cells (parts_in 2 cells.now) cells.now) }
-    ensures triples { IfOk result (λ f. f.triples ≡ with_cells (parts_in 3 cells.now) cells.now) }
+    ensures pairs { IfOk result (λ f. f.pairs ≡ with_cells_around (parts_in 2 cells.now) cells.now) }
+    ensures triples { IfOk result (λ f. f.triples ≡ with_cells_around (parts_in 3 cells.now) cells.now) }
     ensures cells { IfOk result (λ f. f.cells ≡ cells.now) }
 {
     number_of(cells.len())?;

@@ -4,7 +4,7 @@ ghost use Rattle.std.specs.Prelude.{◌≡◌, ◌<◌, ◌^◌, length, IfOk, O
 ghost use Rattle.std.specs.List.Sorted.{IsStrictlySortedBy};
 ghost use Rattle.std.specs.Ordering.{nat_cmp};
 ghost use Rattle.std.specs.Thread.{IsSync};
-ghost use Rattle.face_list.specs.Faces.{points_in, parts_in, points_with_cells, with_cells};
+ghost use Rattle.face_list.specs.Faces.{points_in, parts_in, points_with_cells, with_cells_around};
 ghost use Rattle.face_list.specs.Gather.{AreAscending};
 ghost use Rattle.face_list.specs.Tables.{IsTable, table_seen};
 
@@ -44,7 +44,7 @@ fn pair_table<R: Threads + Sync>(
     requires ascending { AreAscending cells.now }
     requires points { IsTable (length cells.now) points.now }
     requires order { IsStrictlySortedBy nat_cmp points.now.keys.items }
-    ensures faces { IfOk result (λ t. table_seen cells.now t ≡ with_cells (parts_in 2 cells.now) cells.now) }
+    ensures faces { IfOk result (λ t. table_seen cells.now t ≡ with_cells_around (parts_in 2 cells.now) cells.now) }
     ensures table { IfOk result (λ t. IsTable (length cells.now) t) }
 {
     match table_beside(rt, alloc, cells, points, threads)? {
@@ -68,7 +68,7 @@ fn triple_table<R: Threads + Sync>(
     requires ascending { AreAscending cells.now }
     requires points { IsTable (length cells.now) points.now }
     requires order { IsStrictlySortedBy nat_cmp points.now.keys.items }
-    ensures faces { IfOk result (λ t. table_seen cells.now t ≡ with_cells (parts_in 3 cells.now) cells.now) }
+    ensures faces { IfOk result (λ t. table_seen cells.now t ≡ with_cells_around (parts_in 3 cells.now) cells.now) }
     ensures table { IfOk result (λ t. IsTable (length cells.now) t) }
 {
     match table_beside(rt, alloc, cells, points, threads)? {
@@ -100,8 +100,10 @@ pub fn pair_and_triple_tables<R: Threads + Sync>(
     requires ascending { AreAscending cells.now }
     requires points { IsTable (length cells.now) points.now }
     requires order { IsStrictlySortedBy nat_cmp points.now.keys.items }
-    ensures pairs { IfOk result (λ both. table_seen cells.now both.0 ≡ with_cells (parts_in 2 cells.now) cells.now) }
-    ensures triples { IfOk result (λ both. table_seen cells.now both.1 ≡ with_cells (parts_in 3 cells.now) cells.now) }
+    ensures pairs { IfOk result (λ both. table_seen cells.now both.0
+        ≡ with_cells_around (parts_in 2 cells.now) cells.now) }
+    ensures triples { IfOk result (λ both. table_seen cells.now both.1
+        ≡ with_cells_around (parts_in 3 cells.now) cells.now) }
     ensures pair_table { IfOk result (λ both. IsTable (length cells.now) both.0) }
     ensures triple_table { IfOk result (λ both. IsTable (length cells.now) both.1) }
 {
@@ -115,7 +117,7 @@ pub fn pair_and_triple_tables<R: Threads + Sync>(
             requires points { IsTable (length cells.now) points.now }
             requires order { IsStrictlySortedBy nat_cmp points.now.keys.items }
             ensures faces { IfOk result (λ t. table_seen cells.entry.now t
-                ≡ with_cells (parts_in 2 cells.entry.now) cells.entry.now) }
+                ≡ with_cells_around (parts_in 2 cells.entry.now) cells.entry.now) }
             ensures table { IfOk result (λ t. IsTable (length cells.entry.now) t) }
         { pair_table(rt, alloc, cells, points, threads) },
         || -> Result<Table<Tri>, AllocError>
@@ -125,7 +127,7 @@ pub fn pair_and_triple_tables<R: Threads + Sync>(
             requires points { IsTable (length cells.now) points.now }
             requires order { IsStrictlySortedBy nat_cmp points.now.keys.items }
             ensures faces { IfOk result (λ t. table_seen cells.entry.now t
-                ≡ with_cells (parts_in 3 cells.entry.now) cells.entry.now) }
+                ≡ with_cells_around (parts_in 3 cells.entry.now) cells.entry.now) }
             ensures table { IfOk result (λ t. IsTable (length cells.entry.now) t) }
         { triple_table(rt, alloc, cells, points, threads) },
     );

@@ -54,11 +54,11 @@ use Rattle.edit_history.specs.declared.history.Entry.{Entry}
 use Rattle.cell_store.specs.Buckets.{bucket_at}
 use Rattle.claim_rule.specs.Boards.{BoardState, made_by}
 use Rattle.claim_rule.specs.Good.{IsGood, StartsWith}
-use Rattle.claim_rule.specs.Events.{joined, join_of}
+use Rattle.claim_rule.specs.Events.{join_of, after_join}
 use Rattle.claim_rule.proofs.Cited.{join_keeps}
 use Rattle.grid_claims.specs.declared.view.Key.{Key}
 use Rattle.grid_claims.specs.declared.view.View.{View}
-use Rattle.grid_claims.specs.Faces.{buckets_of, opening_of, plain, passes_of, passes_in, numbered, board_of}
+use Rattle.grid_claims.specs.Faces.{buckets_of, opening_of, plain, passes_of, passes_in, board_of, view_numbered}
 use Rattle.cell_store.specs.Meshes.{by_number}
 use Rattle.grid_claims.specs.Lists.{longer}
 use Rattle.grid_claims.specs.Rule.{IsSeatInOrder, IsRule, Rule}
@@ -109,10 +109,10 @@ one_less count (y ∷ views) (suc id) w x at e =
     }
 
 -- a number that no pass has shows none
-none_shown : (n : ℕ) (l : List Live) → ¬ (IsIn n (firsts l)) → numbered n l ≡ None
-none_shown n l f = by (numbered n l) refl
+none_shown : (n : ℕ) (l : List Live) → ¬ (IsIn n (firsts l)) → view_numbered n l ≡ None
+none_shown n l f = by (view_numbered n l) refl
   where
-    by : (o : Option Live) → numbered n l ≡ o → numbered n l ≡ None
+    by : (o : Option Live) → view_numbered n l ≡ o → view_numbered n l ≡ None
     by None e = e
     by (Some v) e =
         absurd (let r = numbered_from n l v e in f (subst (λ (k : ℕ). IsIn k (firsts l)) r.1 (in_firsts l v r.0)))
@@ -121,10 +121,11 @@ none_shown n l f = by (numbered n l) refl
 place_cleared : (p : ℕ) (l m : List Live) (n : ℕ) → AreDistinct (firsts l) → AreDistinct (firsts m) → n < p →
     ¬ (IsIn n (firsts m)) → ((v : Live) → v.first ≢ n → IsIn v l → IsIn v m) →
     ((v : Live) → v.first ≢ n → IsIn v m → IsIn v l)
-    → map (λ n. numbered n m) (range_with_len 0 p) ≡ slice_set (map (λ n. numbered n l) (range_with_len 0 p)) n None
+    → map (λ n. view_numbered n m) (range_with_len 0 p)
+    ≡ slice_set (map (λ n. view_numbered n l) (range_with_len 0 p)) n None
 place_cleared p l m n d d' b gone f g =
-    let old = map (λ n. numbered n l) (range_with_len 0 p) in
-    let new = map (λ n. numbered n m) (range_with_len 0 p) in
+    let old = map (λ n. view_numbered n l) (range_with_len 0 p) in
+    let new = map (λ n. view_numbered n m) (range_with_len 0 p) in
     let c : length old ≡ p = places_count p l in
     let c' : length new ≡ p = places_count p m in
     ext_get_or None new (slice_set old n None) (c' ∙ sym c ∙ sym (length-set old n None)) (λ k h.
@@ -202,7 +203,7 @@ joins_keep k id other v w live live' lone lone' nothing nothing' next s rule at 
     let s2 : Table = record { words = s.words; homes = s.homes; views = views2 } in
     let event : board_of k s2 ≡ join_of old (plain v) (plain w) =
     (λ i. record old { views = (second_step ∙ (λ j. slice_set (first_step j) v.first (Some (plain both)))) i }) in
-    let is_joined : joined old v.first w.first ≡ join_of old (plain v) (plain w) =
+    let is_joined : after_join old v.first w.first ≡ join_of old (plain v) (plain w) =
     (λ i. option_map_or (λ x. option_map_or (λ y. join_of old x y) (shown' i) old) (shown i) old) in
     let good' : IsGood (board_of k s2) h = subst (λ (t : BoardState). IsGood t h) (is_joined ∙ sym event)
     (join_keeps old h v.first w.first (plain v) (plain w) good shown shown' nothing nothing' next) in

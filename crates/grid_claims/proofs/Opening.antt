@@ -45,7 +45,16 @@ use Rattle.claim_rule.specs.Opening.{shares_from, opening_board}
 use Rattle.claim_rule.proofs.Cited.{dropped_all, opening_is_good}
 use Rattle.grid_claims.specs.declared.view.Key.{Key}
 use Rattle.grid_claims.specs.declared.view.View.{View}
-use Rattle.grid_claims.specs.Faces.{buckets_of, opening_of, plain, passes_of, passes_in, numbered, at_home, board_of}
+use Rattle.grid_claims.specs.Faces.{
+  buckets_of,
+  opening_of,
+  plain,
+  passes_of,
+  passes_in,
+  at_home,
+  board_of,
+  view_numbered,
+}
 use Rattle.grid_claims.specs.Rule.{IsSeatInOrder, IsRule, opening_view}
 use Rattle.grid_claims.proofs.LivePasses.{at_place, places_count}
 use Rattle.grid_claims.proofs.Boarded.{Table, Live, firsts, alone}
@@ -92,10 +101,11 @@ starts k h allowance slots is most size some_part few fits legal keys solid all_
     let listed : passes ≡ first ∷ [] = one ∙ (λ i. plain_is i ∷ []) in
     let more : length (replicate (k.parts - 1) (nowhere first)) ≡ k.parts - 1 =
     length-replicate (k.parts - 1) (nowhere first) in
-    let views : map (λ n. numbered n passes) (range_with_len 0 k.parts) ≡ Some first ∷ replicate (k.parts - 1) None =
-    ext_get_or None (map (λ n. numbered n passes) (range_with_len 0 k.parts))
+    let views : map (λ n. view_numbered n passes) (range_with_len 0 k.parts)
+    ≡ Some first ∷ replicate (k.parts - 1) None =
+    ext_get_or None (map (λ n. view_numbered n passes) (range_with_len 0 k.parts))
     (Some first ∷ replicate (k.parts - 1) None) (let c = places_count k.parts passes in omega arith)
-    (λ i l. let c = places_count k.parts passes in at_place k.parts passes i (omega arith) ∙ ap (numbered i) listed
+    (λ i l. let c = places_count k.parts passes in at_place k.parts passes i (omega arith) ∙ ap (view_numbered i) listed
     ∙ shows first i) in
     let event : board_of k s ≡ opened =
     (λ i. record {
@@ -142,7 +152,7 @@ starts k h allowance slots is most size some_part few fits legal keys solid all_
     nowhere : Live → Option Live
     nowhere u = None
 
-    shows : (u : Live) (i : ℕ) → numbered i (record u { first = 0 } ∷ [])
+    shows : (u : Live) (i : ℕ) → view_numbered i (record u { first = 0 } ∷ [])
         ≡ slice_index_or (Some (record u { first = 0 }) ∷ replicate (k.parts - 1) None) i None
     shows u zero = refl
     shows u (suc i) =

@@ -48,7 +48,7 @@ use Rattle.claim_rule.specs.Events.{
   released,
   looked,
   split,
-  joined,
+  after_join,
 }
 use Rattle.claim_rule.specs.declared.event.Event.{Event}
 use Rattle.claim_rule.specs.declared.event.Event.TheVariants.{Claim, Commit, Release, Look, Split, Join}
@@ -267,7 +267,7 @@ pub reached_join : (k : Key) (s s' : Table) (h : List Entry) (id other : ℕ) (v
     both.first ≡ v.first → both.trail ≡ v.trail → s'.views ≡ slice_set (slice_set s.views id both) other no_pass
     → view_at (board_of k s) v.first ≡ Some (plain v) → view_at (board_of k s) w.first ≡ Some (plain w) →
     HoldsNothing (plain v) → HoldsNothing (plain w) → w.first ≡ v.first + v.parts
-    → board_of k s' ≡ joined (board_of k s) v.first w.first → IsLedTo k s' h
+    → board_of k s' ≡ after_join (board_of k s) v.first w.first → IsLedTo k s' h
 reached_join k s s' h id other v both w r d at live first trail views there there' nothing nothing' next event =
     let t : Turn = record { event = Join v.first w.first; answer = Done; ticket = (board_of k s).ticket } in
     record {

@@ -64,9 +64,9 @@ passes_in count [] = []
 passes_in count (v ∷ views) = passes_of count v ++ passes_in count views
 
 -- the one with a number, if there is one
-abbrev pub numbered : ℕ → List board.View → Option board.View
-numbered n [] = None
-numbered n (v ∷ views) = if v.first == n then Some v else numbered n views
+abbrev pub view_numbered : ℕ → List board.View → Option board.View
+view_numbered n [] = None
+view_numbered n (v ∷ views) = if v.first == n then Some v else view_numbered n views
 
 -- what a slot at home has
 abbrev pub at_home : maybe.Option (Option BucketContent) → Option BucketContent
@@ -83,5 +83,5 @@ board_of k s = record {
   ticket = slice_index_or s.words 0 0;
   words = drop 1 s.words;
   homes = map at_home s.homes;
-  views = map (λ n. numbered n (passes_in (buckets_of k) s.views)) (range_with_len 0 k.parts);
+  views = map (λ n. view_numbered n (passes_in (buckets_of k) s.views)) (range_with_len 0 k.parts);
 }

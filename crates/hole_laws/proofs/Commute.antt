@@ -7,7 +7,7 @@ use Rattle.edit_history.specs.declared.history.Reply.{Reply}
 use Rattle.edit_history.specs.declared.history.Reply.TheVariants.{Inserted, Duplicate, Removed, Missing, Flat}
 use Rattle.del_laws.specs.Cells.{Vertex, far}
 use Rattle.del_laws.specs.Base.{Corner}
-use Rattle.del_laws.specs.PointSets.{PointSet, has, solid, cell, plus, minus, is_point}
+use Rattle.del_laws.specs.PointSets.{PointSet, solid, cell, minus, is_point, has_as_point, set_with}
 use Rattle.del_laws.proofs.Cited.{base, finite, test_symmetric}
 use Rattle.hole_laws.proofs.Tests.{IsAdd, AreLinked, IsAtGone, HasRim, gone}
 use Rattle.hole_laws.proofs.Vertices.{cases_vertex, second_last}
@@ -37,18 +37,18 @@ is_add (take p) = false
 
 -- the set after an edit, and the reply
 abbrev pub after : PointSet → Step → PointSet
-after S (add p) = cond (has S p) S (plus S p)
-after S (take p) = cond (has S p) (cond (solid (minus S p)) (minus S p) S) S
+after S (add p) = cond (has_as_point S p) S (set_with S p)
+after S (take p) = cond (has_as_point S p) (cond (solid (minus S p)) (minus S p) S) S
 
 -- and the reply
 abbrev pub reply : PointSet → Step → Reply
-reply S (add p) = cond (has S p) Duplicate Inserted
-reply S (take p) = cond (has S p) (cond (solid (minus S p)) Removed Flat) Missing
+reply S (add p) = cond (has_as_point S p) Duplicate Inserted
+reply S (take p) = cond (has_as_point S p) (cond (solid (minus S p)) Removed Flat) Missing
 
 -- what an edit reaches
 abbrev pub Reach : PointSet → Step → Vertex → Type 0
-Reach S (add p) q = (q ≡ p) ⊎ (has S p ≡ false) × IsAtGone (cell S) (cell (plus S p)) q
-Reach S (take p) q = (q ≡ p) ⊎ (has S p ≡ true) × (q ≢ far) × AreLinked (cell S) p q
+Reach S (add p) q = (q ≡ p) ⊎ (has_as_point S p ≡ false) × IsAtGone (cell S) (cell (set_with S p)) q
+Reach S (take p) q = (q ≡ p) ⊎ (has_as_point S p ≡ true) × (q ≢ far) × AreLinked (cell S) p q
 
 -- both orders do the same
 pub record Commutes (S : PointSet) (e d : Step) : Type 0 where
@@ -60,7 +60,7 @@ pub record Commutes (S : PointSet) (e d : Step) : Type 0 where
 
 -- e changes nothing, by its own point
 abbrev pub Idle : PointSet → Step → Type 0
-Idle S e = has S (point_of e) ≡ is_add e
+Idle S e = has_as_point S (point_of e) ≡ is_add e
 
 -- e makes T of S
 abbrev pub Makes : PointSet → Step → PointSet → Type 0
@@ -75,7 +75,7 @@ Along S (take p) T q = Rho T S p q
 -- it would take the last point that makes the set solid
 abbrev pub IsFlat : PointSet → Step → Type 0
 IsFlat S (add p) = ⊥
-IsFlat S (take p) = (has S p ≡ true) × (solid (minus S p) ≡ false)
+IsFlat S (take p) = (has_as_point S p ≡ true) × (solid (minus S p) ≡ false)
 
 -- the reply of an edit that changes the set
 abbrev pub made : Step → Reply
@@ -90,14 +90,14 @@ left (take p) = Missing
 -- an idle edit leaves the set
 pub idle_after : (S : PointSet) (e : Step) → Idle S e → after S e ≡ S
 unfolding is_add
-idle_after S (add p) h = cond_true (has S p) S (plus S p) h
-idle_after S (take p) h = cond_false (has S p) (cond (solid (minus S p)) (minus S p) S) S h
+idle_after S (add p) h = cond_true (has_as_point S p) S (set_with S p) h
+idle_after S (take p) h = cond_false (has_as_point S p) (cond (solid (minus S p)) (minus S p) S) S h
 
 -- its reply
 pub idle_reply : (S : PointSet) (e : Step) → Idle S e → reply S e ≡ left e
 unfolding is_add
-idle_reply S (add p) h = cond_true (has S p) Duplicate Inserted h
-idle_reply S (take p) h = cond_false (has S p) (cond (solid (minus S p)) Removed Flat) Missing h
+idle_reply S (add p) h = cond_true (has_as_point S p) Duplicate Inserted h
+idle_reply S (take p) h = cond_false (has_as_point S p) (cond (solid (minus S p)) Removed Flat) Missing h
 
 -- it reaches its own point alone
 pub idle_reach : (S : PointSet) (e : Step) (q : Vertex) → Idle S e → Reach S e q → q ≡ point_of e
@@ -116,11 +116,12 @@ own_reach S (take p) q e = inl e
 pub flat_after : (S : PointSet) (e : Step) → IsFlat S e → after S e ≡ S
 flat_after S (add p) h = absurd h
 flat_after S (take p) h =
-    cond_true (has S p) (cond (solid (minus S p)) (minus S p) S) S h.0
+    cond_true (has_as_point S p) (cond (solid (minus S p)) (minus S p) S) S h.0
     ∙ cond_false (solid (minus S p)) (minus S p) S h.1
 
 -- a flat removal reaches everything
-pub flat_reach : (S : PointSet) (e : Step) → solid S ≡ true → IsFlat S e → (q : Vertex) → has S q ≡ true → Reach S e q
+pub flat_reach : (S : PointSet) (e : Step) → solid S ≡ true → IsFlat S e → (q : Vertex) →
+    has_as_point S q ≡ true → Reach S e q
 flat_reach S (add p) s h q k = absurd h
 flat_reach S (take p) s h q k = go (cases_vertex q p)
   where
@@ -131,15 +132,15 @@ flat_reach S (take p) s h q k = go (cases_vertex q p)
     go (inl e) = inl e
     go (inr n) = inr (
       h.0,
-      (λ e. false≢true (ap (has S) (sym e) ∙ k)),
+      (λ e. false≢true (ap (has_as_point S) (sym e) ∙ k)),
       removal.flat_rest (minus S p) S p a s h.1 q (sym (a.same q n) ∙ k),
     )
 
 -- what a real edit does
 pub makes_after : (S : PointSet) (e : Step) (T : PointSet) → Makes S e T → after S e ≡ T
-makes_after S (add p) T m = cond_false (has S p) S (plus S p) m.absent
-    ∙ corners.adds_same S (plus S p) T p (corners.plus_adds S p (finite T p m.present) m.absent) m
-makes_after S (take p) T m = cond_true (has S p) (cond (solid (minus S p)) (minus S p) S) S m.0.present
+makes_after S (add p) T m = cond_false (has_as_point S p) S (set_with S p) m.absent
+    ∙ corners.adds_same S (set_with S p) T p (corners.plus_adds S p (finite T p m.present) m.absent) m
+makes_after S (take p) T m = cond_true (has_as_point S p) (cond (solid (minus S p)) (minus S p) S) S m.0.present
     ∙ cond_true (solid (minus S p)) (minus S p) S (ap solid e ∙ m.1) ∙ e
   where
     e : minus S p ≡ T
@@ -147,8 +148,8 @@ makes_after S (take p) T m = cond_true (has S p) (cond (solid (minus S p)) (minu
 
 -- what it answers
 pub makes_reply : (S : PointSet) (e : Step) (T : PointSet) → Makes S e T → reply S e ≡ made e
-makes_reply S (add p) T m = cond_false (has S p) Duplicate Inserted m.absent
-makes_reply S (take p) T m = cond_true (has S p) (cond (solid (minus S p)) Removed Flat) Missing m.0.present
+makes_reply S (add p) T m = cond_false (has_as_point S p) Duplicate Inserted m.absent
+makes_reply S (take p) T m = cond_true (has_as_point S p) (cond (solid (minus S p)) Removed Flat) Missing m.0.present
     ∙ cond_true (solid (minus S p)) Removed Flat (ap solid e ∙ m.1)
   where
     e : minus S p ≡ T
@@ -158,8 +159,8 @@ makes_reply S (take p) T m = cond_true (has S p) (cond (solid (minus S p)) Remov
 pub makes_reach : (S : PointSet) (e : Step) (T : PointSet) → Makes S e T → (q : Vertex) → Reach S e q ↔ Along S e T q
 makes_reach S (add p) T m q = (there, back)
   where
-    e : plus S p ≡ T
-    e = corners.adds_same S (plus S p) T p (corners.plus_adds S p (finite T p m.present) m.absent) m
+    e : set_with S p ≡ T
+    e = corners.adds_same S (set_with S p) T p (corners.plus_adds S p (finite T p m.present) m.absent) m
 
     there : Reach S (add p) q → Along S (add p) T q
     there (inl f) = inl f
@@ -198,16 +199,16 @@ pub data Kind (S : PointSet) (e : Step) : Type 0 where
 -- of which kind an edit is
 pub kind : (S : PointSet) (e : Step) → is_point (point_of e) ≡ true → Kind S e
 unfolding is_add
-kind S (add p) n = go (has S p) refl
+kind S (add p) n = go (has_as_point S p) refl
   where
-    go : (b : Bool) → has S p ≡ b → Kind S (add p)
+    go : (b : Bool) → has_as_point S p ≡ b → Kind S (add p)
     go true e = idle e
     go false e =
-        real (subst (λ (U : PointSet). IsAdd S p U) (sym (cond_false (has S p) S (plus S p) e))
+        real (subst (λ (U : PointSet). IsAdd S p U) (sym (cond_false (has_as_point S p) S (set_with S p) e))
         (corners.plus_adds S p n e))
-kind S (take p) n = go (has S p) (solid (minus S p)) refl refl
+kind S (take p) n = go (has_as_point S p) (solid (minus S p)) refl refl
   where
-    go : (b c : Bool) → has S p ≡ b → solid (minus S p) ≡ c → Kind S (take p)
+    go : (b c : Bool) → has_as_point S p ≡ b → solid (minus S p) ≡ c → Kind S (take p)
     go false c e f = idle e
     go true false e f = flat (e, f)
     go true true e f =
@@ -216,20 +217,20 @@ kind S (take p) n = go (has S p) (solid (minus S p)) refl refl
 
 -- an edit changes no other point
 pub others : (S : PointSet) (e : Step) (q : Vertex) → is_point (point_of e) ≡ true → q ≢ point_of e →
-    has (after S e) q ≡ has S q
+    has_as_point (after S e) q ≡ has_as_point S q
 others S e q n m = go e (kind S e n) m
   where
-    go : (e : Step) → Kind S e → q ≢ point_of e → has (after S e) q ≡ has S q
-    go e (idle h) m = ap (λ (U : PointSet). has U q) (idle_after S e h)
-    go e (flat h) m = ap (λ (U : PointSet). has U q) (flat_after S e h)
+    go : (e : Step) → Kind S e → q ≢ point_of e → has_as_point (after S e) q ≡ has_as_point S q
+    go e (idle h) m = ap (λ (U : PointSet). has_as_point U q) (idle_after S e h)
+    go e (flat h) m = ap (λ (U : PointSet). has_as_point U q) (flat_after S e h)
     go (add p) (real h) m = h.same q m
     go (take p) (real h) m = sym (h.0.same q m)
 
 -- what is not idle reaches a point of the set
 pub touches : (S : PointSet) (e : Step) → solid S ≡ true → is_point (point_of e) ≡ true → (Idle S e → ⊥) →
-    (q : Vertex) × (has S q ≡ true) × Reach S e q
+    (q : Vertex) × (has_as_point S q ≡ true) × Reach S e q
 unfolding is_add
-touches S (take p) s n i = (p, yes_has (has S p) i, inl refl)
+touches S (take p) s n i = (p, yes_has (has_as_point S p) i, inl refl)
   where
     yes_has : (b : Bool) → (b ≡ false → ⊥) → b ≡ true
     yes_has true h = refl
@@ -239,29 +240,30 @@ touches S (add p) s n i =
       m.t3,
       base.point S m.t1 m.t2 m.rim.lost m.t3 (sym ((test_symmetric S).last m.t1 m.t2 m.t3 m.rim.lost)
           ∙ m.rim.lost_before) k,
-      inr (f, sq.at_third S (plus S p) m.t1 m.t2 m.t3 m.rim.lost g k),
+      inr (f, sq.at_third S (set_with S p) m.t1 m.t2 m.t3 m.rim.lost g k),
     ))
     (λ k. (
       m.t2,
       base.point S m.t1 m.t3 m.rim.lost m.t2 (sym (second_last (cell S) (test_symmetric S) m.t1 m.t2 m.t3 m.rim.lost)
           ∙ m.rim.lost_before) k,
-      inr (f, sq.at_second S (plus S p) m.t1 m.t2 m.t3 m.rim.lost g k),
+      inr (f, sq.at_second S (set_with S p) m.t1 m.t2 m.t3 m.rim.lost g k),
     ))
     (sq.facet_point S m.t1 m.t2 m.t3 m.rim.lost m.rim.lost_before)
   where
-    f : has S p ≡ false
-    f = false_if (has S p) i
+    f : has_as_point S p ≡ false
+    f = false_if (has_as_point S p) i
 
-    m : HasRim (cell S) (cell (plus S p))
-    m = from.rim S (plus S p) p s (corners.plus_adds S p n f)
+    m : HasRim (cell S) (cell (set_with S p))
+    m = from.rim S (set_with S p) p s (corners.plus_adds S p n f)
 
-    g : gone (cell S) (cell (plus S p)) m.t1 m.t2 m.t3 m.rim.lost ≡ true
+    g : gone (cell S) (cell (set_with S p)) m.t1 m.t2 m.t3 m.rim.lost ≡ true
     g =
-        and_not (cell S m.t1 m.t2 m.t3 m.rim.lost) (cell (plus S p) m.t1 m.t2 m.t3 m.rim.lost) m.rim.lost_before
+        and_not (cell S m.t1 m.t2 m.t3 m.rim.lost) (cell (set_with S p) m.t1 m.t2 m.t3 m.rim.lost) m.rim.lost_before
         m.rim.lost_after
 
 -- a real edit reaches a point of the set that it makes
-pub stays : (S : PointSet) (e : Step) (T : PointSet) → solid S ≡ true → Makes S e T → (q : Vertex) × (has T q ≡ true)
+pub stays : (S : PointSet) (e : Step) (T : PointSet) → solid S ≡ true → Makes S e T →
+    (q : Vertex) × (has_as_point T q ≡ true)
     × Reach S e q
 stays S (add p) T s m = (p, m.present, inl refl)
 stays S (take p) T s m = (
@@ -332,7 +334,7 @@ turn R (add x) (add y) A T s n ra at d =
     }
   where
     B : PointSet
-    B = plus R y
+    B = set_with R y
 
     rb : IsAdd R y B
     rb = corners.plus_adds R y (finite T y at.present) (sym (ra.same y (λ e. n (sym e))) ∙ at.absent)
@@ -352,7 +354,7 @@ turn A (take x) (add y) R B s n m rb d =
     }
   where
     T : PointSet
-    T = plus A y
+    T = set_with A y
 
     at : IsAdd A y T
     at = corners.plus_adds A y (finite B y rb.present) (m.0.same y (λ e. n (sym e)) ∙ rb.absent)
@@ -454,7 +456,7 @@ commute S e d s ne nd apart = go (kind S e ne) (kind (after S e) d nd)
     n f = apart (point_of e) (own_reach S e (point_of e) refl) (own_reach (after S e) d (point_of e) f)
 
     idle_or : (T : PointSet) → Kind T d → (Idle T d) ⊎ (Idle T d → ⊥)
-    idle_or T k = go2 (has T (point_of d)) (is_add d)
+    idle_or T k = go2 (has_as_point T (point_of d)) (is_add d)
       where
         go2 : (b c : Bool) → (b ≡ c) ⊎ (b ≡ c → ⊥)
         go2 true true = inl refl
@@ -469,7 +471,7 @@ commute S e d s ne nd apart = go (kind S e ne) (kind (after S e) d nd)
     go (flat f) k = ⊎_elim (λ i. idle_second S e d ne n i)
         (λ i. let p = flat_after S e f in
         let t = touches (after S e) d (ap solid p ∙ s) nd i in
-        absurd (apart t.0 (flat_reach S e s f t.0 (sym (ap (λ (U : PointSet). has U t.0) p) ∙ t.1)) t.2))
+        absurd (apart t.0 (flat_reach S e s f t.0 (sym (ap (λ (U : PointSet). has_as_point U t.0) p) ∙ t.1)) t.2))
         (idle_or (after S e) k)
     go (real m) (flat f) =
         let t = stays S e (after S e) s m in

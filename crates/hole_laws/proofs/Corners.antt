@@ -4,7 +4,7 @@ use Rattle.std.proofs.Common.{refl, sym, ap, ◌∙◌, inl, inr}
 use Rattle.std.proofs.lemmas.Bool.{false≢true}
 use Rattle.list_laws.proofs.Cited.{same_from, same_true}
 use Rattle.del_laws.specs.Cells.{Vertex, point, far}
-use Rattle.del_laws.specs.PointSets.{PointSet, has, solid, cell, plus, minus, same_vertex, is_point}
+use Rattle.del_laws.specs.PointSets.{PointSet, solid, cell, minus, same_vertex, is_point, has_as_point, set_with}
 use Rattle.del_laws.proofs.Cited.{extensional, has_minus, has_plus}
 use Rattle.hole_laws.proofs.Tests.{IsAdd, gone}
 use Rattle.hole_laws.proofs.Vertices.{cases_vertex}
@@ -83,12 +83,12 @@ agree_across R A B T x y q sa sb d = agree_turned R A B T (agree_up R B A T y x 
     λ e a b. d e b (rho_along R B A T y e (opposite R A B T x y q sa sb d e).0 a))
 
 -- the corners of a square
-pub plus_adds : (S : PointSet) (p : Vertex) → is_point p ≡ true → has S p ≡ false → IsAdd S p (plus S p)
+pub plus_adds : (S : PointSet) (p : Vertex) → is_point p ≡ true → has_as_point S p ≡ false → IsAdd S p (set_with S p)
 plus_adds S p n f = record {
   finite = point_finite p n;
   absent = f;
-  present = has_plus S p p n ∙ ap (λ b. b || has S p) (same_vertex_self p);
-  same = λ q m. has_plus S p q n ∙ other (same_vertex p q) (has S q) (λ e. m (sym (same_vertex_true p q e)));
+  present = has_plus S p p n ∙ ap (λ b. b || has_as_point S p) (same_vertex_self p);
+  same = λ q m. has_plus S p q n ∙ other (same_vertex p q) (has_as_point S q) (λ e. m (sym (same_vertex_true p q e)));
 }
   where
     other : (a b : Bool) → (a ≡ true → ⊥) → (a || b) ≡ b
@@ -96,12 +96,13 @@ plus_adds S p n f = record {
     other false b h = refl
 
 -- a set has one more point than the set without it
-pub minus_adds : (S : PointSet) (p : Vertex) → has S p ≡ true → IsAdd (minus S p) p S
+pub minus_adds : (S : PointSet) (p : Vertex) → has_as_point S p ≡ true → IsAdd (minus S p) p S
 minus_adds S p h = record {
-  finite = λ e. false≢true (ap (has S) (sym e) ∙ h);
-  absent = has_minus S p p ∙ ap (λ b. not b && has S p) (same_vertex_self p);
+  finite = λ e. false≢true (ap (has_as_point S) (sym e) ∙ h);
+  absent = has_minus S p p ∙ ap (λ b. not b && has_as_point S p) (same_vertex_self p);
   present = h;
-  same = λ q m. sym (has_minus S p q ∙ other (same_vertex p q) (has S q) (λ e. m (sym (same_vertex_true p q e))));
+  same = λ q m. sym (has_minus S p q
+      ∙ other (same_vertex p q) (has_as_point S q) (λ e. m (sym (same_vertex_true p q e))));
 }
   where
     other : (a b : Bool) → (a ≡ true → ⊥) → (not a && b) ≡ b
@@ -112,16 +113,16 @@ minus_adds S p h = record {
 pub adds_same : (S T U : PointSet) (p : Vertex) → IsAdd S p T → IsAdd S p U → T ≡ U
 adds_same S T U p a b = extensional T U λ q. go q (cases_vertex q p)
   where
-    go : (q : Vertex) → (q ≡ p) ⊎ (q ≡ p → ⊥) → has T q ≡ has U q
-    go q (inl e) = ap (has T) e ∙ a.present ∙ sym b.present ∙ ap (has U) (sym e)
+    go : (q : Vertex) → (q ≡ p) ⊎ (q ≡ p → ⊥) → has_as_point T q ≡ has_as_point U q
+    go q (inl e) = ap (has_as_point T) e ∙ a.present ∙ sym b.present ∙ ap (has_as_point U) (sym e)
     go q (inr n) = a.same q n ∙ sym (b.same q n)
 
 -- and so is a set without one
 pub takes_same : (S T U : PointSet) (p : Vertex) → IsAdd S p U → IsAdd T p U → S ≡ T
 takes_same S T U p a b = extensional S T λ q. go q (cases_vertex q p)
   where
-    go : (q : Vertex) → (q ≡ p) ⊎ (q ≡ p → ⊥) → has S q ≡ has T q
-    go q (inl e) = ap (has S) e ∙ a.absent ∙ sym b.absent ∙ ap (has T) (sym e)
+    go : (q : Vertex) → (q ≡ p) ⊎ (q ≡ p → ⊥) → has_as_point S q ≡ has_as_point T q
+    go q (inl e) = ap (has_as_point S) e ∙ a.absent ∙ sym b.absent ∙ ap (has_as_point T) (sym e)
     go q (inr n) = sym (a.same q n) ∙ b.same q n
 
 -- the fourth corner from the first three
@@ -133,8 +134,8 @@ upper R A B T x y n ra rb at = record {
   same = λ q m. go q m (cases_vertex q y);
 }
   where
-    go : (q : Vertex) → q ≢ x → (q ≡ y) ⊎ (q ≡ y → ⊥) → has T q ≡ has B q
-    go q m (inl e) = ap (has T) e ∙ at.present ∙ sym rb.present ∙ ap (has B) (sym e)
+    go : (q : Vertex) → q ≢ x → (q ≡ y) ⊎ (q ≡ y → ⊥) → has_as_point T q ≡ has_as_point B q
+    go q m (inl e) = ap (has_as_point T) e ∙ at.present ∙ sym rb.present ∙ ap (has_as_point B) (sym e)
     go q m (inr k) = at.same q k ∙ ra.same q m ∙ sym (rb.same q k)
 
 -- the second corner from the others
@@ -146,6 +147,6 @@ lower R A B T x y n rb bt at = record {
   same = λ q m. go q m (cases_vertex q y);
 }
   where
-    go : (q : Vertex) → q ≢ x → (q ≡ y) ⊎ (q ≡ y → ⊥) → has A q ≡ has R q
-    go q m (inl e) = ap (has A) e ∙ at.absent ∙ sym rb.absent ∙ ap (has R) (sym e)
+    go : (q : Vertex) → q ≢ x → (q ≡ y) ⊎ (q ≡ y → ⊥) → has_as_point A q ≡ has_as_point R q
+    go q m (inl e) = ap (has_as_point A) e ∙ at.absent ∙ sym rb.absent ∙ ap (has_as_point R) (sym e)
     go q m (inr k) = sym (at.same q k) ∙ bt.same q m ∙ rb.same q k

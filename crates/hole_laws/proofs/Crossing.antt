@@ -15,7 +15,8 @@ use Rattle.hole_laws.proofs.Standing.{one_of_two}
 
 module _ (s : List ℕ) (p : ℕ) (i : IsSolidSet s) (crossed : List Facet) (cell other : Cell) (f : Facet)
     (found : List Cell) (rim : List Facet)
-    (t : IsCrossedAt s p crossed cell found rim) (m : IsIn f (facets_of cell)) (o : IsOtherOf (complex s) cell f other) where
+    (t : IsCrossedAt s p crossed cell found rim) (m : IsIn f (facets_of cell))
+    (o : IsOtherOf (complex s) cell f other) where
   -- the found cell goes
   goes_here : GoesFrom s p cell
   goes_here = t.so_far.goes cell t.among

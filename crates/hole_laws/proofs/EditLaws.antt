@@ -22,7 +22,7 @@ use Rattle.edit_history.specs.declared.history.Reply.TheVariants.{
 }
 use Rattle.edit_history.specs.Edits.{HasKeys, moved_to, reply_to, after, arrived, changed}
 use Rattle.del_laws.specs.Cells.{Vertex, point, far}
-use Rattle.del_laws.specs.PointSets.{PointSet, has, solid, cell, plus, minus, is_point}
+use Rattle.del_laws.specs.PointSets.{PointSet, solid, cell, minus, is_point, has_as_point, set_with}
 use Rattle.del_laws.proofs.Cited.{ascending_of, has_from, has_true, keys_of, minus_points, plus_points, same_point}
 use Rattle.del_laws.specs.Base.{Symmetric}
 use Rattle.hole_laws.specs.Lists.{Goes, AreJoined}
@@ -63,15 +63,16 @@ step_point (Take p) k = key_point p k
 step_point (Move a b) k = (key_point a k.0, key_point b k.1)
 
 -- the list with b and without a
-both_points : (s : PointSet) (a b : ℕ) → IsKey b → (minus (plus s (point b)) (point a)).points ≡ moved_to a b s.points
-both_points s a b k = minus_points (plus s (point b)) a ∙ ap (without_point a) (plus_points s b k)
+both_points : (s : PointSet) (a b : ℕ) → IsKey b → (minus (set_with s (point b)) (point a)).points
+    ≡ moved_to a b s.points
+both_points s a b k = minus_points (set_with s (point b)) a ∙ ap (without_point a) (plus_points s b k)
 
 -- the list after an edit
 points_after : (s : PointSet) (a : Edit) → HasKeys a → (sets.after s (step_of a)).points ≡ after s.points a
 unfolding step_of
 points_after s (Add p) k = by_test (is_among p s.points) refl
   where
-    by_test : (b : Bool) → is_among p s.points ≡ b → (cond (is_among p s.points) s (plus s (point p))).points
+    by_test : (b : Bool) → is_among p s.points ≡ b → (cond (is_among p s.points) s (set_with s (point p))).points
         ≡ changed s.points p (if is_among p s.points then Duplicate else Inserted)
     by_test true e = rw e refl
     by_test false e = rw e (plus_points s p k)
@@ -169,17 +170,19 @@ linked_of c k l t v e n j =
     h = cell_of c k l t j.q j.listed a.t1 a.t2 a.t3 (point v) a.four a.vertices
 
 -- the list of the set with a key
-lists_plus : (s : PointSet) (p : ℕ) → IsKey p → ListsCells (complex (with_point p s.points)) (cell (plus s (point p)))
+lists_plus : (s : PointSet) (p : ℕ) → IsKey p →
+    ListsCells (complex (with_point p s.points)) (cell (set_with s (point p)))
 lists_plus s p k =
-    subst (λ (v : List ℕ). ListsCells (complex v) (cell (plus s (point p)))) (plus_points s p k)
-    (lists_cells (plus s (point p)))
+    subst (λ (v : List ℕ). ListsCells (complex v) (cell (set_with s (point p)))) (plus_points s p k)
+    (lists_cells (set_with s (point p)))
 
 -- an added point reaches the points of cells that go
-reached_same : (s : PointSet) → solid s ≡ true → (p : ℕ) → IsKey p → has s (point p) ≡ false → (e : ℕ) →
-    IsAtGone (cell s) (cell (plus s (point p))) (point e) ↔ IsReached s.points p e
+reached_same : (s : PointSet) → solid s ≡ true → (p : ℕ) → IsKey p → has_as_point s (point p) ≡ false → (e : ℕ) →
+    IsAtGone (cell s) (cell (set_with s (point p))) (point e) ↔ IsReached s.points p e
 reached_same s h p k f e = (
   λ g. (
-      let r = test_goes (cell s) (cell (plus s (point p))) p ins (complex s.points) (complex (with_point p s.points))
+      let r = test_goes (cell s) (cell (set_with s (point p))) p ins (complex s.points)
+      (complex (with_point p s.points))
       (lists_cells s) (lists_plus s p k) g.t1 g.t2 g.t3 (point e) g.cell in
       record {
         q = r.0;
@@ -187,12 +190,12 @@ reached_same s h p k f e = (
         has = vertex_point r.0 e (four_is (has_vertex r.0 g.t1) (has_vertex r.0 g.t2)
             (has_vertex r.0 g.t3) (has_vertex r.0 (point e)) r.2).3;
       }),
-  λ r. at_gone (cell s) (cell (plus s (point p))) p ins (complex s.points) (complex (with_point p s.points))
+  λ r. at_gone (cell s) (cell (set_with s (point p))) p ins (complex s.points) (complex (with_point p s.points))
       (lists_cells s) (lists_plus s p k) e r,
 )
   where
-    ins : Insertion (cell s) (cell (plus s (point p))) (point p)
-    ins = insertion s (plus s (point p)) (point p) h (plus_adds s (point p) (key_point p k) f)
+    ins : Insertion (cell s) (cell (set_with s (point p))) (point p)
+    ins = insertion s (set_with s (point p)) (point p) h (plus_adds s (point p) (key_point p k) f)
 
 -- the points that an edit reaches
 reach_same : (s : PointSet) → solid s ≡ true → (a : Edit) → HasKeys a → (e : ℕ) → sets.Reach s (step_of a) (point e)
@@ -205,7 +208,7 @@ reach_same s h (Add p) k e = (
   ],
   λ r. elim r [
     | inl q ↦ inl (ap point q)
-    | inr g ↦ (let f = false_if (has s (point p)) (λ m. g.0 (has_from s p m)) in
+    | inr g ↦ (let f = false_if (has_as_point s (point p)) (λ m. g.0 (has_from s p m)) in
         inr (f, (reached_same s h p k f e).1 g.1))
   ],
 )
@@ -237,7 +240,8 @@ reach_same s h (Move a b) k e = (there, back)
       (λ m. false≢true (sym g.1 ∙ has_true s b m)),
       elim g.2 [
         | inl r ↦ inl ((reached_same s h b k.1 g.1 e).0 r)
-        | inr l ↦ inr (joined_of (cell (plus s (point b))) (complex (with_point b s.points)) (lists_plus s b k.1) a e
+        | inr l ↦ inr (joined_of (cell (set_with s (point b))) (complex (with_point b s.points))
+            (lists_plus s b k.1) a e
             l.1)
       ],
     ))
@@ -246,7 +250,7 @@ reach_same s h (Move a b) k e = (there, back)
     back (inl q) = inl (ap point q)
     back (inr (inl q)) = inr (inl (ap point q))
     back (inr (inr g)) =
-        let f : has s (point b) ≡ false = false_if (has s (point b)) (λ m. g.1 (has_from s b m)) in
+        let f : has_as_point s (point b) ≡ false = false_if (has_as_point s (point b)) (λ m. g.1 (has_from s b m)) in
         elim g.2 [
           | inl r ↦ inr (inr (has_true s a g.0, f, inl ((reached_same s h b k.1 f e).1 r)))
           | inr j ↦ elim (cases_eq e a) [
@@ -256,7 +260,8 @@ reach_same s h (Move a b) k e = (there, back)
               f,
               inr (
                 (λ q. (cc)),
-                linked_of (cell (plus s (point b))) (complex_of (plus s (point b))) (complex (with_point b s.points))
+                linked_of (cell (set_with s (point b))) (complex_of (set_with s (point b)))
+                    (complex (with_point b s.points))
                     (lists_plus s b k.1) a e n j,
               ),
             ))

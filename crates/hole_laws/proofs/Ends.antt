@@ -5,7 +5,7 @@ use Rattle.std.proofs.Common.{refl, sym, ap, ◌∙◌, subst, inl, inr, ⊎_eli
 use Rattle.std.proofs.lemmas.Bool.{false≢true}
 use Rattle.list_laws.proofs.Cited.{and_not, and_not_from}
 use Rattle.del_laws.specs.Cells.{Vertex}
-use Rattle.del_laws.specs.PointSets.{PointSet, has, solid, cell}
+use Rattle.del_laws.specs.PointSets.{PointSet, solid, cell, has_as_point}
 use Rattle.del_laws.proofs.Cited.{base, test_symmetric}
 use Rattle.hole_laws.proofs.Tests.{AreLinked}
 use Rattle.hole_laws.proofs.FromBase as from
@@ -26,7 +26,7 @@ module _ (R A B T : PointSet) (x y : Vertex) (q : Square R A B T x y)
 
   -- they are two points
   differ_points : y ≢ x
-  differ_points e = false≢true (sym q.bt.absent ∙ ap (has B) (sym e) ∙ q.rb.present)
+  differ_points e = false≢true (sym q.bt.absent ∙ ap (has_as_point B) (sym e) ∙ q.rb.present)
 
   -- the cells at y are the same without x
   star_down : (t1 t2 t3 : Vertex) → cell T t1 t2 t3 y ≡ true → cell B t1 t2 t3 y ≡ true

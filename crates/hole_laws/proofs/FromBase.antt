@@ -6,7 +6,7 @@ use Rattle.list_laws.proofs.Cited.{and_not, and_not_from, false_if, search_pair}
 use Rattle.del_laws.specs.Cells.{Vertex, far}
 use Rattle.del_laws.specs.Base.{Symmetric, Across, Corner, Within, IsVertexOf}
 use Rattle.hole_laws.proofs.Tests.{IsComplex, Insertion, HasRim, AreLinked, gone}
-use Rattle.del_laws.specs.PointSets.{PointSet, has, solid, cell, vertices}
+use Rattle.del_laws.specs.PointSets.{PointSet, solid, cell, vertices, has_as_point}
 use Rattle.hole_laws.proofs.Tests.{IsAdd}
 use Rattle.del_laws.proofs.Cited.{base, test_symmetric}
 use Rattle.hole_laws.proofs.Vertices.{cases_vertex, first_last, second_last}
@@ -18,15 +18,15 @@ pub complex_of : (S : PointSet) → IsComplex (cell S)
 complex_of S = record { vertices = vertices S; laws = base.complex S }
 
 -- the set is within the set with p
-pub larger : (S T : PointSet) (p : Vertex) → IsAdd S p T → Within PointSet has S T
-larger S T p a q h = a.same q (λ e. false≢true (sym a.absent ∙ ap (has S) (sym e) ∙ h)) ∙ h
+pub larger : (S T : PointSet) (p : Vertex) → IsAdd S p T → Within PointSet has_as_point S T
+larger S T p a q h = a.same q (λ e. false≢true (sym a.absent ∙ ap (has_as_point S) (sym e) ∙ h)) ∙ h
 
 -- the last vertex of a cell of T that is not p
 keeps : (S T : PointSet) (p : Vertex) → IsAdd S p T → (w x y z : Vertex) → cell T w x y z ≡ true → z ≢ p →
-    IsVertexOf PointSet has S z
+    IsVertexOf PointSet has_as_point S z
 keeps S T p a w x y z h n = go (cases_vertex z far)
   where
-    go : (z ≡ far) ⊎ (z ≡ far → ⊥) → IsVertexOf PointSet has S z
+    go : (z ≡ far) ⊎ (z ≡ far → ⊥) → IsVertexOf PointSet has_as_point S z
     go (inl e) = inl e
     go (inr m) = inr (sym (a.same z n) ∙ base.point T w x y z h m)
 
@@ -49,8 +49,9 @@ pub meet : (R A B T : PointSet) (p q : Vertex) → solid R ≡ true → IsAdd R 
 meet R A B T p q s ra rb at =
     base.union R A B T s (larger R A p ra) (larger R B q rb) (larger A T q at) λ v h. go v h (cases_vertex v q)
   where
-    go : (v : Vertex) → has T v ≡ true → (v ≡ q) ⊎ (v ≡ q → ⊥) → (has A v ≡ true) ⊎ (has B v ≡ true)
-    go v h (inl e) = inr (ap (has B) e ∙ rb.present)
+    go : (v : Vertex) → has_as_point T v ≡ true → (v ≡ q) ⊎ (v ≡ q → ⊥) →
+        (has_as_point A v ≡ true) ⊎ (has_as_point B v ≡ true)
+    go v h (inl e) = inr (ap (has_as_point B) e ∙ rb.present)
     go v h (inr n) = inl (sym (at.same v n) ∙ h)
 
 -- no cell of the set has p
@@ -124,7 +125,7 @@ linked S T v s a w x y z g f =
     c : cell S w x y z ≡ true
     c = (and_not_from (cell S w x y z) (cell T w x y z) g).0
 
-    hz : has S z ≡ true
+    hz : has_as_point S z ≡ true
     hz = base.point S w x y z c f
 
     none : ((i j : Vertex) → cell T i j z v ≡ false) → ⊥

@@ -6,7 +6,7 @@ use Rattle.list_laws.proofs.Cited.{cond_false, cond_true}
 use Rattle.edit_history.specs.declared.history.Reply.{Reply}
 use Rattle.edit_history.specs.declared.history.Reply.TheVariants.{Missing, Flat, Moved, Occupied}
 use Rattle.del_laws.specs.Cells.{Vertex, far}
-use Rattle.del_laws.specs.PointSets.{PointSet, has, solid, cell, plus, minus, is_point}
+use Rattle.del_laws.specs.PointSets.{PointSet, solid, cell, minus, is_point, has_as_point, set_with}
 use Rattle.del_laws.proofs.Cited.{finite}
 use Rattle.hole_laws.proofs.Tests.{IsAdd, AreLinked, IsAtGone}
 use Rattle.hole_laws.proofs.Vertices.{cases_vertex}
@@ -34,20 +34,22 @@ ArePoints (move a b) = (is_point a ≡ true) × (is_point b ≡ true)
 -- the set after an edit, and the reply
 abbrev pub after : PointSet → Change → PointSet
 after S (step e) = one.after S e
-after S (move a b) = cond (has S a) (cond (has S b) S (cond (solid (minus (plus S b) a)) (minus (plus S b) a) S)) S
+after S (move a b) = cond (has_as_point S a)
+    (cond (has_as_point S b) S (cond (solid (minus (set_with S b) a)) (minus (set_with S b) a) S)) S
 
 -- the reply to it
 abbrev pub reply : PointSet → Change → Reply
 reply S (step e) = one.reply S e
-reply S (move a b) = cond (has S a) (cond (has S b) Occupied (cond (solid (minus (plus S b) a)) Moved Flat)) Missing
+reply S (move a b) = cond (has_as_point S a)
+    (cond (has_as_point S b) Occupied (cond (solid (minus (set_with S b) a)) Moved Flat)) Missing
 
 -- what an edit reaches
 abbrev pub Reach : PointSet → Change → Vertex → Type 0
 Reach S (step e) q = one.Reach S e q
 Reach S (move a b) q =
     (q ≡ a) ⊎ (q ≡ b)
-    ⊎ (has S a ≡ true) × (has S b ≡ false) × (IsAtGone (cell S) (cell (plus S b)) q ⊎ (q ≢ far) ×
-    AreLinked (cell (plus S b)) a q)
+    ⊎ (has_as_point S a ≡ true) × (has_as_point S b ≡ false) × (IsAtGone (cell S) (cell (set_with S b)) q ⊎ (q ≢ far) ×
+    AreLinked (cell (set_with S b)) a q)
 
 -- both orders do the same
 pub record Commutes (S : PointSet) (e d : Change) : Type 0 where
@@ -172,30 +174,32 @@ swap S (then e es) S1 ds S2 s p r apart =
 
 module _ (S : PointSet) (a b : Vertex) (T : PointSet) (n : a ≢ b) (p : Path S (steps (move a b)) T) where
   -- the point was there
-  had : has S a ≡ true
+  had : has_as_point S a ≡ true
   had = sym (p.1.same a n) ∙ p.2.0.present
 
   -- the set in between is that with the new place
-  middle : plus S b ≡ p.0
-  middle = corners.adds_same S (plus S b) p.0 b (corners.plus_adds S b (finite p.0 b p.1.present) p.1.absent) p.1
+  middle : set_with S b ≡ p.0
+  middle = corners.adds_same S (set_with S b) p.0 b (corners.plus_adds S b (finite p.0 b p.1.present) p.1.absent) p.1
 
   -- the last is that without the old one
-  ends : minus (plus S b) a ≡ T
+  ends : minus (set_with S b) a ≡ T
   ends = ap (λ (U : PointSet). minus U a) middle ∙ corners.takes_same (minus p.0 a) T p.0 a
       (corners.minus_adds p.0 a p.2.0.present) p.2.0
 
   -- so it is the set after the move
   move_after : after S (move a b) ≡ T
-  move_after = cond_true (has S a) (cond (has S b) S (cond (solid (minus (plus S b) a)) (minus (plus S b) a) S)) S had
-      ∙ cond_false (has S b) S (cond (solid (minus (plus S b) a)) (minus (plus S b) a) S) p.1.absent
-      ∙ cond_true (solid (minus (plus S b) a)) (minus (plus S b) a) S (ap solid ends ∙ p.2.1)
+  move_after = cond_true (has_as_point S a)
+      (cond (has_as_point S b) S (cond (solid (minus (set_with S b) a)) (minus (set_with S b) a) S)) S had
+      ∙ cond_false (has_as_point S b) S (cond (solid (minus (set_with S b) a)) (minus (set_with S b) a) S) p.1.absent
+      ∙ cond_true (solid (minus (set_with S b) a)) (minus (set_with S b) a) S (ap solid ends ∙ p.2.1)
       ∙ ends
 
   -- and the reply is Moved
   move_reply : reply S (move a b) ≡ Moved
-  move_reply = cond_true (has S a) (cond (has S b) Occupied (cond (solid (minus (plus S b) a)) Moved Flat)) Missing had
-      ∙ cond_false (has S b) Occupied (cond (solid (minus (plus S b) a)) Moved Flat) p.1.absent
-      ∙ cond_true (solid (minus (plus S b) a)) Moved Flat (ap solid ends ∙ p.2.1)
+  move_reply = cond_true (has_as_point S a)
+      (cond (has_as_point S b) Occupied (cond (solid (minus (set_with S b) a)) Moved Flat)) Missing had
+      ∙ cond_false (has_as_point S b) Occupied (cond (solid (minus (set_with S b) a)) Moved Flat) p.1.absent
+      ∙ cond_true (solid (minus (set_with S b) a)) Moved Flat (ap solid ends ∙ p.2.1)
 
   -- the move reaches what its two steps reach
   move_reach : (q : Vertex) → Reach S (move a b) q ↔ Reached S (steps (move a b)) T p q
@@ -248,13 +252,13 @@ real_reach S (move a b) T n p q = move_reach S a b T n p q
 
 -- it reaches a point that was there
 real_touches : (S : PointSet) (c : Change) (T : PointSet) → solid S ≡ true → ArePoints c → IsProper c →
-    Path S (steps c) T → (q : Vertex) × (has S q ≡ true) × Reach S c q
+    Path S (steps c) T → (q : Vertex) × (has_as_point S q ≡ true) × Reach S c q
 real_touches S (step e) T s k n p = one.touches S e s k (one.makes_busy S e T p)
 real_touches S (move a b) T s k n p = (a, had S a b T n p, inl refl)
 
 -- and one that is there then
 real_stays : (S : PointSet) (c : Change) (T : PointSet) → solid S ≡ true → IsProper c → Path S (steps c) T →
-    (q : Vertex) × (has T q ≡ true) × Reach S c q
+    (q : Vertex) × (has_as_point T q ≡ true) × Reach S c q
 real_stays S (step e) T s n p = one.stays S e T s p
 real_stays S (move a b) T s n p = (b, sym (p.2.0.same b (λ e. n (sym e))) ∙ p.1.present, inr (inl refl))
 
@@ -262,7 +266,7 @@ real_stays S (move a b) T s n p = (b, sym (p.2.0.same b (λ e. n (sym e))) ∙ p
 
 -- the sets have the same of the own points of an edit
 abbrev Agree : Change → PointSet → PointSet → Type 0
-Agree c S T = (q : Vertex) → Own c q → has T q ≡ has S q
+Agree c S T = (q : Vertex) → Own c q → has_as_point T q ≡ has_as_point S q
 
 -- it changes nothing, by its own points
 record IsIdle (S : PointSet) (c : Change) : Type 0 where
@@ -273,9 +277,9 @@ record IsIdle (S : PointSet) (c : Change) : Type 0 where
 -- it changes nothing, since the set would not be solid, and reaches all of the set
 record IsFlat (S : PointSet) (c : Change) : Type 0 where
   after : after S c ≡ S
-  reach : (q : Vertex) → has S q ≡ true → Reach S c q
+  reach : (q : Vertex) → has_as_point S q ≡ true → Reach S c q
   some : Vertex
-  there : has S some ≡ true
+  there : has_as_point S some ≡ true
 
 -- an edit changes nothing by its own points, or since the rest is flat, or is made by its steps
 data Kind (S : PointSet) (c : Change) : Type 0 where
@@ -303,9 +307,10 @@ flat_step S (take p) s f = record {
 }
 
 -- a move of a point that is not there
-missing_move : (S : PointSet) (a b : Vertex) → has S a ≡ false → IsIdle S (move a b)
+missing_move : (S : PointSet) (a b : Vertex) → has_as_point S a ≡ false → IsIdle S (move a b)
 missing_move S a b f = record {
-  after = λ T g. cond_false (has T a) (cond (has T b) T (cond (solid (minus (plus T b) a)) (minus (plus T b) a) T)) T
+  after = λ T g. cond_false (has_as_point T a)
+      (cond (has_as_point T b) T (cond (solid (minus (set_with T b) a)) (minus (set_with T b) a) T)) T
       (lacks T g);
   reply = λ T g. answer T (lacks T g) ∙ sym (answer S f);
   reach = λ T g q r. elim r [
@@ -318,18 +323,20 @@ missing_move S a b f = record {
   ];
 }
   where
-    lacks : (T : PointSet) → Agree (move a b) S T → has T a ≡ false
+    lacks : (T : PointSet) → Agree (move a b) S T → has_as_point T a ≡ false
     lacks T g = g a (inl refl) ∙ f
 
-    answer : (T : PointSet) → has T a ≡ false → reply T (move a b) ≡ Missing
-    answer T e = cond_false (has T a) (cond (has T b) Occupied (cond (solid (minus (plus T b) a)) Moved Flat)) Missing e
+    answer : (T : PointSet) → has_as_point T a ≡ false → reply T (move a b) ≡ Missing
+    answer T e = cond_false (has_as_point T a)
+        (cond (has_as_point T b) Occupied (cond (solid (minus (set_with T b) a)) Moved Flat)) Missing e
 
 -- a move to a place where a point is
-occupied_move : (S : PointSet) (a b : Vertex) → has S a ≡ true → has S b ≡ true → IsIdle S (move a b)
+occupied_move : (S : PointSet) (a b : Vertex) → has_as_point S a ≡ true → has_as_point S b ≡ true → IsIdle S (move a b)
 occupied_move S a b f h = record {
-  after = λ T g. cond_true (has T a) (cond (has T b) T (cond (solid (minus (plus T b) a)) (minus (plus T b) a) T)) T
+  after = λ T g. cond_true (has_as_point T a)
+      (cond (has_as_point T b) T (cond (solid (minus (set_with T b) a)) (minus (set_with T b) a) T)) T
       (g a (inl refl) ∙ f)
-      ∙ cond_true (has T b) T (cond (solid (minus (plus T b) a)) (minus (plus T b) a) T) (there T g);
+      ∙ cond_true (has_as_point T b) T (cond (solid (minus (set_with T b) a)) (minus (set_with T b) a) T) (there T g);
   reply = λ T g. answer T (g a (inl refl) ∙ f) (there T g) ∙ sym (answer S f h);
   reach = λ T g q r. elim r [
     | inl e ↦ inl e
@@ -341,35 +348,42 @@ occupied_move S a b f h = record {
   ];
 }
   where
-    there : (T : PointSet) → Agree (move a b) S T → has T b ≡ true
+    there : (T : PointSet) → Agree (move a b) S T → has_as_point T b ≡ true
     there T g = g b (inr refl) ∙ h
 
-    answer : (T : PointSet) → has T a ≡ true → has T b ≡ true → reply T (move a b) ≡ Occupied
-    answer T e k = cond_true (has T a) (cond (has T b) Occupied (cond (solid (minus (plus T b) a)) Moved Flat)) Missing
+    answer : (T : PointSet) → has_as_point T a ≡ true → has_as_point T b ≡ true → reply T (move a b) ≡ Occupied
+    answer T e k = cond_true (has_as_point T a)
+        (cond (has_as_point T b) Occupied (cond (solid (minus (set_with T b) a)) Moved Flat)) Missing
         e
-        ∙ cond_true (has T b) Occupied (cond (solid (minus (plus T b) a)) Moved Flat) k
+        ∙ cond_true (has_as_point T b) Occupied (cond (solid (minus (set_with T b) a)) Moved Flat) k
 
-module _ (S : PointSet) (a b : Vertex) (s : solid S ≡ true) (kb : is_point b ≡ true) (f : has S a ≡ true)
-    (h : has S b ≡ false) where
+module _ (S : PointSet) (a b : Vertex) (s : solid S ≡ true) (kb : is_point b ≡ true) (f : has_as_point S a ≡ true)
+    (h : has_as_point S b ≡ false) where
   -- the two places differ
   differ : a ≢ b
-  differ e = false≢true (sym h ∙ ap (has S) (sym e) ∙ f)
+  differ e = false≢true (sym h ∙ ap (has_as_point S) (sym e) ∙ f)
 
   -- the new place is added
-  adds : IsAdd S b (plus S b)
+  adds : IsAdd S b (set_with S b)
   adds = corners.plus_adds S b kb h
 
   -- and all others stay
-  kept : (q : Vertex) → has S q ≡ true → has (plus S b) q ≡ true
-  kept q k = elim (cases_vertex q b) [ inl e ↦ ap (has (plus S b)) e ∙ adds.present | inr n ↦ adds.same q n ∙ k ]
+  kept : (q : Vertex) → has_as_point S q ≡ true → has_as_point (set_with S b) q ≡ true
+  kept q k = elim (cases_vertex q b) [
+    | inl e ↦ ap (has_as_point (set_with S b)) e
+        ∙ adds.present
+    | inr n ↦ adds.same q n ∙ k
+  ]
 
   -- a flat move
-  flat_move : solid (minus (plus S b) a) ≡ false → IsFlat S (move a b)
+  flat_move : solid (minus (set_with S b) a) ≡ false → IsFlat S (move a b)
   flat_move u = record {
-    after = cond_true (has S a) (cond (has S b) S (cond (solid (minus (plus S b) a)) (minus (plus S b) a) S)) S f
-        ∙ cond_false (has S b) S (cond (solid (minus (plus S b) a)) (minus (plus S b) a) S) h
-        ∙ cond_false (solid (minus (plus S b) a)) (minus (plus S b) a) S u;
-    reach = λ q k. elim (one.flat_reach (plus S b) (take a) (from.solid_add S (plus S b) b s adds) (kept a f, u) q
+    after = cond_true (has_as_point S a)
+        (cond (has_as_point S b) S (cond (solid (minus (set_with S b) a)) (minus (set_with S b) a) S)) S f
+        ∙ cond_false (has_as_point S b) S (cond (solid (minus (set_with S b) a)) (minus (set_with S b) a) S) h
+        ∙ cond_false (solid (minus (set_with S b) a)) (minus (set_with S b) a) S u;
+    reach = λ q k. elim (one.flat_reach (set_with S b) (take a) (from.solid_add S (set_with S b) b s adds)
+        (kept a f, u) q
         (kept q k)) [
           | inl e ↦ inl e
           | inr l ↦ inr (inr (f, h, inr (l.1, l.2)))
@@ -379,12 +393,13 @@ module _ (S : PointSet) (a b : Vertex) (s : solid S ≡ true) (kb : is_point b �
   }
 
   -- a move that is made
-  real_move : solid (minus (plus S b) a) ≡ true → Path S (steps (move a b)) (after S (move a b))
+  real_move : solid (minus (set_with S b) a) ≡ true → Path S (steps (move a b)) (after S (move a b))
   real_move u = subst (λ (U : PointSet). Path S (steps (move a b)) U)
-      (sym (cond_true (has S a) (cond (has S b) S (cond (solid (minus (plus S b) a)) (minus (plus S b) a) S)) S f
-      ∙ cond_false (has S b) S (cond (solid (minus (plus S b) a)) (minus (plus S b) a) S) h
-      ∙ cond_true (solid (minus (plus S b) a)) (minus (plus S b) a) S u))
-      (plus S b, adds, (corners.minus_adds (plus S b) a (kept a f), u))
+      (sym (cond_true (has_as_point S a)
+      (cond (has_as_point S b) S (cond (solid (minus (set_with S b) a)) (minus (set_with S b) a) S)) S f
+      ∙ cond_false (has_as_point S b) S (cond (solid (minus (set_with S b) a)) (minus (set_with S b) a) S) h
+      ∙ cond_true (solid (minus (set_with S b) a)) (minus (set_with S b) a) S u))
+      (set_with S b, adds, (corners.minus_adds (set_with S b) a (kept a f), u))
 
 -- of which kind an edit is
 kind : (S : PointSet) (c : Change) → solid S ≡ true → ArePoints c → Kind S c
@@ -394,9 +409,10 @@ kind S (step e) s k = by (one.kind S e k)
     by (one.idle i) = idle (idle_step S e i)
     by (one.flat f) = flat (flat_step S e s f)
     by (one.real m) = real tt m
-kind S (move a b) s k = by (has S a) (has S b) (solid (minus (plus S b) a)) refl refl refl
+kind S (move a b) s k = by (has_as_point S a) (has_as_point S b) (solid (minus (set_with S b) a)) refl refl refl
   where
-    by : (x y z : Bool) → has S a ≡ x → has S b ≡ y → solid (minus (plus S b) a) ≡ z → Kind S (move a b)
+    by : (x y z : Bool) → has_as_point S a ≡ x → has_as_point S b ≡ y → solid (minus (set_with S b) a) ≡ z →
+        Kind S (move a b)
     by false y z f h g = idle (missing_move S a b f)
     by true true z f h g = idle (occupied_move S a b f h)
     by true false false f h g = flat (flat_move S a b s k.1 f h g)
@@ -406,13 +422,13 @@ kind S (move a b) s k = by (has S a) (has S b) (solid (minus (plus S b) a)) refl
 
 -- an edit changes no other point
 others : (S : PointSet) (c : Change) (q : Vertex) → solid S ≡ true → ArePoints c → (Own c q → ⊥) →
-    has (after S c) q ≡ has S q
+    has_as_point (after S c) q ≡ has_as_point S q
 others S (step e) q s k free = one.others S e q k free
 others S (move a b) q s k free = by (kind S (move a b) s k)
   where
-    by : Kind S (move a b) → has (after S (move a b)) q ≡ has S q
-    by (idle i) = ap (λ (U : PointSet). has U q) (i.after S (λ r o. refl))
-    by (flat f) = ap (λ (U : PointSet). has U q) f.after
+    by : Kind S (move a b) → has_as_point (after S (move a b)) q ≡ has_as_point S q
+    by (idle i) = ap (λ (U : PointSet). has_as_point U q) (i.after S (λ r o. refl))
+    by (flat f) = ap (λ (U : PointSet). has_as_point U q) f.after
     by (real n p) = sym (p.2.0.same q (λ e. free (inl e))) ∙ p.1.same q (λ e. free (inr e))
 
 -- a solid set stays solid
@@ -502,11 +518,12 @@ module _ (S : PointSet) (e d : Change) (s : solid S ≡ true) (ke : ArePoints e)
       by (idle i) k = idle_first i
       by (flat f) (idle i) = idle_second i
       by (real n p) (idle i) = idle_second i
-      by (flat f) (flat g) = absurd (apart g.some (f.reach g.some (ap (λ (U : PointSet). has U g.some) (sym f.after) ∙
+      by (flat f) (flat g) =
+          absurd (apart g.some (f.reach g.some (ap (λ (U : PointSet). has_as_point U g.some) (sym f.after) ∙
           g.there)) (g.reach g.some g.there))
       by (flat f) (real n p) =
           let t = real_touches (after S e) d (after (after S e) d) (solid_after S e s ke) kd n p in
-          absurd (apart t.0 (f.reach t.0 (ap (λ (U : PointSet). has U t.0) (sym f.after) ∙ t.1)) t.2)
+          absurd (apart t.0 (f.reach t.0 (ap (λ (U : PointSet). has_as_point U t.0) (sym f.after) ∙ t.1)) t.2)
       by (real n p) (flat g) = let t = real_stays S e (after S e) s n p in absurd (apart t.0 t.2 (g.reach t.0 t.1))
       by (real n p) (real m r) = both_real n p m r
 

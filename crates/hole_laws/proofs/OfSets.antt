@@ -10,7 +10,7 @@ use Rattle.point_order.specs.declared.cell.Cell.TheVariants.{Full, Open}
 use Rattle.point_order.specs.Solid.{is_solid}
 use Rattle.point_order.proofs.Cited.{ascending_with, in_with, in_with_new, in_with_old}
 use Rattle.del_laws.specs.Cells.{Vertex, point, far}
-use Rattle.del_laws.specs.PointSets.{PointSet, has, solid, cell}
+use Rattle.del_laws.specs.PointSets.{PointSet, solid, cell, has_as_point}
 use Rattle.del_laws.specs.Listed.{IsListed}
 use Rattle.del_laws.specs.Vertices.{is_cell}
 use Rattle.del_laws.proofs.Cited.{ascending_of, base, cell_is_listed, listed_is_cell, set_true}
@@ -90,12 +90,12 @@ unfolding set_of
 set_of_points s i = refl
 
 -- what the list is asked for
-pub has_of : (s : List ℕ) (i : IsSet s) (e : ℕ) → IsIn e s → has (set_of s i) (point e) ≡ true
+pub has_of : (s : List ℕ) (i : IsSet s) (e : ℕ) → IsIn e s → has_as_point (set_of s i) (point e) ≡ true
 unfolding set_of
 has_of s i e m = among_true e s m
 
 -- and back
-pub of_has : (s : List ℕ) (i : IsSet s) (e : ℕ) → has (set_of s i) (point e) ≡ true → IsIn e s
+pub of_has : (s : List ℕ) (i : IsSet s) (e : ℕ) → has_as_point (set_of s i) (point e) ≡ true → IsIn e s
 unfolding set_of
 of_has s i e h = among_from e s h
 
@@ -126,7 +126,7 @@ pub adds : (s : List ℕ) (p : ℕ) (i : IsSet s) (n : IsNew s p) →
     IsAdd (set_of s i) (point p) (set_of (with_point p s) (more_set s p i n.key))
 adds s p i n = record {
   finite = λ e. (cc);
-  absent = false_if (has (set_of s i) (point p)) (λ h. n.absent (of_has s i p h));
+  absent = false_if (has_as_point (set_of s i) (point p)) (λ h. n.absent (of_has s i p h));
   present = has_of (with_point p s) (more_set s p i n.key) p (in_with_new p s);
   same = same;
 }
@@ -134,9 +134,11 @@ adds s p i n = record {
     other : (e : ℕ) → point e ≢ point p → IsIn e (with_point p s) → IsIn e s
     other e d m = elim (in_with p e s m) [ inl q ↦ absurd (d (ap point (sym q))) | inr r ↦ r ]
 
-    same : (q : Vertex) → q ≢ point p → has (set_of (with_point p s) (more_set s p i n.key)) q ≡ has (set_of s i) q
+    same : (q : Vertex) → q ≢ point p → has_as_point (set_of (with_point p s) (more_set s p i n.key)) q
+        ≡ has_as_point (set_of s i) q
     same (point e) d =
-        same_test (has (set_of (with_point p s) (more_set s p i n.key)) (point e)) (has (set_of s i) (point e))
+        same_test (has_as_point (set_of (with_point p s) (more_set s p i n.key)) (point e))
+        (has_as_point (set_of s i) (point e))
         (λ h. has_of s i e (other e d (of_has (with_point p s) (more_set s p i n.key) e h)))
         (λ h. has_of (with_point p s) (more_set s p i n.key) e (in_with_old p e s (of_has s i e h)))
     same far d = refl

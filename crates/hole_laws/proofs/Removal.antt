@@ -7,7 +7,7 @@ use Rattle.list_laws.proofs.Cited.{and_not, and_not_from, false_if, same_test}
 use Rattle.del_laws.specs.Cells.{Vertex, far}
 use Rattle.del_laws.specs.Base.{Symmetric, Across, Corner, Within, IsVertexOf}
 use Rattle.hole_laws.proofs.Tests.{Insertion, HasRim, AreLinked, IsOpposite, gone}
-use Rattle.del_laws.specs.PointSets.{PointSet, has, solid, cell}
+use Rattle.del_laws.specs.PointSets.{PointSet, solid, cell, has_as_point}
 use Rattle.hole_laws.proofs.Tests.{IsAdd}
 use Rattle.del_laws.proofs.Cited.{base, test_symmetric}
 use Rattle.hole_laws.proofs.Vertices.{cases_vertex, first_last, second_last}
@@ -19,8 +19,8 @@ use Rattle.hole_laws.proofs.FromBase as from
 
 -- S is R with v; T is a solid part of R with all points beside v; U is T with v
 module _ (R S T U : PointSet) (v : Vertex) (a : IsAdd R v S) (b : IsAdd T v U) (st : solid T ≡ true)
-    (within : Within PointSet has T R)
-    (beside : (q : Vertex) → q ≢ far → AreLinked (cell S) v q → has T q ≡ true) where
+    (within : Within PointSet has_as_point T R)
+    (beside : (q : Vertex) → q ≢ far → AreLinked (cell S) v q → has_as_point T q ≡ true) where
   -- all four sets are solid
   sr : solid R ≡ true
   sr = base.solid_more T R st within
@@ -42,27 +42,27 @@ module _ (R S T U : PointSet) (v : Vertex) (a : IsAdd R v S) (b : IsAdd T v U) (
   ins' = from.insertion T U v st b
 
   -- the small set with v is within the set
-  u_in_s : Within PointSet has U S
+  u_in_s : Within PointSet has_as_point U S
   u_in_s q h = go (cases_vertex q v)
     where
-      go : (q ≡ v) ⊎ (q ≡ v → ⊥) → has S q ≡ true
-      go (inl e) = ap (has S) e ∙ a.present
+      go : (q ≡ v) ⊎ (q ≡ v → ⊥) → has_as_point S q ≡ true
+      go (inl e) = ap (has_as_point S) e ∙ a.present
       go (inr n) = a.same q n ∙ within q (sym (b.same q n) ∙ h)
 
   -- and has the small set
-  t_in_u : Within PointSet has T U
+  t_in_u : Within PointSet has_as_point T U
   t_in_u = from.larger T U v b
 
   -- a vertex beside v is one of the small set
-  vertex_t : (q : Vertex) → AreLinked (cell S) v q → IsVertexOf PointSet has T q
+  vertex_t : (q : Vertex) → AreLinked (cell S) v q → IsVertexOf PointSet has_as_point T q
   vertex_t q l = go (cases_vertex q far)
     where
-      go : (q ≡ far) ⊎ (q ≡ far → ⊥) → IsVertexOf PointSet has T q
+      go : (q ≡ far) ⊎ (q ≡ far → ⊥) → IsVertexOf PointSet has_as_point T q
       go (inl e) = inl e
       go (inr n) = inr (beside q n l)
 
   -- and of the small set with v
-  vertex_u : (q : Vertex) → IsVertexOf PointSet has T q → IsVertexOf PointSet has U q
+  vertex_u : (q : Vertex) → IsVertexOf PointSet has_as_point T q → IsVertexOf PointSet has_as_point U q
   vertex_u q (inl e) = inl e
   vertex_u q (inr h) = inr (t_in_u q h)
 
@@ -107,10 +107,10 @@ module _ (R S T U : PointSet) (v : Vertex) (a : IsAdd R v S) (b : IsAdd T v U) (
               ∙ star_down t1 t2 w.beyond hw) ((test_symmetric U).last t1 t2 v x ∙ ux) n w.other) ∙ hw
 
   -- the vertices of a cell that goes are beside v
-  vertex_gone : (w x y z : Vertex) → gone (cell R) (cell S) w x y z ≡ true → IsVertexOf PointSet has T z
+  vertex_gone : (w x y z : Vertex) → gone (cell R) (cell S) w x y z ≡ true → IsVertexOf PointSet has_as_point T z
   vertex_gone w x y z h = go (cases_vertex z far)
     where
-      go : (z ≡ far) ⊎ (z ≡ far → ⊥) → IsVertexOf PointSet has T z
+      go : (z ≡ far) ⊎ (z ≡ far → ⊥) → IsVertexOf PointSet has_as_point T z
       go (inl e) = inl e
       go (inr n) = inr (beside z n (from.linked R S v sr a w x y z h n))
 
@@ -132,11 +132,11 @@ module _ (R S T U : PointSet) (v : Vertex) (a : IsAdd R v S) (b : IsAdd T v U) (
       g : (cell R w x y z ≡ true) × (cell S w x y z ≡ false)
       g = and_not_from (cell R w x y z) (cell S w x y z) h
 
-      cover : (q : Vertex) → has S q ≡ true → (has U q ≡ true) ⊎ (has R q ≡ true)
+      cover : (q : Vertex) → has_as_point S q ≡ true → (has_as_point U q ≡ true) ⊎ (has_as_point R q ≡ true)
       cover q k = go (cases_vertex q v)
         where
-          go : (q ≡ v) ⊎ (q ≡ v → ⊥) → (has U q ≡ true) ⊎ (has R q ≡ true)
-          go (inl e) = inl (ap (has U) e ∙ b.present)
+          go : (q ≡ v) ⊎ (q ≡ v → ⊥) → (has_as_point U q ≡ true) ⊎ (has_as_point R q ≡ true)
+          go (inl e) = inl (ap (has_as_point U) e ∙ b.present)
           go (inr n) = inr (sym (a.same q n) ∙ k)
 
   -- and these are closed among those that it takes there
@@ -192,8 +192,8 @@ module _ (R S T U : PointSet) (v : Vertex) (a : IsAdd R v S) (b : IsAdd T v U) (
 
 -- a solid rest shows in the points beside v and across from it
 pub solid_near : (R S T : PointSet) (v : Vertex) → IsAdd R v S → solid R ≡ true →
-    ((q : Vertex) → q ≢ far → AreLinked (cell S) v q → has T q ≡ true) →
-    ((q : Vertex) → IsOpposite (cell S) v q → has T q ≡ true) → solid T ≡ true
+    ((q : Vertex) → q ≢ far → AreLinked (cell S) v q → has_as_point T q ≡ true) →
+    ((q : Vertex) → IsOpposite (cell S) v q → has_as_point T q ≡ true) → solid T ≡ true
 solid_near R S T v a rest near across =
     start (cases_vertex m.t1 far) (cases_vertex m.t2 far) (cases_vertex m.t3 far) (cases_vertex m.rim.lost far)
   where
@@ -213,7 +213,7 @@ solid_near R S T v a rest near across =
     mg =
         and_not (cell R m.t1 m.t2 m.t3 m.rim.lost) (cell S m.t1 m.t2 m.t3 m.rim.lost) m.rim.lost_before m.rim.lost_after
 
-    in_t : (w x y z : Vertex) → gone (cell R) (cell S) w x y z ≡ true → z ≢ far → has T z ≡ true
+    in_t : (w x y z : Vertex) → gone (cell R) (cell S) w x y z ≡ true → z ≢ far → has_as_point T z ≡ true
     in_t w x y z h n = near z n (from.linked R S v rest a w x y z h n)
 
     full : (w x y z : Vertex) → gone (cell R) (cell S) w x y z ≡ true → w ≢ far → x ≢ far → y ≢ far → z ≢ far →
@@ -278,16 +278,16 @@ solid_near R S T v a rest near across =
 
 -- where the rest is flat, v is beside each of its points
 pub flat_rest : (R S : PointSet) (v : Vertex) → IsAdd R v S → solid S ≡ true → solid R ≡ false → (e : Vertex) →
-    has R e ≡ true → AreLinked (cell S) v e
+    has_as_point R e ≡ true → AreLinked (cell S) v e
 flat_rest R S v a s f e h = go (cases_vertex k.t1 v) (cases_vertex k.t2 v) (cases_vertex k.t3 v)
   where
     e_other : e ≢ v
-    e_other p = false≢true (sym a.absent ∙ ap (has R) (sym p) ∙ h)
+    e_other p = false≢true (sym a.absent ∙ ap (has_as_point R) (sym p) ∙ h)
 
     k : Corner (cell S) e
     k = base.corner S e s (a.same e e_other ∙ h)
 
-    in_r : (q : Vertex) → q ≢ v → has S q ≡ true → has R q ≡ true
+    in_r : (q : Vertex) → q ≢ v → has_as_point S q ≡ true → has_as_point R q ≡ true
     in_r q n p = sym (a.same q n) ∙ p
 
     go : (k.t1 ≡ v) ⊎ (k.t1 ≡ v → ⊥) → (k.t2 ≡ v) ⊎ (k.t2 ≡ v → ⊥) → (k.t3 ≡ v) ⊎ (k.t3 ≡ v → ⊥) →

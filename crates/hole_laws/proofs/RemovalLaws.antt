@@ -9,7 +9,7 @@ use Rattle.point_order.specs.Complex.{complex}
 use Rattle.point_order.specs.Facets.{facets_of, points_of}
 use Rattle.point_order.specs.declared.cell.Cell.{Cell}
 use Rattle.del_laws.specs.Cells.{Vertex, point, far}
-use Rattle.del_laws.specs.PointSets.{has, cell}
+use Rattle.del_laws.specs.PointSets.{cell, has_as_point}
 use Rattle.del_laws.proofs.Cited.{complex_is_sorted, solid_more}
 use Rattle.hole_laws.proofs.Tests.{IsComplex, AreLinked, IsOpposite, gone}
 use Rattle.hole_laws.specs.Lists.{Goes, AreJoined}
@@ -65,7 +65,8 @@ module _ (r : List ℕ) (v : ℕ) (i : IsSet r) (n : IsNew r v) where
 
   -- a set that has all that is joined to v has what the tests say is linked to it
   link_has : (t : List ℕ) (j : IsSet t) → ((e : ℕ) → e ≢ v → AreJoined (complex (with_point v r)) v e → IsIn e t) →
-      (q : Vertex) → q ≢ far → AreLinked (cell (set_of (with_point v r) more)) (point v) q → has (set_of t j) q ≡ true
+      (q : Vertex) → q ≢ far → AreLinked (cell (set_of (with_point v r) more)) (point v) q →
+      has_as_point (set_of t j) q ≡ true
   link_has t j f (point e) d l = let k = linked_joined (with_point v r) more v e l in has_of t j e (f e k.0 k.1)
   link_has t j f far d l = absurd (d refl)
 
@@ -82,7 +83,7 @@ module _ (r : List ℕ) (v : ℕ) (i : IsSet r) (n : IsNew r v) where
       ir : IsSolidSet r
       ir = record { set = i; solid = solid_more t r inside it.solid }
 
-      within : (q : Vertex) → has (set_of t it.set) q ≡ true → has (set_of r i) q ≡ true
+      within : (q : Vertex) → has_as_point (set_of t it.set) q ≡ true → has_as_point (set_of r i) q ≡ true
       within (point e) h = has_of r i e (inside e (of_has t it.set e h))
       within far h = absurd (false≢true h)
 
@@ -154,7 +155,8 @@ module _ (r : List ℕ) (v : ℕ) (i : IsSet r) (n : IsNew r v) where
             has = vertex_point b.q e hb;
           }
 
-      opposite : (q : Vertex) → IsOpposite (cell (set_of (with_point v r) more)) (point v) q → has (set_of t j) q ≡ true
+      opposite : (q : Vertex) → IsOpposite (cell (set_of (with_point v r) more)) (point v) q →
+          has_as_point (set_of t j) q ≡ true
       opposite (point e) o = has_of t j e (across e (found e o))
       opposite far o = absurd (o.finite refl)
 

@@ -3,7 +3,7 @@
 use Rattle.std.specs.Prelude.{◌≡◌, ◌≢◌, Bool, true, false, not, ◌&&◌, List}
 use Rattle.del_laws.specs.Cells.{Vertex, far}
 use Rattle.del_laws.specs.Base.{Symmetric, Symmetric3, Complex}
-use Rattle.del_laws.specs.PointSets.{PointSet, has}
+use Rattle.del_laws.specs.PointSets.{PointSet, has_as_point}
 
 -- a complex, with a list of all vertices that its cells can have
 pub record IsComplex (c : Vertex → Vertex → Vertex → Vertex → Bool) : Type 0 where
@@ -48,9 +48,9 @@ pub record IsOpposite (c : Vertex → Vertex → Vertex → Vertex → Bool) (v 
 -- the set s with the new point p
 pub record IsAdd (s : PointSet) (p : Vertex) (more : PointSet) : Type 0 where
   pub finite : p ≢ far
-  pub absent : has s p ≡ false
-  pub present : has more p ≡ true
-  pub same : (q : Vertex) → q ≢ p → has more q ≡ has s q
+  pub absent : has_as_point s p ≡ false
+  pub present : has_as_point more p ≡ true
+  pub same : (q : Vertex) → q ≢ p → has_as_point more q ≡ has_as_point s q
 
 -- ---- two complexes, of a set and of the set with one more point
 

@@ -4,7 +4,7 @@ use Rattle.std.specs.Option.{option_map}
 use Rattle.std.proofs.Common.{subst, arith}
 use Rattle.list_laws.proofs.Cited.{one_value}
 use Rattle.point_order.specs.Orientation.{is_flat}
-use Rattle.edit_history.specs.Opening.{Four, opening_four}
+use Rattle.edit_history.specs.Opening.{opening_four, FourPlaces}
 use Rattle.edit_history.specs.OneThread.{places}
 use Rattle.edit_history.specs.Laws.{AreIndependent as AreIndependentOf}
 use Rattle.edit_history.proofs.Cited.{four_law}
@@ -23,7 +23,8 @@ pub record AreFound (points four : List ℕ) : Type 0 where
 pub four_found : (points four : List ℕ) → option_map places (opening_four points) ≡ Some four → AreFound points four
 four_found points four e = by (opening_four points) (four_law points) e
   where
-    by : (o : Option Four) → IfSome o (AreIndependentOf points) → option_map places o ≡ Some four → AreFound points four
+    by : (o : Option FourPlaces) → IfSome o (AreIndependentOf points) → option_map places o ≡ Some four →
+        AreFound points four
     by None i e = absurd (cc e)
     by (Some f) i e = subst (AreFound points) (one_value (places f) four e) (record {
       first = omega (arith, i.within, i.ascending.0, i.ascending.1, i.ascending.2);

@@ -74,9 +74,9 @@ use Rattle.insertion.specs.Opening.{
   inserted_from,
   opening_history,
   AreFourIndependent,
-  nothing,
   IsBare,
   HasCellsOfFour,
+  bare_bucket,
 }
 use Rattle.hole_laws.specs.FiveCells.{five_cells}
 use Rattle.hole_laws.proofs.Cited.{four_have_five}
@@ -275,7 +275,7 @@ opening_share : (g n : ℕ) (a b c d : ℕ × ℕ) (w x y z : ℕ) → is_flat a
     is_solid (w ∷ x ∷ y ∷ z ∷ []) ≡ true →
     IsShare g n (opening_history (a ∷ b ∷ c ∷ d ∷ [])) (swapped_in g n [] (five_cells w x y z)
     (noted_in g n (inserted 3 d) (noted_in g n (inserted 2 c) (noted_in g n (inserted 1 b)
-    (noted_in g n (inserted 0 a) (at_place g n nothing))))))
+    (noted_in g n (inserted 0 a) (at_place g n bare_bucket))))))
 opening_share g n a b c d w x y z f e k v = record {
   points = four.0;
   cells = ap (swapped g n [] (five_cells w x y z)) (four.2 ∙ sym no_cells)
@@ -303,7 +303,7 @@ opening_share g n a b c d w x y z f e k v = record {
     e2 = inserted 2 c
 
     bare : BucketContent
-    bare = at_place g n nothing
+    bare = at_place g n bare_bucket
 
     one : HasLines g n (e0 ∷ []) (noted_in g n e0 bare)
     one = noted_lines g n [] e0 bare (legal_from 0 [] (a ∷ []) (new.0, tt)) refl (refl, refl, refl)
@@ -398,23 +398,23 @@ opening_stands g (a ∷ b ∷ c ∷ d ∷ []) bare n0 n1 n2 n3 mesh f k e n s =
         mapped_some (noted_in n0.grid m (inserted 1 b)) (bucket_at n0.places m) r3.0 (sym (n.1.places m) ∙ r3.1) in
         let r1 = mapped_some (noted_in bare.grid m (inserted 0 a)) (bucket_at bare.places m) r2.0
         (sym (n.0.places m) ∙ r2.1) in
-        let c0 : at_place g m nothing ≡ r1.0 =
-        some_same (at_place g m nothing) r1.0 (sym (e.bare m (has_place bare.places m r1.0 r1.1)) ∙ r1.1) in
+        let c0 : at_place g m bare_bucket ≡ r1.0 =
+        some_same (at_place g m bare_bucket) r1.0 (sym (e.bare m (has_place bare.places m r1.0 r1.1)) ∙ r1.1) in
         let g0 = e.grid in
         let g1 = n.0.grid ∙ g0 in
         let g2 = n.1.grid ∙ g1 in
         let g3 = n.2.grid ∙ g2 in
         let g4 = n.3.grid ∙ g3 in
         let g5 = s.swapped.grid ∙ g4 in
-        let c1 : noted_in g m (inserted 0 a) (at_place g m nothing) ≡ r2.0 =
+        let c1 : noted_in g m (inserted 0 a) (at_place g m bare_bucket) ≡ r2.0 =
         ap (noted_in g m (inserted 0 a)) c0 ∙ ap (λ v. noted_in v m (inserted 0 a) r1.0) (sym g0) ∙ r1.2 in
-        let c2 : noted_in g m (inserted 1 b) (noted_in g m (inserted 0 a) (at_place g m nothing)) ≡ r3.0 =
+        let c2 : noted_in g m (inserted 1 b) (noted_in g m (inserted 0 a) (at_place g m bare_bucket)) ≡ r3.0 =
         ap (noted_in g m (inserted 1 b)) c1 ∙ ap (λ v. noted_in v m (inserted 1 b) r2.0) (sym g1) ∙ r2.2 in
         let c3 : noted_in g m (inserted 2 c) (noted_in g m (inserted 1 b)
-        (noted_in g m (inserted 0 a) (at_place g m nothing))) ≡ r4.0 = ap (noted_in g m (inserted 2 c)) c2
+        (noted_in g m (inserted 0 a) (at_place g m bare_bucket))) ≡ r4.0 = ap (noted_in g m (inserted 2 c)) c2
         ∙ ap (λ v. noted_in v m (inserted 2 c) r3.0) (sym g2) ∙ r3.2 in
         let c4 : noted_in g m (inserted 3 d) (noted_in g m (inserted 2 c)
-        (noted_in g m (inserted 1 b) (noted_in g m (inserted 0 a) (at_place g m nothing)))) ≡ r5.0 =
+        (noted_in g m (inserted 1 b) (noted_in g m (inserted 0 a) (at_place g m bare_bucket)))) ≡ r5.0 =
         ap (noted_in g m (inserted 3 d)) c3 ∙ ap (λ v. noted_in v m (inserted 3 d) r4.0) (sym g3) ∙ r4.2 in
         let c5 = ap (swapped_in g m [] five) c4 ∙ ap (λ v. swapped_in v m [] five r5.0) (sym g4) ∙ r5.2 in
         subst (λ v. IsShare v m (opening_history (a ∷ b ∷ c ∷ d ∷ [])) x) (sym g5)

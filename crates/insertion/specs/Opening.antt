@@ -28,14 +28,14 @@ AreFourIndependent (a ∷ b ∷ c ∷ d ∷ []) = is_flat a.1 b.1 c.1 d.1 ≡ fa
 AreFourIndependent _ = ⊥
 
 -- a bucket with nothing in it
-abbrev pub nothing : BucketContent
-nothing = record { points = []; cells = []; entries = []; place = None }
+abbrev pub bare_bucket : BucketContent
+bare_bucket = record { points = []; cells = []; entries = []; place = None }
 
 -- every bucket of the grid is in hand, with nothing in it
 pub record IsBare (g : ℕ) (hold : InHand) : Type 0 where
   pub grid : hold.grid ≡ g
   pub count : length hold.places ≡ g * g * g
-  pub bare : (b : ℕ) → b < length hold.places → bucket_at hold.places b ≡ Some (at_place g b nothing)
+  pub bare : (b : ℕ) → b < length hold.places → bucket_at hold.places b ≡ Some (at_place g b bare_bucket)
 
 -- the new hold has the five cells of the points besides, which are four
 pub record HasCellsOfFour (points : List ℕ) (old new : InHand) : Type 0 where

@@ -1,4 +1,5 @@
 -- The lemmas that other crates cite.
+pub use Rattle.list_laws.proofs.BelowFronts.{below_front, prefix_is}
 pub use Rattle.list_laws.proofs.Ascending.{
   ascend_first,
   ascend_more,

@@ -15,6 +15,7 @@ pub mod Zips
 pub mod Gathered
 pub mod Inserted
 pub mod Fronts
+pub mod BelowFronts
 pub mod Sorted
 pub mod Later
 pub mod Zero

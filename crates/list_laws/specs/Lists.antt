@@ -1,5 +1,5 @@
 -- Members of lists, lists without repeats, and ascending lists.
-use Rattle.std.specs.Prelude.{ℕ, ◌≡◌, ◌<◌, Bool, List, [], ◌∷◌, ◌⊎◌, ◌==◌}
+use Rattle.std.specs.Prelude.{ℕ, ◌≡◌, ◌<◌, Bool, List, [], ◌∷◌, ◌⊎◌, ◌==◌, Option, filter_map}
 use Rattle.std.specs.List.{list_any}
 
 -- x is an element
@@ -15,6 +15,10 @@ is_among p s = list_any (λ q. q == p) s
 abbrev pub AreDistinct : {X : Type 0} → List X → Type 0
 AreDistinct [] = Unit {0}
 AreDistinct (x ∷ xs) = (¬ (IsIn x xs)) × AreDistinct xs
+
+-- what slots hold, in their order
+abbrev pub held : {X : Type 0} → List (Option X) → List X
+held slots = filter_map (λ slot. slot) slots
 
 -- x is below the first of the list, if there is one
 abbrev pub IsBelowFirst : ℕ → List ℕ → Type 0

@@ -29,11 +29,11 @@ use Rattle.point_order.specs.declared.cell.Cell.TheVariants.{Full, Open}
 use Rattle.point_order.specs.CellOrder.{cell_cmp}
 use Rattle.point_order.specs.Sets.{IsIn, IsAscending}
 use Rattle.point_order.specs.Facets.{points_of}
-use Rattle.mesh_check.specs.Flaws.{AreCells, listed}
+use Rattle.mesh_check.specs.Flaws.{AreCells, as_cells}
 
 -- a fact of all listed cells
 of_each : (P : Cell → Type 0) (cells hull : List (List ℕ)) → ((q : List ℕ) → IsIn q cells → P (Full q)) →
-    ((t : List ℕ) → IsIn t hull → P (Open t)) → (c : Cell) → IsIn c (listed cells hull) → P c
+    ((t : List ℕ) → IsIn t hull → P (Open t)) → (c : Cell) → IsIn c (as_cells cells hull) → P c
 of_each P cells hull f g c m = elim (from_append c (map Full cells) (map Open hull) m) [
   | inl k ↦ let w = mapped_from Full c cells k in subst P w.2 (f w.0 w.1)
   | inr k ↦ let w = mapped_from Open c hull k in subst P w.2 (g w.0 w.1)
@@ -53,7 +53,7 @@ pub cells_listed : (s : List ℕ) (cells hull : List (List ℕ)) → IsStrictlyS
     → ((q : List ℕ) → IsIn q cells → IsAscending q) → ((t : List ℕ) → IsIn t hull → IsAscending t)
     → ((q : List ℕ) → IsIn q cells → (p : ℕ) → IsIn p q → IsIn p s) → ((t : List ℕ) → IsIn t hull → (p : ℕ) → IsIn p t
     → IsIn p s)
-    → AreCells s (listed cells hull)
+    → AreCells s (as_cells cells hull)
 cells_listed s cells hull cs hs ca ha ci hi = record {
   sorted = sorted_append cell_cmp (map Full cells) (map Open hull)
       (sorted_map (slice_cmp nat_cmp) cell_cmp Full cells cs (λ x y e. e))

@@ -22,7 +22,7 @@ use Rattle.std.proofs.Common.{arith, ap, sym, ◌∙◌}
 use Rattle.point_order.specs.declared.cell.Cell.{Cell}
 use Rattle.point_order.specs.declared.cell.Cell.TheVariants.{Full, Open}
 use Rattle.mesh_check.specs.declared.flaw.Flaw.{Flaw}
-use Rattle.mesh_check.specs.Flaws.{first_flaw, first_flaw_of, flaw_of, listed}
+use Rattle.mesh_check.specs.Flaws.{first_flaw, first_flaw_of, flaw_of, as_cells}
 
 -- what is left of a list begins with its next element
 front : {X : Type 0} (l : List X) (i : ℕ) (x : X) → i < length l → x ≡ slice_index_or l i x →
@@ -61,9 +61,9 @@ triples_front s hull i t h e = ap (λ (l : List (List ℕ)). first_flaw s (map O
 
 -- the cells that are left
 pub cells_front : (s : List ℕ) (cells hull : List (List ℕ)) (i : ℕ) (q : List ℕ) → i < length cells →
-    q ≡ slice_index_or cells i q → first_flaw s (listed (drop i cells) hull) ≡ first_flaw s
-    (Full q ∷ listed (drop (i + 1) cells) hull)
-cells_front s cells hull i q h e = ap (λ (l : List (List ℕ)). first_flaw s (listed l hull)) (front cells i q h e)
+    q ≡ slice_index_or cells i q → first_flaw s (as_cells (drop i cells) hull) ≡ first_flaw s
+    (Full q ∷ as_cells (drop (i + 1) cells) hull)
+cells_front s cells hull i q h e = ap (λ (l : List (List ℕ)). first_flaw s (as_cells l hull)) (front cells i q h e)
 
 -- no triples are left
 pub none_left : (s : List ℕ) (hull : List (List ℕ)) (i : ℕ) → length hull ≤ i →
@@ -76,7 +76,7 @@ none_left s (t ∷ hull) (suc i) h = none_left s hull i (omega (arith, h))
 
 -- no cells are left, only the triples
 pub triples_left : (s : List ℕ) (cells hull : List (List ℕ)) (i : ℕ) → length cells ≤ i →
-    first_flaw s (listed (drop i cells) hull) ≡ first_flaw s (map Open hull)
+    first_flaw s (as_cells (drop i cells) hull) ≡ first_flaw s (map Open hull)
 triples_left s [] hull zero h = refl
 triples_left s [] hull (suc i) h = refl
 triples_left s (q ∷ cells) hull zero h = absurd (let g : ⊥ = omega (arith, h) in g)

@@ -62,7 +62,7 @@ use Rattle.mesh_check.specs.Flaws.{
   first_flaw,
   is_flat_cell,
   is_inside,
-  listed,
+  as_cells,
 }
 use Rattle.mesh_check.specs.Laws.{AreInComplex, AreSound, FlawIsTrue, FlawShows, GoodIsComplex, IsComplex}
 use Rattle.mesh_check.proofs.Flaws.{IsSound, first_of_cell, first_true, none_flawed, sound}
@@ -332,6 +332,6 @@ bad_says s l r flaw a k v e =
     (f, flaw_shows s l flaw a k f)
 
 -- cells make a list that is not empty
-pub not_empty : (cells hull : List (List ℕ)) → (length cells == 0) ≡ false → listed cells hull ≡ [] → ⊥
+pub not_empty : (cells hull : List (List ℕ)) → (length cells == 0) ≡ false → as_cells cells hull ≡ [] → ⊥
 not_empty [] hull e f = cc
 not_empty (q ∷ cells) hull e f = cc

@@ -160,8 +160,8 @@ IsVerdict s l (Bad flaw) = first_flaw s l ≡ Some flaw
 -- ---- lists
 
 -- the Full cells and then the triples as one list of cells
-abbrev pub listed : List (List ℕ) → List (List ℕ) → List Cell
-listed cells hull = map Full cells ++ map Open hull
+abbrev pub as_cells : List (List ℕ) → List (List ℕ) → List Cell
+as_cells cells hull = map Full cells ++ map Open hull
 
 -- the cells are in order, each once, and their points ascend and are points of s
 pub record AreCells (s : List ℕ) (l : List Cell) : Type 0 where

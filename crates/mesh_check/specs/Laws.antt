@@ -10,7 +10,7 @@ use Rattle.mesh_check.specs.declared.flaw.Flaw.{Flaw}
 use Rattle.mesh_check.specs.declared.flaw.Verdict.TheVariants.{Good, Bad}
 use Rattle.cloud_cells.specs.declared.known.Compared.{Compared}
 use Rattle.cloud_cells.specs.declared.known.Compared.TheVariants.{Same, Other}
-use Rattle.mesh_check.specs.Flaws.{AreCells, IsFlaw, IsVerdict, flaw_of, listed}
+use Rattle.mesh_check.specs.Flaws.{AreCells, IsFlaw, IsVerdict, flaw_of, as_cells}
 
 -- the set is solid, and the cells are its complex
 abbrev pub IsComplex : List ℕ → List Cell → Type 0
@@ -24,7 +24,7 @@ AreInComplex s kind l marks =
 
 -- the lists are the complex, or their marked cells are of it
 abbrev pub StandsBeside : List ℕ → List (List ℕ) → List (List ℕ) → Compared → Type 0
-StandsBeside s cells hull Same = IsComplex s (listed cells hull)
+StandsBeside s cells hull Same = IsComplex s (as_cells cells hull)
 StandsBeside s cells hull (Other known) =
     AreInComplex s Full cells known.cells.items × AreInComplex s Open hull known.hull.items
 

@@ -7,7 +7,7 @@ ghost use Rattle.point_order.specs.Orientation.{is_flat};
 ghost use Rattle.point_order.specs.Sets.{AreThree, AreFour, is_among};
 ghost use Rattle.point_order.specs.Spheres.{is_outside};
 ghost use Rattle.point_order.specs.declared.cell.Cell.TheVariants.{Full, Open};
-ghost use Rattle.mesh_check.specs.Flaws.{first_flaw as flaw_in, flaw_of, is_inside_with, listed};
+ghost use Rattle.mesh_check.specs.Flaws.{first_flaw as flaw_in, flaw_of, is_inside_with, as_cells};
 ghost use Rattle.mesh_check.specs.Laws.{AreSound};
 
 use crate::flaw::Flaw;
@@ -199,7 +199,7 @@ pub(crate) fn first_flaw(
 ) -> Option<Flaw>
     requires cells { AreSound points.now Full cells.now known.now.cells.items }
     requires hull { AreSound points.now Open hull.now known.now.hull.items }
-    ensures { result ≡ flaw_in points.now (listed cells.now hull.now) }
+    ensures { result ≡ flaw_in points.now (as_cells cells.now hull.now) }
 {
     for place in 0..cells.len() {
         if let Some(flaw) = flaw_of_quad(points, is_marked(&known.cells, place), cells.at(place)) {

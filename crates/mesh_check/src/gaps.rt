@@ -9,7 +9,7 @@ ghost use Rattle.point_order.specs.declared.cell.Cell.{Cell};
 ghost use Rattle.point_order.specs.declared.cell.Cell.TheVariants.{Full, Open};
 ghost use Rattle.mesh_check.specs.declared.gaps.Part.{Part as PartOf};
 ghost use Rattle.mesh_check.specs.declared.gaps.Side.{Side as SideParts};
-ghost use Rattle.mesh_check.specs.Flaws.{listed};
+ghost use Rattle.mesh_check.specs.Flaws.{as_cells};
 ghost use Rattle.mesh_check.specs.Sides.{
   AreSidesIn,
   IsPair,
@@ -103,7 +103,7 @@ fn all_sides(
     cells: &QuadList,
     hull: &[Tri],
 ) -> Result<Vec<Side>, AllocError>
-    ensures { IfOk result (λ sides. sides.items ≡ flat_map (sides_in part) (listed cells.now hull.now)) }
+    ensures { IfOk result (λ sides. sides.items ≡ flat_map (sides_in part) (as_cells cells.now hull.now)) }
 {
     let mut sides = Vec::with_capacity(alloc, room_for(cells.len().saturating_add(hull.len())))?;
     for place in 0..cells.len() {
@@ -132,7 +132,7 @@ fn open_in(
     cells: &QuadList,
     hull: &[Tri],
 ) -> Result<Option<Facet>, AllocError>
-    ensures { IfOk result (OpenIn part (listed cells.now hull.now)) }
+    ensures { IfOk result (OpenIn part (as_cells cells.now hull.now)) }
 {
     let sides = in_order(all_sides(alloc, part, cells, hull)?);
     Ok(first_open(&sides))
@@ -154,7 +154,7 @@ pub(crate) fn open_facet(
     cells: &QuadList,
     hull: &[Tri],
 ) -> Result<Option<Facet>, AllocError>
-    ensures { IfOk result (OpenIs (listed cells.now hull.now)) }
+    ensures { IfOk result (OpenIs (as_cells cells.now hull.now)) }
 {
     let mut low = 0;
     for part in 0..cells.len() / TOGETHER {

@@ -5,7 +5,7 @@ ghost use Rattle.point_order.specs.Sets.{IsAscending};
 ghost use Rattle.del_laws.specs.Keys.{AreKeys};
 ghost use Rattle.mesh_check.specs.declared.flaw.Verdict.TheVariants.{Good as IsGood, Bad as IsBad};
 ghost use Rattle.mesh_check.specs.declared.flaw.Flaw.{Flaw as FlawParts};
-ghost use Rattle.mesh_check.specs.Flaws.{AreCells, IsFlaw, IsVerdict, listed};
+ghost use Rattle.mesh_check.specs.Flaws.{AreCells, IsFlaw, IsVerdict, as_cells};
 ghost use Rattle.mesh_check.specs.Laws.{IsComplex};
 
 use crate::cells::first_flaw;
@@ -19,7 +19,7 @@ use std::alloc::{AllocError, Global};
 
 // Whether both lists are empty.
 fn are_empty(cells: &QuadList, hull: &[Tri]) -> bool
-    ensures { MatchBool result (listed cells.now hull.now ≡ []) (listed cells.now hull.now ≡ [] → ⊥) }
+    ensures { MatchBool result (as_cells cells.now hull.now ≡ []) (as_cells cells.now hull.now ≡ [] → ⊥) }
 {
     cells.is_empty() && hull.is_empty()
 }
@@ -34,11 +34,11 @@ pub(crate) fn check_beside(
 ) -> Result<Verdict, AllocError>
     requires points { IsAscending points.now }
     requires keys { AreKeys points.now }
-    requires cells { AreCells points.now (listed cells.now hull.now) }
-    ensures verdict { IfOk result (IsVerdict points.now (listed cells.now hull.now)) }
-    ensures good { result ≡ Ok IsGood → IsComplex points.now (listed cells.now hull.now) }
-    ensures bad { (flaw : FlawParts) → result ≡ Ok (IsBad flaw) → IsFlaw points.now (listed cells.now hull.now) flaw
-        × (IsComplex points.now (listed cells.now hull.now) → ⊥) }
+    requires cells { AreCells points.now (as_cells cells.now hull.now) }
+    ensures verdict { IfOk result (IsVerdict points.now (as_cells cells.now hull.now)) }
+    ensures good { result ≡ Ok IsGood → IsComplex points.now (as_cells cells.now hull.now) }
+    ensures bad { (flaw : FlawParts) → result ≡ Ok (IsBad flaw) → IsFlaw points.now (as_cells cells.now hull.now) flaw
+        × (IsComplex points.now (as_cells cells.now hull.now) → ⊥) }
 {
     if are_empty(cells, hull) {
         return Ok(Verdict::Bad(Flaw::Empty));
@@ -76,11 +76,11 @@ pub fn check(
 ) -> Result<Verdict, AllocError>
     requires points { IsAscending points.now }
     requires keys { AreKeys points.now }
-    requires cells { AreCells points.now (listed cells.now hull.now) }
-    ensures verdict { IfOk result (IsVerdict points.now (listed cells.now hull.now)) }
-    ensures good { result ≡ Ok IsGood → IsComplex points.now (listed cells.now hull.now) }
-    ensures bad { (flaw : FlawParts) → result ≡ Ok (IsBad flaw) → IsFlaw points.now (listed cells.now hull.now) flaw
-        × (IsComplex points.now (listed cells.now hull.now) → ⊥) }
+    requires cells { AreCells points.now (as_cells cells.now hull.now) }
+    ensures verdict { IfOk result (IsVerdict points.now (as_cells cells.now hull.now)) }
+    ensures good { result ≡ Ok IsGood → IsComplex points.now (as_cells cells.now hull.now) }
+    ensures bad { (flaw : FlawParts) → result ≡ Ok (IsBad flaw) → IsFlaw points.now (as_cells cells.now hull.now) flaw
+        × (IsComplex points.now (as_cells cells.now hull.now) → ⊥) }
 {
     let list = QuadList::of(alloc, points, cells)?;
     check_beside(alloc, None, points, &list, hull)

@@ -5,7 +5,7 @@ ghost use Rattle.std.specs.List.Sorted.{IsStrictlySortedBy};
 ghost use Rattle.point_order.specs.CellOrder.{cell_cmp};
 ghost use Rattle.point_order.specs.Sets.{IsAscending};
 ghost use Rattle.point_order.specs.Solid.{is_solid as is_solid_of};
-ghost use Rattle.mesh_check.specs.Flaws.{listed};
+ghost use Rattle.mesh_check.specs.Flaws.{as_cells};
 ghost use Rattle.mesh_check.specs.Laws.{StandsBeside};
 
 use cell_lists::QuadList;
@@ -59,7 +59,7 @@ pub(crate) fn beside_complex(
     hull: &[Tri],
 ) -> Result<Compared, AllocError>
     requires points { IsAscending points.now }
-    requires order { IsStrictlySortedBy cell_cmp (listed cells.now hull.now) }
+    requires order { IsStrictlySortedBy cell_cmp (as_cells cells.now hull.now) }
     ensures { IfOk result (StandsBeside points.now cells.now hull.now) }
 {
     if let Some(made) = made {

@@ -3,7 +3,7 @@
 ghost use Rattle.std.specs.Prelude.{◌≡◌, ◌++◌, IfOk, OnOk};
 ghost use Rattle.point_order.specs.Sets.{IsAscending};
 ghost use Rattle.del_laws.specs.Keys.{AreKeys};
-ghost use Rattle.mesh_check.specs.Flaws.{AreCells, listed};
+ghost use Rattle.mesh_check.specs.Flaws.{AreCells, as_cells};
 ghost use Rattle.mesh_check.specs.Text.{
   IsTold,
   flaw_words,
@@ -135,8 +135,8 @@ pub fn tell(
 ) -> Result<Told, AllocError>
     requires points { IsAscending points.now }
     requires keys { AreKeys points.now }
-    requires cells { AreCells points.now (listed cells.now hull.now) }
-    ensures { IfOk result (λ told. IsTold points.now (listed cells.now hull.now) told.good told.text.items) }
+    requires cells { AreCells points.now (as_cells cells.now hull.now) }
+    ensures { IfOk result (λ told. IsTold points.now (as_cells cells.now hull.now) told.good told.text.items) }
 {
     match check_beside(alloc, made, points, cells, hull) {
         Ok(verdict) => told_of(alloc, points, &verdict),

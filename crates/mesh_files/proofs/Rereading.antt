@@ -53,7 +53,7 @@ use Rattle.edit_history.specs.declared.history.Reply.TheVariants.{
 use Rattle.edit_files.specs.Lines.{lines_of}
 use Rattle.edit_files.specs.Numbers.{IsNumber, IsNumberOf}
 use Rattle.edit_files.specs.Forms.{IsPointLine}
-use Rattle.edit_files.specs.Writing.{point_text}
+use Rattle.edit_files.specs.Writing.{line_of_point}
 use Rattle.edit_files.proofs.Cited.{HasNo, decimal_is, line_first, number_without, point_line, without_append}
 use Rattle.text_sheets.specs.Lines.{block, spaced}
 use Rattle.text_sheets.specs.Indices.{index_of}
@@ -81,7 +81,7 @@ use Rattle.mesh_reader.specs.Grammar.{
   most_of,
   no_parts,
   point_limit,
-  word_of,
+  head_word,
 }
 use Rattle.mesh_reader.specs.Grammar.{reply_word as read_word}
 use Rattle.mesh_reader.specs.Order.{AreInOrder, IsInOrder}
@@ -91,10 +91,10 @@ use Rattle.mesh_files.specs.Text.{
   hull_corners,
   mesh_blocks,
   order_block,
-  reply_word,
   report_text,
   shape_blocks,
 }
+use Rattle.mesh_reader.specs.Grammar.{reply_word}
 use Rattle.mesh_files.specs.Reading.{IsOfMesh, WrittenIsRead, mesh_of}
 
 -- a place by its parts
@@ -157,7 +157,7 @@ decimal_feed : (n : ℕ) → n < 2 ^ 64 → HasNo 10 (decimal n)
 decimal_feed n lt = number_without 10 (decimal n) (omega arith) (decimal_is n lt).number
 
 -- nor has the word of a list
-word_feed : (p : Part) → HasNo 10 (word_of p)
+word_feed : (p : Part) → HasNo 10 (head_word p)
 word_feed Replies = (refl, (refl, (refl, (refl, (refl, (refl, (refl, (refl, tt))))))))
 word_feed Points = (refl, (refl, (refl, (refl, (refl, (refl, (refl, tt)))))))
 word_feed Cells = (refl, (refl, (refl, (refl, (refl, (refl, tt))))))
@@ -173,13 +173,13 @@ most_fits Hull = omega arith
 -- the head of a list with few enough lines leads to them
 head_leads : (p : Part) (n : ℕ) (f : MeshParts) (lines rest : List ℕ) (b : Reached) → n ≤ most_of p → TextLeads
     (lines ++ rest) (at (lines_due p n) f) b
-    → TextLeads ((((word_of p ++ decimal n) ++ codes "\n") ++ lines) ++ rest) (at (Head p) f) b
+    → TextLeads ((((head_word p ++ decimal n) ++ codes "\n") ++ lines) ++ rest) (at (Head p) f) b
 head_leads p n f lines rest b le next =
     let fits : n < 2 ^ 64 = omega (arith, le, most_fits p) in
-    let line : List ℕ = word_of p ++ decimal n in
+    let line : List ℕ = head_word p ++ decimal n in
     again (line ++ 10 ∷ (lines ++ rest)) (((line ++ codes "\n") ++ lines) ++ rest) (at (Head p) f) b
     (in_front_of line lines rest)
-    (line_leads line (lines ++ rest) (at (Head p) f) (at (lines_due p n) f) b (without_append 10 (word_of p)
+    (line_leads line (lines ++ rest) (at (Head p) f) (at (lines_due p n) f) b (without_append 10 (head_word p)
     (decimal n) (word_feed p) (decimal_feed n fits))
     (n, record { digits = decimal n; fields = refl; value = decimal_is n fits; most = le }, refl) next)
 
@@ -457,9 +457,9 @@ replies_lead : (l : List Reply) (f : MeshParts) (rest : List ℕ) (b : Reached) 
     → TextLeads (block (codes "replies") (map (λ r. reply_word r ++ codes "\n") l) ++ rest) (at (Head Replies) f) b
 replies_lead l f rest b le next =
     let shown = map (λ (r : Reply). reply_word r ++ codes "\n") l in
-    again ((((word_of Replies ++ decimal (length l)) ++ codes "\n") ++ concat shown) ++ rest) (block
+    again ((((head_word Replies ++ decimal (length l)) ++ codes "\n") ++ concat shown) ++ rest) (block
     (codes "replies") shown ++ rest) (at (Head Replies) f) b
-    (ap (λ (n : ℕ). (((word_of Replies ++ decimal n) ++ codes "\n") ++ concat shown) ++ rest) (sym (length-map l (λ
+    (ap (λ (n : ℕ). (((head_word Replies ++ decimal n) ++ codes "\n") ++ concat shown) ++ rest) (sym (length-map l (λ
     (r : Reply). reply_word r ++ codes "\n"))))
     (head_leads Replies (length l) f (concat shown) rest b le
     (lines_lead Replies reply_word add_reply (λ g m. ⊤) replies_taken l f rest b tt (subst (λ
@@ -471,9 +471,9 @@ points_lead : (l : List ℕ) (f : MeshParts) (rest : List ℕ) (b : Reached) →
     → TextLeads (block (codes "points") (map (λ p. shown_point p ++ codes "\n") l) ++ rest) (at (Head Points) f) b
 points_lead l f rest b le may next =
     let shown = map (λ (p : ℕ). shown_point p ++ codes "\n") l in
-    again ((((word_of Points ++ decimal (length l)) ++ codes "\n") ++ concat shown) ++ rest) (block
+    again ((((head_word Points ++ decimal (length l)) ++ codes "\n") ++ concat shown) ++ rest) (block
     (codes "points") shown ++ rest) (at (Head Points) f) b
-    (ap (λ (n : ℕ). (((word_of Points ++ decimal n) ++ codes "\n") ++ concat shown) ++ rest) (sym (length-map l (λ
+    (ap (λ (n : ℕ). (((head_word Points ++ decimal n) ++ codes "\n") ++ concat shown) ++ rest) (sym (length-map l (λ
     (p : ℕ). shown_point p ++ codes "\n"))))
     (head_leads Points (length l) f (concat shown) rest b le
     (lines_lead Points shown_point add_point MayPoints points_taken l f rest b may (subst (λ
@@ -486,9 +486,9 @@ cells_lead : (s : List ℕ) → IsShort s → (l : List (List ℕ)) (f : MeshPar
     → TextLeads (block (codes "cells") (map (λ q. shown_cell s q ++ codes "\n") l) ++ rest) (at (Head Cells) f) b
 cells_lead s short l f rest b le may next =
     let shown = map (λ (q : List ℕ). shown_cell s q ++ codes "\n") l in
-    again ((((word_of Cells ++ decimal (length l)) ++ codes "\n") ++ concat shown) ++ rest) (block
+    again ((((head_word Cells ++ decimal (length l)) ++ codes "\n") ++ concat shown) ++ rest) (block
     (codes "cells") shown ++ rest) (at (Head Cells) f) b
-    (ap (λ (n : ℕ). (((word_of Cells ++ decimal n) ++ codes "\n") ++ concat shown) ++ rest) (sym (length-map l (λ
+    (ap (λ (n : ℕ). (((head_word Cells ++ decimal n) ++ codes "\n") ++ concat shown) ++ rest) (sym (length-map l (λ
     (q : List ℕ). shown_cell s q ++ codes "\n"))))
     (head_leads Cells (length l) f (concat shown) rest b le
     (lines_lead Cells (shown_cell s) add_cell (λ g m. MayLists 4 s g.points g.cells m)
@@ -502,9 +502,9 @@ hull_lead : (s : List ℕ) → IsShort s → (l : List (List ℕ)) (f : MeshPart
     → TextLeads (block (codes "hull") (map (λ q. shown_cell s q ++ codes "\n") l) ++ rest) (at (Head Hull) f) b
 hull_lead s short l f rest b le may next =
     let shown = map (λ (q : List ℕ). shown_cell s q ++ codes "\n") l in
-    again ((((word_of Hull ++ decimal (length l)) ++ codes "\n") ++ concat shown) ++ rest) (block
+    again ((((head_word Hull ++ decimal (length l)) ++ codes "\n") ++ concat shown) ++ rest) (block
     (codes "hull") shown ++ rest) (at (Head Hull) f) b
-    (ap (λ (n : ℕ). (((word_of Hull ++ decimal n) ++ codes "\n") ++ concat shown) ++ rest) (sym (length-map l (λ
+    (ap (λ (n : ℕ). (((head_word Hull ++ decimal n) ++ codes "\n") ++ concat shown) ++ rest) (sym (length-map l (λ
     (q : List ℕ). shown_cell s q ++ codes "\n"))))
     (head_leads Hull (length l) f (concat shown) rest b le
     (lines_lead Hull (shown_cell s) add_triple (λ g m. MayLists 3 s g.points g.hull m)

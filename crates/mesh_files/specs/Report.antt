@@ -6,7 +6,7 @@ use Rattle.mesh_files.specs.declared.report.Report.{Report}
 use Rattle.point_order.specs.Sets.{IsIn, IsAscending}
 use Rattle.alpha_complex.specs.Shapes.{ShapeParts, shape_seen}
 use Rattle.alpha_complex.specs.Slots.{ShapeSlots}
-use Rattle.mesh_files.specs.Text.{ReportParts, counted}
+use Rattle.mesh_files.specs.Text.{ReportParts, counted_points}
 
 -- shapes, each behind its radius
 abbrev pub shapes_seen : List (ℕ × ShapeSlots) → List (ℕ × ShapeParts)
@@ -14,7 +14,7 @@ shapes_seen shapes = map (λ s. (s.0, shape_seen s.1)) shapes
 
 -- the points by which each of the shapes counts ascend
 pub record AreCountedInOrder (shapes : List (ℕ × ShapeParts)) : Type 0 where
-  pub ascending : (s : ℕ × ShapeParts) → IsIn s shapes → IsAscending (counted s.1)
+  pub ascending : (s : ℕ × ShapeParts) → IsIn s shapes → IsAscending (counted_points s.1)
 
 abbrev pub parts_of : Report → ReportParts
 parts_of r =

@@ -6,7 +6,8 @@ use Rattle.edit_history.specs.declared.history.Reply.{Reply}
 use Rattle.edit_history.specs.declared.history.Reply.TheVariants.{Inserted, Duplicate, Removed, Missing, Flat}
 use Rattle.alpha_complex.specs.Shapes.{ShapeParts}
 use Rattle.text_sheets.specs.Lines.{numbers_line}
-use Rattle.mesh_files.specs.Text.{ReportParts, reply_word, full_corners, hull_corners}
+use Rattle.mesh_files.specs.Text.{ReportParts, full_corners, hull_corners}
+use Rattle.mesh_reader.specs.Grammar.{reply_word}
 
 -- a word and a number
 abbrev pub count_line : List ℕ → ℕ → List ℕ

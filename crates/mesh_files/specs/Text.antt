@@ -14,6 +14,7 @@ use Rattle.edit_history.specs.declared.history.Reply.TheVariants.{
   Moved,
   Occupied,
 }
+use Rattle.mesh_reader.specs.Grammar.{reply_word}
 use Rattle.alpha_complex.specs.declared.shape.Kind.{Kind}
 use Rattle.alpha_complex.specs.declared.shape.Kind.TheVariants.{Singular, Regular, Interior}
 use Rattle.alpha_complex.specs.Shapes.{ShapeParts}
@@ -28,15 +29,6 @@ pub record ReportParts : Type 0 where
   pub cells : List Cell
   pub shapes : List (ℕ × ShapeParts)
   pub order : Option (List ℕ)
-
-abbrev pub reply_word : Reply → List ℕ
-reply_word Inserted = codes "Inserted"
-reply_word Duplicate = codes "Duplicate"
-reply_word Removed = codes "Removed"
-reply_word Missing = codes "Missing"
-reply_word Flat = codes "Flat"
-reply_word Moved = codes "Moved"
-reply_word Occupied = codes "Occupied"
 
 abbrev pub reply_line : Reply → List ℕ
 reply_line reply = reply_word reply ++ codes "\n"
@@ -67,12 +59,12 @@ face_line points corners kind =
     concat (map (λ p. decimal (index_of points p) ++ codes " ") corners) ++ kind_word kind ++ codes "\n"
 
 -- the points of a list of points with their kinds
-abbrev pub points_in : List (ℕ × Kind) → List ℕ
-points_in faces = map (λ p. p.0) faces
+abbrev pub points_of_faces : List (ℕ × Kind) → List ℕ
+points_of_faces faces = map (λ p. p.0) faces
 
 -- the points of a shape, by which its block counts
-abbrev pub counted : ShapeParts → List ℕ
-counted shape = points_in shape.points
+abbrev pub counted_points : ShapeParts → List ℕ
+counted_points shape = points_of_faces shape.points
 
 -- the faces of a shape, kind by kind, as indices into a list of points
 unfoldable pub face_blocks : List ℕ → ShapeParts → List ℕ
@@ -84,7 +76,7 @@ face_blocks points shape =
 
 -- the block of a radius, which counts the shape's own points
 unfoldable pub shape_text : ℕ → ShapeParts → List ℕ
-shape_text radius shape = codes "shape " ++ decimal radius ++ codes "\n" ++ face_blocks (counted shape) shape
+shape_text radius shape = codes "shape " ++ decimal radius ++ codes "\n" ++ face_blocks (counted_points shape) shape
 
 -- one block for each radius, in their order
 abbrev pub shape_blocks : List (ℕ × ShapeParts) → List ℕ

@@ -11,7 +11,6 @@ ghost use Rattle.mesh_files.specs.Report.{AreCountedInOrder, parts_of, shapes_se
 ghost use Rattle.text_sheets.specs.Indices.{indices_line};
 ghost use Rattle.mesh_files.specs.Text.{
   reply_line,
-  reply_word,
   point_line,
   full_corners,
   hull_corners,
@@ -20,6 +19,7 @@ ghost use Rattle.mesh_files.specs.Text.{
   mesh_blocks,
   report_text,
 };
+ghost use Rattle.mesh_reader.specs.Grammar.{reply_word};
 
 use crate::rows::{Beside, InTurn, RowLines, Rows, Way};
 use crate::shapes::put_shapes;

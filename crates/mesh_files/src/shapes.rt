@@ -21,20 +21,19 @@ ghost use Rattle.point_order.specs.Sets.{IsAscending};
 ghost use Rattle.std.specs.Io.KnownBytes.{Appends};
 ghost use Rattle.byte_ends.specs.Ends.{HasCause};
 ghost use Rattle.alpha_complex.specs.Shapes.{shape_seen};
-ghost use Rattle.alpha_complex.specs.Slots.{held};
-ghost use Rattle.text_sheets.specs.Lines.{block};
+ghost use Rattle.list_laws.specs.Lists.{held};
+ghost use Rattle.text_sheets.specs.Lines.{block, held_line};
 ghost use Rattle.text_sheets.specs.Sheets.{Puts};
 ghost use Rattle.mesh_files.specs.Report.{AreCountedInOrder, shapes_seen};
 ghost use Rattle.text_sheets.specs.Indices.{index_of, indices_line};
-ghost use Rattle.text_sheets.specs.Lines.{held_line};
 ghost use Rattle.mesh_files.specs.Text.{
   kind_word,
   face_line,
   face_blocks,
-  points_in,
-  counted,
   shape_text as shape_text_of,
   shape_blocks,
+  points_of_faces,
+  counted_points,
 };
 
 use crate::rows::{InTurn, RowLines, Rows, Way, put_face};
@@ -92,9 +91,9 @@ fn put_cells<W: Way, O: Sink>(way: &W, sheet: &mut Sheet<O>, indices: &Indices, 
 // Puts the faces of a shape, kind by kind.
 fn put_faces<W: Way, O: Sink>(way: &W, sheet: &mut Sheet<O>, shape: &Shape)
     requires open { W.is_open way.now }
-    requires points { IsAscending (counted (shape_seen shape.now)) }
+    requires points { IsAscending (counted_points (shape_seen shape.now)) }
     ensures { Puts O.holds O.faults sheet.old sheet.new
-        (face_blocks (counted (shape_seen shape.now)) (shape_seen shape.now)) }
+        (face_blocks (counted_points (shape_seen shape.now)) (shape_seen shape.now)) }
 {
     let indices = Indices::new(shape.points());
     put_points(sheet, &indices, shape);
@@ -106,7 +105,7 @@ fn put_faces<W: Way, O: Sink>(way: &W, sheet: &mut Sheet<O>, shape: &Shape)
 // Puts the block of a radius.
 fn put_shape<W: Way, O: Sink>(way: &W, sheet: &mut Sheet<O>, radius: u64, shape: &Shape)
     requires open { W.is_open way.now }
-    requires points { IsAscending (counted (shape_seen shape.now)) }
+    requires points { IsAscending (counted_points (shape_seen shape.now)) }
     ensures { Puts O.holds O.faults sheet.old sheet.new (shape_text_of radius (shape_seen shape.now)) }
 {
     sheet.put(b"shape ");
@@ -127,7 +126,7 @@ pub(crate) fn put_shapes<W: Way, O: Sink>(way: &W, sheet: &mut Sheet<O>, shapes:
 
 // Writes the block of a radius.
 fn put_block<O: Sink>(out: &mut O, radius: u64, shape: &Shape) -> Result<(), Failed>
-    requires { IsAscending (counted (shape_seen shape.now)) }
+    requires { IsAscending (counted_points (shape_seen shape.now)) }
     ensures { OnOk result (Appends (O.holds out.old) (O.holds out.new) (shape_text_of radius (shape_seen shape.now))) }
 {
     let mut sheet = Sheet::new(out);
@@ -142,7 +141,7 @@ fn put_block<O: Sink>(out: &mut O, radius: u64, shape: &Shape) -> Result<(), Fai
 ///
 /// `AllocError` where there is no memory for the text.
 pub fn shape_text(alloc: Global, radius: u64, shape: &Shape) -> Result<Vec<u8>, AllocError>
-    requires { IsAscending (counted (shape_seen shape.now)) }
+    requires { IsAscending (counted_points (shape_seen shape.now)) }
     ensures { IfOk result (λ text. text.items ≡ shape_text_of radius (shape_seen shape.now)) }
 {
     let mut text = WholeText::new(alloc);

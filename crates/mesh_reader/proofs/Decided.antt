@@ -53,7 +53,7 @@ use Rattle.mesh_reader.specs.Grammar.{
   Reached,
   lines_due,
   most_of,
-  word_of,
+  head_word,
 }
 use Rattle.mesh_reader.specs.Faults.{IsMeshReason}
 use Rattle.mesh_reader.specs.Judging.{
@@ -103,16 +103,16 @@ strip_cases word line (Some x) h = ap (stripped word) h ∙ strip_front word x.n
 -- ---- a head
 
 -- by the word as it was searched for
-pub announced_by : (p : Part) (line word : List ℕ) (o : Option (List ℕ)) → word ≡ word_of p → stripped word line ≡ o
+pub announced_by : (p : Part) (line word : List ℕ) (o : Option (List ℕ)) → word ≡ head_word p → stripped word line ≡ o
     → announced p line ≡ head_count o
 unfolding announced
 announced_by p line word o e h = ap head_count (ap (λ (w : List ℕ). stripped w line) (sym e) ∙ h)
 
 -- what a head announces is the number behind its word
-announced_is : (p : Part) (line digits : List ℕ) → line ≡ word_of p ++ digits → announced p line ≡ number digits
+announced_is : (p : Part) (line digits : List ℕ) → line ≡ head_word p ++ digits → announced p line ≡ number digits
 unfolding announced
-announced_is p line digits h = ap (λ (l : List ℕ). head_count (stripped (word_of p) l)) h ∙ ap head_count (strip_front
-    (word_of p) digits)
+announced_is p line digits h = ap (λ (l : List ℕ). head_count (stripped (head_word p) l)) h ∙ ap head_count (strip_front
+    (head_word p) digits)
 
 -- a number that was read, with what it was read of
 in_some : (o : Option (List ℕ)) (n : ℕ) → head_count o ≡ Some n → (digits : List ℕ) × (o ≡ Some digits) ×
@@ -122,11 +122,11 @@ in_some (Some digits) n h = (digits, refl, h)
 
 -- a line of which a number is read is the word of the list and that number
 announced_some : (p : Part) (line : List ℕ) (n : ℕ) → announced p line ≡ Some n → (digits : List ℕ) × (line
-    ≡ word_of p ++ digits) × (number digits ≡ Some n)
+    ≡ head_word p ++ digits) × (number digits ≡ Some n)
 unfolding announced
 announced_some p line n h =
-    let k = in_some (stripped (word_of p) line) n h in
-    (k.0, strip_back (word_of p) line k.0 k.1, k.2)
+    let k = in_some (stripped (head_word p) line) n h in
+    (k.0, strip_back (head_word p) line k.0 k.1, k.2)
 
 -- the most lines are far from the bound of what is read
 most_below : (p : Part) → most_of p < far

@@ -52,11 +52,11 @@ file_parts f =
 -- ---- the lines
 
 -- the word of a list's head, with the space behind it
-abbrev pub word_of : Part → List ℕ
-word_of Replies = codes "replies "
-word_of Points = codes "points "
-word_of Cells = codes "cells "
-word_of Hull = codes "hull "
+abbrev pub head_word : Part → List ℕ
+head_word Replies = codes "replies "
+head_word Points = codes "points "
+head_word Cells = codes "cells "
+head_word Hull = codes "hull "
 
 -- the most replies and points that there may be
 abbrev pub point_limit : ℕ
@@ -76,13 +76,13 @@ most_of Hull = cell_limit
 -- a head: its word, one space, and a number
 pub record HasHeadForm (p : Part) (line : List ℕ) : Type 0 where
   pub digits : List ℕ
-  pub fields : line ≡ word_of p ++ digits
+  pub fields : line ≡ head_word p ++ digits
   pub number : IsNumber digits
 
 -- a head that announces n lines, no more than there may be
 pub record IsHead (p : Part) (n : ℕ) (line : List ℕ) : Type 0 where
   pub digits : List ℕ
-  pub fields : line ≡ word_of p ++ digits
+  pub fields : line ≡ head_word p ++ digits
   pub value : IsNumberOf digits n
   pub most : n ≤ most_of p
 

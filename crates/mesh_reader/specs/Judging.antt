@@ -52,7 +52,7 @@ use Rattle.mesh_reader.specs.declared.place.Due.TheVariants.{Title, Head, Body, 
 use Rattle.mesh_reader.specs.declared.reader.LineRefused.{LineRefused}
 use Rattle.mesh_reader.specs.declared.reader.LineRefused.TheVariants as line_refusals
 use Rattle.mesh_reader.specs.declared.reader.Reader.{Reader}
-use Rattle.mesh_reader.specs.Grammar.{MeshParts, Reached, lines_due, most_of, parts, point_limit, reply_word, word_of}
+use Rattle.mesh_reader.specs.Grammar.{MeshParts, Reached, lines_due, most_of, parts, point_limit, reply_word, head_word}
 
 -- ---- lines
 
@@ -69,7 +69,7 @@ head_count (Some digits) = number digits
 
 -- how many lines a head announces, where it is one
 unfoldable pub announced : Part → List ℕ → Option ℕ
-announced p line = head_count (stripped (word_of p) line)
+announced p line = head_count (stripped (head_word p) line)
 
 -- a number in front of others, where all are there
 abbrev pub in_front : Option ℕ → Option (List ℕ) → Option (List ℕ)

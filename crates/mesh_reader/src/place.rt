@@ -1,7 +1,7 @@
 //! What is due in the text of a mesh. The grammar speaks of it; no caller has to.
 
 ghost use Rattle.std.specs.Prelude.{◌≡◌};
-ghost use Rattle.mesh_reader.specs.Grammar.{behind as behind_of, lines_due as due_of, most_of, word_of as letters_of};
+ghost use Rattle.mesh_reader.specs.Grammar.{behind as behind_of, lines_due as due_of, most_of, head_word as letters_of};
 
 // The most replies and points that there may be.
 pub(crate) const POINT_LIMIT: u64 = 262_144;

@@ -4,7 +4,7 @@ use Rattle.std.specs.List.{AllZip}
 use Rattle.point_order.specs.declared.cell.Cell.{Cell}
 use Rattle.point_order.specs.declared.cell.Cell.TheVariants.{Full}
 use Rattle.point_order.specs.Complex.{complex}
-use Rattle.face_list.specs.Faces.{full_cells, parts_in, points_in, points_with_cells, with_cells}
+use Rattle.face_list.specs.Faces.{full_cells, parts_in, points_in, points_with_cells, with_cells_around}
 use Rattle.face_list.specs.Seen.{FaceLists}
 use Rattle.alpha_complex.specs.Condition.{AreFacesOf}
 use Rattle.alpha_complex.specs.Admitted.{is_admitted_cell}
@@ -36,8 +36,9 @@ full_alphas s i ns h =
 
 -- the faces of the cells of a cloud are those of its set
 pub faces_of : (s : List ℕ) (cells : List Cell) (faces : FaceLists) → IsCloud s cells → faces.cells ≡ cells →
-    faces.points ≡ points_with_cells (points_in cells) cells → faces.pairs ≡ with_cells (parts_in 2 cells) cells →
-    faces.triples ≡ with_cells (parts_in 3 cells) cells → AreFacesOf s faces
+    faces.points ≡ points_with_cells (points_in cells) cells →
+    faces.pairs ≡ with_cells_around (parts_in 2 cells) cells →
+    faces.triples ≡ with_cells_around (parts_in 3 cells) cells → AreFacesOf s faces
 faces_of s cells faces k c p q t =
     let e = k.cells_are in
     record {
@@ -45,19 +46,19 @@ faces_of s cells faces k c p q t =
       keys = k.set.keys;
       solid = k.solid;
       points = p ∙ ap (λ (l : List Cell). points_with_cells (points_in l) l) e;
-      pairs = q ∙ ap (λ (l : List Cell). with_cells (parts_in 2 l) l) e;
-      triples = t ∙ ap (λ (l : List Cell). with_cells (parts_in 3 l) l) e;
+      pairs = q ∙ ap (λ (l : List Cell). with_cells_around (parts_in 2 l) l) e;
+      triples = t ∙ ap (λ (l : List Cell). with_cells_around (parts_in 3 l) l) e;
       cells = c ∙ e;
     }
 
 -- faces by themselves
-firsts : (parts : List (List ℕ)) (cells : List Cell) → map (λ f. f.0) (with_cells parts cells) ≡ parts
+firsts : (parts : List (List ℕ)) (cells : List Cell) → map (λ f. f.0) (with_cells_around parts cells) ≡ parts
 firsts [] cells = refl
 firsts (p ∷ parts) cells = ap (λ (l : List (List ℕ)). p ∷ l) (firsts parts cells)
 
 -- the parts of a complex, each without its cells
 pub parts_mapped : (n : ℕ) (s : List ℕ) (faces : List (List ℕ × List Cell)) →
-    faces ≡ with_cells (parts_in n (complex s)) (complex s) → map (λ f. f.0) faces ≡ parts_in n (complex s)
+    faces ≡ with_cells_around (parts_in n (complex s)) (complex s) → map (λ f. f.0) faces ≡ parts_in n (complex s)
 parts_mapped n s faces e =
     ap (λ (l : List (List ℕ × List Cell)). map (λ f. f.0) l) e ∙ firsts (parts_in n (complex s)) (complex s)
 

@@ -1,6 +1,5 @@
 mod FullFirst
 mod Others
-mod Places
 mod Clouds
 mod RowLaws
 mod Alphas

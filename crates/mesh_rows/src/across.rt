@@ -1,9 +1,7 @@
 //! What lies across the facets of Full cells.
 
 ghost use Rattle.std.specs.Prelude.{◌≡◌, ◌<◌, ◌^◌, ◌↔◌, length, IfOk, IsTrue};
-ghost use Rattle.point_order.specs.Facets.{facets_of};
-ghost use Rattle.point_order.specs.Sets.{IsIn};
-ghost use Rattle.point_order.specs.declared.cell.Cell.TheVariants.{Full, Open};
+ghost use Rattle.point_order.specs.declared.cell.Cell.TheVariants.{Full};
 ghost use Rattle.point_order.specs.declared.cell.Facet.TheVariants.{Three};
 ghost use Rattle.face_list.specs.Faces.{full_cells};
 ghost use Rattle.face_list.specs.Tables.{cell_at};
@@ -12,50 +10,14 @@ ghost use Rattle.mesh_rows.specs.Linked.{AreOfComplex, AreSides, HasAnotherCell,
 
 use crate::hints::{Hints, hints_of};
 use crate::rows::CellRow;
-use point_order::{Cell, Quad, Tri};
+use point_order::{Cell, Facet, Quad, Tri};
 use std::alloc::{AllocError, Global};
-
-// Whether the triple is one of a Full cell's four.
-fn has_triple(quad: &Quad, tri: &Tri) -> bool
-    ensures { IsTrue result ↔ IsIn (Three tri.now) (facets_of (Full quad.now)) }
-{
-    let (a, b, c, d) = quad.corners();
-    let (x, y, z) = tri.corners();
-    if a == x {
-        if b == y {
-            c == z || d == z
-        } else {
-            c == y && d == z
-        }
-    } else {
-        b == x && c == y && d == z
-    }
-}
-
-// Whether the triple is an Open cell's.
-fn is_triple(tri: &Tri, other: &Tri) -> bool
-    ensures { IsTrue result ↔ IsIn (Three other.now) (facets_of (Open tri.now)) }
-{
-    let (a, b, c) = tri.corners();
-    let (x, y, z) = other.corners();
-    a == x && b == y && c == z
-}
-
-// Whether the cell has the triple for a facet.
-fn is_on(cell: &Cell, tri: &Tri) -> bool
-    ensures { IsTrue result ↔ IsIn (Three tri.now) (facets_of cell.now) }
-{
-    match cell {
-        Cell::Full(quad) => has_triple(quad, tri),
-        Cell::Open(other) => is_triple(other, tri),
-    }
-}
 
 // Whether the cell of the number m is another than that of n, and has the facet.
 fn is_other(cells: &[Cell], n: usize, tri: &Tri, m: usize) -> bool
     ensures { IsTrue result ↔ IsOther cells.now n (Three tri.now) m }
 {
-    m < cells.len() && m != n && is_on(&cells[m], tri)
+    m < cells.len() && m != n && cells[m].is_on(&Facet::Three(*tri))
 }
 
 // The number of the other cell that has the facet. It is likely to be the hint.

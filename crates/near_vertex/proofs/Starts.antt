@@ -27,7 +27,7 @@ use Rattle.list_laws.proofs.Cited.{filtered_from, filtered_true, none_there, one
 use Rattle.point_order.specs.Sets.{IsIn}
 use Rattle.del_laws.proofs.Cited.{complex_is_closed_list}
 use Rattle.cell_store.specs.Grids.{bucket_of}
-use Rattle.cell_store.specs.Buckets.{BucketContent, InHand, bucket_at, points_in}
+use Rattle.cell_store.specs.Buckets.{BucketContent, InHand, bucket_at, points_at}
 use Rattle.cell_store.specs.Meshes.{HasPlaces, IsWhole}
 use Rattle.cell_store.specs.Shares.{Shows}
 use Rattle.cell_stars.proofs.Cited.{bucket_below}
@@ -40,7 +40,7 @@ use Rattle.near_vertex.specs.Laws.{NearStartIsWalk}
 
 -- the first buckets have no point
 abbrev pub NoneBelow : InHand → ℕ → Type 0
-NoneBelow hold n = (b : ℕ) → b < n → points_in hold.places b ≡ []
+NoneBelow hold n = (b : ℕ) → b < n → points_at hold.places b ≡ []
 
 -- a list without a front is empty
 no_front : (l : List ℕ) → front_of l ≡ None → l ≡ []
@@ -48,11 +48,11 @@ no_front [] e = refl
 no_front (p ∷ l) e = cc
 
 -- one more bucket without a point
-pub one_bucket : (hold : InHand) (b : ℕ) → NoneBelow hold b → front_of (points_in hold.places b) ≡ None →
+pub one_bucket : (hold : InHand) (b : ℕ) → NoneBelow hold b → front_of (points_at hold.places b) ≡ None →
     NoneBelow hold (b + 1)
 one_bucket hold b k e i l = elim (one_below b i l) [
   | inl h ↦ k i h
-  | inr h ↦ subst (λ v. points_in hold.places v ≡ []) (sym h) (no_front (points_in hold.places b) e)
+  | inr h ↦ subst (λ v. points_at hold.places v ≡ []) (sym h) (no_front (points_at hold.places b) e)
 ]
 
 -- past the end there is none
@@ -77,7 +77,7 @@ none_of_all hold n e k b = elim (below_or_past b n) [
 
 -- a point of the set in a bucket in hand is one of the bucket's
 pub point_there : (hold : InHand) (s : List ℕ) (b : ℕ) (x : BucketContent) (p : ℕ) → Shows hold s →
-    bucket_at hold.places b ≡ Some x → b ≡ bucket_of hold.grid p → IsIn p s → IsIn p (points_in hold.places b)
+    bucket_at hold.places b ≡ Some x → b ≡ bucket_of hold.grid p → IsIn p s → IsIn p (points_at hold.places b)
 point_there hold s b x p st e n m =
     subst (λ (o : Option BucketContent). IsIn p (points_of_bucket o)) (sym e)
     (subst (λ (l : List ℕ). IsIn p l) (sym (st.sights b x e).points)
@@ -112,7 +112,7 @@ front_in [] p e = cc
 front_in (x ∷ l) p e = inl cc
 
 -- a point of a bucket in hand is one of the set
-pub in_set : (hold : InHand) (s : List ℕ) (b p : ℕ) → Shows hold s → IsIn p (points_in hold.places b) → IsIn p s
+pub in_set : (hold : InHand) (s : List ℕ) (b p : ℕ) → Shows hold s → IsIn p (points_at hold.places b) → IsIn p s
 in_set hold s b p st m = go (bucket_at hold.places b) refl m
   where
     -- by the bucket
@@ -124,7 +124,7 @@ in_set hold s b p st m = go (bucket_at hold.places b) refl m
 -- the law NearStartIsWalk
 pub start_is_walk : NearStartIsWalk
 start_is_walk hold s q w st g = in_set hold s g.1.bucket w.point st
-    (front_in (points_in hold.places g.1.bucket) w.point g.1.least)
+    (front_in (points_at hold.places g.1.bucket) w.point g.1.least)
 
 -- with every bucket in hand some bucket has a point
 pub some_point_held : (hold : InHand) (s : List ℕ) → IsWhole hold → Shows hold s → HasNoPoint hold → ⊥

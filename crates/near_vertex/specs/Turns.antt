@@ -2,7 +2,7 @@
 use Rattle.std.specs.Prelude.{◌≡◌, ℕ, ◌<◌, true, List, [], ◌∷◌, Option, None, Some, IsSome}
 use Rattle.point_order.specs.Sets.{IsIn}
 use Rattle.del_laws.specs.Nearest.{comes_before}
-use Rattle.cell_store.specs.Buckets.{BucketContent, InHand, bucket_at, points_in}
+use Rattle.cell_store.specs.Buckets.{BucketContent, InHand, bucket_at, points_at}
 use Rattle.cell_store.specs.Grids.{bucket_of}
 use Rattle.cell_store.specs.Shares.{Shows}
 use Rattle.cell_walk.specs.Turns.{IsFirstMissing}
@@ -16,7 +16,7 @@ use Rattle.near_vertex.specs.declared.walk.NearTurn.TheVariants.{Here, Moved, Ne
 
 -- no bucket in hand has a point
 abbrev pub HasNoPoint : InHand → Type 0
-HasNoPoint hold = (b : ℕ) → points_in hold.places b ≡ []
+HasNoPoint hold = (b : ℕ) → points_at hold.places b ≡ []
 
 -- the first of a list, if there is one
 abbrev pub front_of : List ℕ → Option ℕ
@@ -25,13 +25,13 @@ front_of (p ∷ l) = Some p
 
 -- the least point of a bucket, if it is in hand and has one
 abbrev pub LeastIs : InHand → ℕ → Option ℕ → Type 0
-LeastIs hold b o = o ≡ front_of (points_in hold.places b)
+LeastIs hold b o = o ≡ front_of (points_at hold.places b)
 
 -- the least point of the lowest bucket in hand that has one
 pub record IsLeastOfLowest (hold : InHand) (p : ℕ) : Type 0 where
   pub bucket : ℕ
-  pub least : front_of (points_in hold.places bucket) ≡ Some p
-  pub lower : (b : ℕ) → b < bucket → points_in hold.places b ≡ []
+  pub least : front_of (points_at hold.places bucket) ≡ Some p
+  pub lower : (b : ℕ) → b < bucket → points_at hold.places b ≡ []
 
 -- A walk to q from that point; or, where no bucket in hand has a point, the first bucket that is not in hand.
 abbrev pub NearStartGives : InHand → ℕ → NearStart → Type 0

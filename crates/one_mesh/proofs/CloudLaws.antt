@@ -9,13 +9,14 @@ use Rattle.point_order.proofs.Cited.{ascending_is}
 use Rattle.edit_history.specs.declared.history.Entry.{Entry}
 use Rattle.edit_history.specs.Histories.{replay}
 use Rattle.edit_history.specs.Laws.{ReplayLaw}
-use Rattle.edit_history.specs.Opening.{Four, opening_four}
+use Rattle.edit_history.specs.Opening.{opening_four, FourPlaces}
 use Rattle.edit_history.specs.OneThread.{one_thread, places}
 use Rattle.edit_history.proofs.Cited.{solid_from}
 use Rattle.insertion.proofs.Cited.{four_found}
 
 -- what follows of an opening four, where there is one
-pub found : {P : Type 0} (o : Option Four) (four : List ℕ) → option_map places o ≡ Some four → IfSome o (λ _. P) → P
+pub found : {P : Type 0} (o : Option FourPlaces) (four : List ℕ) → option_map places o ≡ Some four →
+    IfSome o (λ _. P) → P
 found None four e k = absurd (cc e)
 found (Some f) four e k = k
 

@@ -7,13 +7,13 @@ use Rattle.edit_history.specs.declared.history.Reply.{Reply}
 use Rattle.edit_history.specs.Edits.{reply_to}
 use Rattle.edit_history.specs.Histories.{replay}
 use Rattle.cell_store.specs.Changes.{Follows}
-use Rattle.cell_store.specs.Meshes.{MeshView, counted}
+use Rattle.cell_store.specs.Meshes.{MeshView, within_64_bits}
 use Rattle.edit_plans.specs.Plans.{IsPlanFor}
 use Rattle.edit_plans.specs.declared.plan.Plan.{Plan}
 use Rattle.one_mesh.specs.Applied.{edited}
 
 -- the count is the next number
-pub numbered : (l n : ℕ) → n ≡ counted l → l < 2 ^ 32 → n ≡ l
+pub numbered : (l n : ℕ) → n ≡ within_64_bits l → l < 2 ^ 32 → n ≡ l
 numbered l n e k = omega (arith, e, k)
 
 -- the entry of a plan follows

@@ -52,7 +52,7 @@ use Rattle.edit_history.specs.declared.history.Edit.TheVariants.{Add}
 use Rattle.edit_history.specs.declared.history.Entry.{Entry}
 use Rattle.edit_history.specs.Histories.{IsLegal, entries_from}
 use Rattle.edit_history.specs.Laws.{AreIndependent}
-use Rattle.edit_history.specs.Opening.{Four, opening_four}
+use Rattle.edit_history.specs.Opening.{opening_four, FourPlaces}
 use Rattle.edit_history.specs.OneThread.{
   Keeps,
   line_of,
@@ -76,7 +76,7 @@ numbered_append {X} n (x ∷ xs) ys =
     ∙ ap (λ (k : ℕ). enumerate_from (n + 1) xs ++ enumerate_from k ys)
     (let e : n + 1 + length xs ≡ n + length (x ∷ xs) = omega arith in e))
 
-module _ (points : List ℕ) (edits : List Edit) (four : Four) (found : opening_four points ≡ Some four) where
+module _ (points : List ℕ) (edits : List Edit) (four : FourPlaces) (found : opening_four points ≡ Some four) where
   -- the history of one thread of the points
   abbrev front : List Entry
   front = one_thread points []
@@ -106,12 +106,12 @@ module _ (points : List ℕ) (edits : List Edit) (four : Four) (found : opening_
   kept_front : Keeps points [] 1 front
   kept_front = by (opening_four points) found (keeps_law points [])
     where
-      by : (o : Option Four) → o ≡ Some four → IfSome o (λ _. Keeps points [] 1 front) → Keeps points [] 1 front
-      by o e k = subst (λ (o : Option Four). IfSome o (λ _. Keeps points [] 1 front)) e k
+      by : (o : Option FourPlaces) → o ≡ Some four → IfSome o (λ _. Keeps points [] 1 front) → Keeps points [] 1 front
+      by o e k = subst (λ (o : Option FourPlaces). IfSome o (λ _. Keeps points [] 1 front)) e k
 
   -- the front has the lines of the points, the opening four first
   front_is : front ≡ entries_from 0 [] (opening_first four point_lines)
-  front_is = ap (λ (o : Option Four). entries_from 0 [] (lines_of_one_thread o point_lines)) found
+  front_is = ap (λ (o : Option FourPlaces). entries_from 0 [] (lines_of_one_thread o point_lines)) found
 
   -- so these are the lines of its entries
   front_lines : map line_of front ≡ opening_first four point_lines
@@ -182,7 +182,8 @@ module _ (points : List ℕ) (edits : List Edit) (four : Four) (found : opening_
       -- so front and run keep the file
       pub keeps : Keeps points edits workers (front ++ run)
       keeps = record {
-        opening = subst (λ (o : Option Four). IfSome o (λ four. map (λ e. e.tag) (take 4 (front ++ run)) ≡ places four))
+        opening = subst (λ (o : Option FourPlaces). IfSome o (λ four. map (λ e. e.tag) (take 4 (front ++ run))
+            ≡ places four))
             (sym found) first_four;
         lines = lines;
         order = later_pairs (λ (d e : Entry). InOrder (line_of d) (line_of e)) (front ++ run) order;
@@ -191,7 +192,7 @@ module _ (points : List ℕ) (edits : List Edit) (four : Four) (found : opening_
 
   -- the four are places of points
   independent : AreIndependent points four
-  independent = subst (λ (o : Option Four). IfSome o (AreIndependent points)) found (four_law points)
+  independent = subst (λ (o : Option FourPlaces). IfSome o (AreIndependent points)) found (four_law points)
 
   -- their places are those of points
   low : (p : ℕ) → IsIn p (places four) → p < length points
@@ -253,7 +254,8 @@ module _ (points : List ℕ) (edits : List Edit) (four : Four) (found : opening_
       legal_is 0 [] (front ++ run) legal (λ e i. (let b = by_workers 1 (omega arith) run is_run e i in
       omega (arith, b)))
       ∙ ap (entries_from 0 []) (map-append line_of front run ∙ (λ i. front_lines i ++ run_lines i) ∙ first_lines)
-      ∙ sym (ap (λ (o : Option Four). entries_from 0 [] (lines_of_one_thread o (tagged_lines points edits))) found)
+      ∙ sym (ap (λ (o : Option FourPlaces). entries_from 0 []
+      (lines_of_one_thread o (tagged_lines points edits))) found)
     where
       run_lines : map line_of run ≡ behind
       run_lines = alone_lines (segments behind) run is_run ∙ segments_keep behind

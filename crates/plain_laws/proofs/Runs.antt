@@ -53,7 +53,7 @@ use Rattle.edit_history.specs.declared.history.Edit.TheVariants.{Add, Take, Move
 use Rattle.edit_history.specs.declared.history.Entry.{Entry}
 use Rattle.edit_history.specs.Edits.{is_move, point_of, share_point, reply_to, after}
 use Rattle.edit_history.specs.Histories.{entries_from, IsLegalFrom, IsLegal}
-use Rattle.edit_history.specs.Opening.{Four, opening_four}
+use Rattle.edit_history.specs.Opening.{opening_four, FourPlaces}
 use Rattle.edit_history.specs.OneThread.{places, tagged_lines, lines_of_one_thread, one_thread, line_of, Keeps}
 use Rattle.edit_history.specs.Laws.{AreIndependent}
 use Rattle.edit_history.proofs.Cited.{entry_lines, four_law, keeps_law, line_at, picked}
@@ -92,7 +92,7 @@ use Rattle.point_order.specs.Orientation.{
   normal_y,
   normal_z,
 }
-use Rattle.plain_laws.specs.Plain.{lines_of, IsAnchored, SomeFileIsAnchored}
+use Rattle.plain_laws.specs.Plain.{IsAnchored, SomeFileIsAnchored, all_edits}
 use Rattle.plain_laws.specs.Running.{
   Pair,
   segments,
@@ -302,7 +302,7 @@ alone_lines (part ∷ parts) h r =
     ap (map line_of) r.2 ∙ map-append line_of r.0 r.1
     ∙ (λ i. (r.3.alone (dealt_to 1 part 0) refl ∙ e) i ++ alone_lines parts r.1 r.4 i)
 
-module _ (points : List ℕ) (edits : List Edit) (four : Four) (found : opening_four points ≡ Some four) where
+module _ (points : List ℕ) (edits : List Edit) (four : FourPlaces) (found : opening_four points ≡ Some four) where
   -- the numbered lines of the file
   abbrev pub all : List Pair
   all = tagged_lines points edits
@@ -325,10 +325,10 @@ module _ (points : List ℕ) (edits : List Edit) (four : Four) (found : opening_
 
   -- the four are independent, each at its first place
   independent : AreIndependent points four
-  independent = subst (λ (o : Option Four). IfSome o (AreIndependent points)) found (four_law points)
+  independent = subst (λ (o : Option FourPlaces). IfSome o (AreIndependent points)) found (four_law points)
 
   -- their places are those of lines
-  in_range : (p : ℕ) → IsIn p (places four) → (0 ≤ p) × (p < 0 + length (lines_of points edits))
+  in_range : (p : ℕ) → IsIn p (places four) → (0 ≤ p) × (p < 0 + length (all_edits points edits))
   in_range p i = (omega arith, omega (arith, below p i, length-append (map Add points) edits, length-map points Add))
     where
       below : (p : ℕ) → IsIn p (places four) → p < length points
@@ -347,9 +347,9 @@ module _ (points : List ℕ) (edits : List Edit) (four : Four) (found : opening_
       below p (inr (inr (inr (inr j)))) = absurd j
 
   -- the lines of the four are those at their places, in order
-  pub opening_is : opening_lines ≡ map (line_at 0 (lines_of points edits) (Add 0)) (places four)
+  pub opening_is : opening_lines ≡ map (line_at 0 (all_edits points edits) (Add 0)) (places four)
   opening_is =
-      picked (places four) 0 (lines_of points edits) (Add 0) (
+      picked (places four) 0 (all_edits points edits) (Add 0) (
         independent.ascending.0,
         (independent.ascending.1, (independent.ascending.2, (tt, tt))),
       ) in_range
@@ -358,7 +358,7 @@ module _ (points : List ℕ) (edits : List Edit) (four : Four) (found : opening_
   one_order : EachLater InOrder (opening_lines ++ others)
   one_order =
       let kept : Keeps points edits 1 (entries_from 0 [] (opening_lines ++ others)) =
-      subst (λ (o : Option Four). IfSome o (λ _. Keeps points edits 1
+      subst (λ (o : Option FourPlaces). IfSome o (λ _. Keeps points edits 1
       (entries_from 0 [] (lines_of_one_thread o all)))) found (keeps_law points edits) in
       subst (EachLater InOrder) (entry_lines 0 [] (opening_lines ++ others))
       (later_map line_of InOrder (entries_from 0 [] (opening_lines ++ others))
@@ -369,7 +369,7 @@ module _ (points : List ℕ) (edits : List Edit) (four : Four) (found : opening_
   rises : EachLater IsLower (flat_map (λ l. l) (segments others))
   rises =
       subst (EachLater IsLower) (sym (segments_keep others))
-      (later_filter IsLower (λ line. not (opens line)) all (numbered_lower 0 (lines_of points edits)))
+      (later_filter IsLower (λ line. not (opens line)) all (numbered_lower 0 (all_edits points edits)))
 
   module _ (workers : ℕ) (some : 0 < workers) (run : List Entry)
       (is_run : AreRuns (dealt workers (places four) all) run) where
@@ -423,7 +423,8 @@ module _ (points : List ℕ) (edits : List Edit) (four : Four) (found : opening_
     pub keeps : Keeps points edits workers (opening ++ run)
     keeps =
         record {
-          opening = subst (λ (o : Option Four). IfSome o (λ f. map (λ (e : Entry). e.tag) (take 4 (opening ++ run))
+          opening = subst (λ (o : Option FourPlaces). IfSome o
+              (λ f. map (λ (e : Entry). e.tag) (take 4 (opening ++ run))
               ≡ places f)) (sym found) first_four;
           lines = lines;
           order =
@@ -442,7 +443,7 @@ module _ (points : List ℕ) (edits : List Edit) (four : Four) (found : opening_
       (alone_lines (segments others) run is_run ∙ segments_keep others) in
       legal_is 0 [] (opening ++ run) legal (λ d i. let l = made_by 1 (omega arith) run is_run d i in omega (arith, l))
       ∙ ap (entries_from 0 []) f
-      ∙ ap (λ (o : Option Four). entries_from 0 [] (lines_of_one_thread o all)) (sym found)
+      ∙ ap (λ (o : Option FourPlaces). entries_from 0 [] (lines_of_one_thread o all)) (sym found)
 
 -- ---- there is an anchored file
 

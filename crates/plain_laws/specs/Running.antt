@@ -29,7 +29,7 @@ use Rattle.edit_history.specs.declared.history.Edit.{Edit}
 use Rattle.edit_history.specs.declared.history.Entry.{Entry}
 use Rattle.edit_history.specs.Edits.{is_move, point_of, share_point}
 use Rattle.edit_history.specs.Histories.{IsLegal, entries_from}
-use Rattle.edit_history.specs.Opening.{Four, opening_four}
+use Rattle.edit_history.specs.Opening.{opening_four, FourPlaces}
 use Rattle.edit_history.specs.OneThread.{Keeps, tagged_lines, one_thread, places, line_of}
 
 -- a tag and an edit
@@ -123,7 +123,7 @@ AreRuns (lists ∷ others) entries =
 -- the opening four of a file and runs of its dealt lines keep the file, for any number of workers
 abbrev pub RunKeeps : Type 0
 RunKeeps =
-    (points : List ℕ) (edits : List Edit) (workers : ℕ) (four : Four) (run : List Entry) →
+    (points : List ℕ) (edits : List Edit) (workers : ℕ) (four : FourPlaces) (run : List Entry) →
     opening_four points ≡ Some four → 0 < workers →
     AreRuns (dealt workers (places four) (tagged_lines points edits)) run →
     Keeps points edits workers (opening_entries (places four) (tagged_lines points edits) ++ run)
@@ -131,7 +131,7 @@ RunKeeps =
 -- with one worker they are the history of one thread, where they are legal
 abbrev pub RunAlone : Type 0
 RunAlone =
-    (points : List ℕ) (edits : List Edit) (four : Four) (run : List Entry) →
+    (points : List ℕ) (edits : List Edit) (four : FourPlaces) (run : List Entry) →
     opening_four points ≡ Some four → AreRuns (dealt 1 (places four) (tagged_lines points edits)) run →
     IsLegal (opening_entries (places four) (tagged_lines points edits) ++ run) →
     opening_entries (places four) (tagged_lines points edits) ++ run ≡ one_thread points edits
@@ -150,13 +150,13 @@ dealt_lines n lines = map (dealt_out n) (segments lines)
 -- workers
 abbrev pub RunBehindKeeps : Type 0
 RunBehindKeeps =
-    (points : List ℕ) (edits : List Edit) (workers : ℕ) (four : Four) (run : List Entry) →
+    (points : List ℕ) (edits : List Edit) (workers : ℕ) (four : FourPlaces) (run : List Entry) →
     opening_four points ≡ Some four → 0 < workers → AreRuns (dealt_lines workers (edit_lines points edits)) run →
     Keeps points edits workers (one_thread points [] ++ run)
 
 -- with one worker they are the history of one thread, where they are legal
 abbrev pub RunBehindAlone : Type 0
 RunBehindAlone =
-    (points : List ℕ) (edits : List Edit) (four : Four) (run : List Entry) →
+    (points : List ℕ) (edits : List Edit) (four : FourPlaces) (run : List Entry) →
     opening_four points ≡ Some four → AreRuns (dealt_lines 1 (edit_lines points edits)) run →
     IsLegal (one_thread points [] ++ run) → one_thread points [] ++ run ≡ one_thread points edits

@@ -43,7 +43,7 @@ use Rattle.edit_history.specs.declared.history.Reply.{Reply}
 use Rattle.edit_history.specs.declared.history.Reply.TheVariants.{Inserted, Duplicate}
 use Rattle.edit_history.specs.Edits.{after, reply_to}
 use Rattle.edit_history.specs.Histories.{entries_from, replay, replay_from}
-use Rattle.edit_history.specs.Opening.{Four, opening_four}
+use Rattle.edit_history.specs.Opening.{opening_four, FourPlaces}
 use Rattle.edit_history.specs.OneThread.{lines_of_one_thread, one_thread, places, tagged_lines}
 use Rattle.edit_history.proofs.Cited.{leaves_set, length_entries, replay_more}
 use Rattle.point_history.specs.declared.entries.Log.{Log}
@@ -206,7 +206,7 @@ pub picked_both : (points four : List ℕ) → option_map places (opening_four p
     (λ line. is_picked false four line.0) (tagged_lines points [])) ≡ one_thread points []
 picked_both points four e = by (opening_four points) e
   where
-    by : (o : Option Four) → option_map places o ≡ Some four
+    by : (o : Option FourPlaces) → option_map places o ≡ Some four
         → entries_from 0 [] (filter (λ line. is_picked true four line.0) (tagged_lines points []) ++ filter
         (λ line. is_picked false four line.0) (tagged_lines points [])) ≡ entries_from 0 []
         (lines_of_one_thread o (tagged_lines points []))

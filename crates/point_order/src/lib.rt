@@ -14,6 +14,7 @@
 
 pub mod cell;
 pub mod laws;
+mod on_facet;
 mod order;
 mod point;
 mod step;

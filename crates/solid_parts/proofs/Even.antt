@@ -60,7 +60,7 @@ use Rattle.point_order.specs.Sets.{IsAscending, is_among}
 use Rattle.point_order.specs.Subsets.{subsets}
 use Rattle.del_laws.specs.Keys.{AreKeys}
 use Rattle.del_laws.proofs.Cited.{listed_facets, part_ascending, part_true}
-use Rattle.face_list.specs.Faces.{cells_with, parts_in, with_cells}
+use Rattle.face_list.specs.Faces.{cells_with, parts_in, with_cells_around}
 use Rattle.face_list.proofs.Cited.{listed_is_part, part_is_listed, part_length, parts_in_order}
 use Rattle.solid_parts.specs.Boundary.{apex_of, outer_of, turned}
 use Rattle.solid_parts.specs.Laws.{EdgesAreEven, has_both}
@@ -509,7 +509,7 @@ no_third s t q r u a k i j l f g h m n o =
 -- so every pair of points lies in an even number of the boundary's triples
 pub edges_are_even : EdgesAreEven
 edges_are_even s cells x y a k d f n =
-    odd_given p outer_of (with_cells ts all)
+    odd_given p outer_of (with_cells_around ts all)
     ∙ odd_mapped (λ (v : List ℕ × List Cell). passes p (outer_of v)) (λ t. (t, cells_with t all)) ts
     ∙ odd_on (λ t. passes p (outer_of (t, cells_with t all))) (λ t. odd (λ q. p t && has_all t q) cells) ts single
     ∙ odd_swap (λ t q. p t && has_all t q) ts cells

@@ -38,7 +38,7 @@ use Rattle.list_laws.proofs.Cited.{
 }
 use Rattle.point_order.specs.declared.cell.Cell.{Cell}
 use Rattle.face_list.specs.Seen.{FaceLists}
-use Rattle.face_list.specs.Tables.{numbered}
+use Rattle.face_list.specs.Tables.{cells_numbered}
 use Rattle.solid_parts.specs.declared.links.Link.{Link}
 use Rattle.solid_parts.specs.Links.{AreLinksBelow, AreLinked, HasLinks, IsLinked, KeepsLinks, link_between}
 use Rattle.solid_parts.proofs.Merging.{own_value}
@@ -178,7 +178,8 @@ still_linked faces leasts old new triple keeps l = record {
 
 -- with the links of the next triple, one triple more is linked
 pub triple_more : (faces : FaceLists) (leasts : List ℕ) (k : ℕ) (numbers : List ℕ) (old new : List Link)
-    → numbered faces.cells numbers ≡ (get_or faces.triples k ([], [])).1 → All (λ n. n < length faces.cells) numbers
+    → cells_numbered faces.cells numbers ≡ (get_or faces.triples k ([], [])).1 →
+    All (λ n. n < length faces.cells) numbers
     → TriplesSoFar faces leasts k old → KeepsLinks old new → HasLinks leasts numbers numbers new →
     AreLinksBelow (length leasts) new
     → TriplesSoFar faces leasts (k + 1) new

@@ -33,7 +33,7 @@ use Rattle.list_laws.specs.Lists.{IsIn}
 use Rattle.list_laws.proofs.Cited.{at_in, each_of_all}
 use Rattle.point_order.specs.declared.cell.Cell.{Cell}
 use Rattle.face_list.specs.Seen.{FaceLists}
-use Rattle.face_list.specs.Tables.{cell_at, numbered}
+use Rattle.face_list.specs.Tables.{cell_at, cells_numbered}
 use Rattle.solid_parts.specs.Groups.{AreAllJoined, AreJoinedAll, IsMarkedAt, LeadDown, LeadTo, MeetsMarked, label_at}
 use Rattle.solid_parts.specs.Labels.{HaveOneLabel, AreBeside, AreLabels, IsPath}
 use Rattle.solid_parts.proofs.Leading.{each_down, each_itself}
@@ -57,7 +57,7 @@ path_then faces marks i (m ∷ path) j more k p q = (p.0, path_then faces marks 
 
 -- the cell of a number is among the cells of some numbers
 pub cell_in : (cells : List Cell) (numbers : List ℕ) (u : ℕ) → IsIn u numbers →
-    IsIn (cell_at cells u) (numbered cells numbers)
+    IsIn (cell_at cells u) (cells_numbered cells numbers)
 cell_in cells [] u i = absurd i
 cell_in cells (n ∷ numbers) u (inl e) = inl (ap (cell_at cells) e)
 cell_in cells (n ∷ numbers) u (inr i) = inr (cell_in cells numbers u i)
@@ -109,7 +109,7 @@ alike_after faces marks numbers old new triple n j a = record {
 -- with the next triple's cells joined they are right for one triple more
 pub labels_next :
     (faces : FaceLists) (marks : List Bool) (k : ℕ) (numbers old new : List ℕ) → k < length faces.triples →
-    numbered faces.cells numbers ≡ (get_or faces.triples k ([], [])).1 →
+    cells_numbered faces.cells numbers ≡ (get_or faces.triples k ([], [])).1 →
     All (λ n. n < length faces.cells) numbers → AreLabels faces marks k old → AreJoinedAll marks numbers old new →
     AreLabels faces marks (k + 1) new
 labels_next faces marks k numbers old new h e below l j = record {
@@ -187,7 +187,8 @@ leads_count faces marks k leads l = sym l.leads_to.count ∙ l.are_labels.count
 -- with the next triple's cells joined they lead to labels that are right for one more
 pub leads_next :
     (faces : FaceLists) (marks : List Bool) (k : ℕ) (numbers old new : List ℕ) → k < length faces.triples
-    → numbered faces.cells numbers ≡ (get_or faces.triples k ([], [])).1 → All (λ n. n < length faces.cells) numbers
+    → cells_numbered faces.cells numbers ≡ (get_or faces.triples k ([], [])).1 →
+    All (λ n. n < length faces.cells) numbers
     → LeadToLabels faces marks k old → LeadDown new
     → ((labels : List ℕ) → LeadTo old labels → AreAllJoined marks numbers labels new) →
     LeadToLabels faces marks (k + 1) new

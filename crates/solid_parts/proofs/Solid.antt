@@ -59,7 +59,7 @@ use Rattle.point_order.proofs.Cited.{cell_self}
 use Rattle.del_laws.proofs.Cited.{complex_is_sorted, part_ascending, part_inside, part_true}
 use Rattle.face_list.specs.Faces.{cells_with, full_cells, parts_in}
 use Rattle.face_list.specs.Seen.{FaceLists}
-use Rattle.face_list.specs.Tables.{cell_at, numbered}
+use Rattle.face_list.specs.Tables.{cell_at, cells_numbered}
 use Rattle.face_list.proofs.Cited.{
   full_cell_is_listed,
   listed_is_full_cell,
@@ -280,7 +280,7 @@ module _ (s : List ℕ) (faces : FaceLists) (alpha : ℕ) (labels : List ℕ) (g
       record { chain = c.0 ∷ rest.chain; joins = (admitted_from c.0 m c.1, step_from q c.0 i m n c.1 p.0, rest.joins) }
 
   -- the number of a cell among some numbers
-  number_in : (q : List ℕ) (numbers : List ℕ) → IsIn (Full q) (numbered faces.cells numbers) → (u : ℕ) ×
+  number_in : (q : List ℕ) (numbers : List ℕ) → IsIn (Full q) (cells_numbered faces.cells numbers) → (u : ℕ) ×
       IsIn u numbers × (cell_at faces.cells u ≡ Full q)
   number_in q numbers i = mapped_from (cell_at faces.cells) (Full q) numbers i
 

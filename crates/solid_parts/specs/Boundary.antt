@@ -5,7 +5,7 @@ use Rattle.point_order.specs.declared.cell.Cell.{Cell}
 use Rattle.point_order.specs.declared.cell.Cell.TheVariants.{Full, Open}
 use Rattle.point_order.specs.Orientation.{orientation}
 use Rattle.point_order.specs.Sets.{is_among}
-use Rattle.face_list.specs.Faces.{parts_in, with_cells}
+use Rattle.face_list.specs.Faces.{parts_in, with_cells_around}
 
 -- the fourth point of a cell that has the three
 abbrev pub apex_of : List ℕ → List ℕ → ℕ
@@ -27,4 +27,4 @@ outer_of (t, c ∷ d ∷ cells) = None
 
 -- the boundary of some cells: the triples that exactly one has, in the order of the triples before they are turned
 abbrev pub boundary_of : List (List ℕ) → List (List ℕ)
-boundary_of cells = filter_map outer_of (with_cells (parts_in 3 (map Full cells)) (map Full cells))
+boundary_of cells = filter_map outer_of (with_cells_around (parts_in 3 (map Full cells)) (map Full cells))

@@ -3,7 +3,7 @@ use Rattle.std.specs.Prelude.{◌≡◌, ◌<◌, ℕ, Bool, All, List, [], ◌�
 use Rattle.point_order.specs.declared.cell.Cell.{Cell}
 use Rattle.list_laws.specs.Lists.{IsIn}
 use Rattle.face_list.specs.Seen.{FaceLists}
-use Rattle.face_list.specs.Tables.{cell_at, numbered}
+use Rattle.face_list.specs.Tables.{cell_at, cells_numbered}
 use Rattle.solid_parts.specs.Groups.{AreTogether, IsMarkedAt, label_at}
 
 -- two marked cells, told by their numbers, share a triple that is listed
@@ -24,7 +24,7 @@ IsPath faces marks i (m ∷ path) j = AreBeside faces marks i m × IsPath faces 
 pub record HaveOneLabel (faces : FaceLists) (marks : List Bool) (labels : List ℕ) (triple : List ℕ × List Cell) : Type 0
   where
     pub numbers : List ℕ
-    pub around : numbered faces.cells numbers ≡ triple.1
+    pub around : cells_numbered faces.cells numbers ≡ triple.1
     pub below : All (λ n. n < length faces.cells) numbers
     pub alike : (u v : ℕ) → IsIn u numbers → IsIn v numbers → IsMarkedAt marks u → IsMarkedAt marks v →
         AreTogether labels u v

@@ -5,7 +5,7 @@ use Rattle.std.specs.List.Sorted.{IsNonDecreasingBy}
 use Rattle.list_laws.specs.Lists.{IsIn}
 use Rattle.point_order.specs.declared.cell.Cell.{Cell}
 use Rattle.face_list.specs.Seen.{FaceLists}
-use Rattle.face_list.specs.Tables.{numbered}
+use Rattle.face_list.specs.Tables.{cells_numbered}
 use Rattle.solid_parts.specs.declared.links.Link.{Link}
 use Rattle.solid_parts.specs.declared.climb.Climb.{Climb}
 use Rattle.solid_parts.specs.Groups.{AreTogether, LeadTo, label_at}
@@ -35,7 +35,7 @@ AreLinksBelow count links = All (λ l. (l.one < count) × (l.other < count)) lin
 pub record IsLinked (faces : FaceLists) (leasts : List ℕ) (links : List Link)
     (triple : List ℕ × List Cell) : Type 0 where
   pub numbers : List ℕ
-  pub around : numbered faces.cells numbers ≡ triple.1
+  pub around : cells_numbered faces.cells numbers ≡ triple.1
   pub below : All (λ n. n < length faces.cells) numbers
   pub has : HasLinks leasts numbers numbers links
 

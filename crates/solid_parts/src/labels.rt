@@ -1,7 +1,7 @@
 //! Labels of cells: those that chains join have one.
 
 ghost use Rattle.std.specs.Prelude.{◌≡◌, ◌<◌, [], All, length, slice_index_or, IfOk};
-ghost use Rattle.face_list.specs.Tables.{numbered};
+ghost use Rattle.face_list.specs.Tables.{cells_numbered};
 ghost use Rattle.std.specs.List.{range_with_len};
 ghost use Rattle.solid_parts.specs.Labels.{AreLabels};
 
@@ -27,7 +27,7 @@ pub fn numbers_below(alloc: Global, count: usize) -> Result<Vec<u32>, AllocError
 /// The numbers of the cells around the triple of an index.
 pub fn around<'a>(faces: &'a Faces<'_>, index: usize) -> &'a [u32]
     requires { index < length faces.now.triples }
-    ensures cells { numbered faces.now.cells result.now ≡ (slice_index_or faces.now.triples index ([], [])).1 }
+    ensures cells { cells_numbered faces.now.cells result.now ≡ (slice_index_or faces.now.triples index ([], [])).1 }
     ensures below { All (λ n. n < length faces.now.cells) result.now }
 {
     let (_, numbers) = faces.triple(index);

@@ -3,7 +3,8 @@ use Rattle.std.proofs.Common.{◌≡◌, ◌∙◌, refl, sym, ℕ, ◌+◌, ◌
 use Rattle.std.specs.Prelude.{Option, None, Some, map, codes, decimal}
 use Rattle.std.specs.List.{concat}
 use Rattle.std.proofs.lemmas.List.{length-map}
-use Rattle.text_sheets.specs.Lines.{block, held, held_line}
+use Rattle.text_sheets.specs.Lines.{block, held_line}
+use Rattle.list_laws.specs.Lists.{held}
 use Rattle.text_sheets.specs.Sheets.{Puts}
 use Rattle.text_sheets.specs.declared.sheet.Sheet.{Sheet}
 use Rattle.text_sheets.proofs.Places.{below_end, own_item, past_end}

@@ -1,5 +1,5 @@
 -- Lines of text: numbers in decimal, with one space between two of them, and a line feed at the end.
-use Rattle.std.specs.Prelude.{ℕ, List, [], ◌∷◌, ◌++◌, codes, decimal, length, filter_map, Option, None, Some}
+use Rattle.std.specs.Prelude.{ℕ, List, [], ◌∷◌, ◌++◌, codes, decimal, length, Option, None, Some}
 use Rattle.std.specs.List.{concat}
 
 -- the numbers in decimal, parted by one space each
@@ -15,10 +15,6 @@ numbers_line ns = spaced ns ++ codes "\n"
 -- a title and how many lines follow, and then the lines
 abbrev pub block : List ℕ → List (List ℕ) → List ℕ
 block title lines = title ++ codes " " ++ decimal (length lines) ++ codes "\n" ++ concat lines
-
--- what slots hold, in their order
-abbrev pub held : {X : Type 0} → List (Option X) → List X
-held slots = filter_map (λ slot. slot) slots
 
 -- the line of what a slot holds, and nothing where it is empty
 abbrev pub held_line : {X : Type 0} → (X → List ℕ) → Option X → List ℕ

@@ -38,7 +38,7 @@ use Rattle.point_order.specs.Orientation.{
   orientation,
   distance,
 }
-use Rattle.vertex_removal.specs.Balls.{IsBallOf, last_of}
+use Rattle.vertex_removal.specs.Balls.{IsBallOf, last_of_ball}
 use Rattle.vertex_removal.specs.declared.ball.Ball.{Ball}
 use Rattle.point_order.proofs.Cited.{sphere_from_first}
 
@@ -110,7 +110,7 @@ by_sign s o r n f h =
 
 -- a sphere whose last point is another than the next
 pub ball_apart : (a b c : ℕ) (best : Option Ball) (e : ℕ) → IfSome best (IsBallOf a b c) →
-    IfSome (last_of best) (λ d. (pos 0 <ℤ orientation a b c d) × (d ≢ e)) →
+    IfSome (last_of_ball best) (λ d. (pos 0 <ℤ orientation a b c d) × (d ≢ e)) →
     IfSome best (λ ball. IsBallOf a b c ball × (ball.last ≢ e))
 ball_apart a b c None e k n = tt
 ball_apart a b c (Some ball) e k n = (k, n.1)

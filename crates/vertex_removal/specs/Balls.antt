@@ -11,8 +11,8 @@ abbrev pub greatest_mixed : ℕ
 greatest_mixed = 1296720062323752978
 
 -- such a number times a square
-abbrev pub greatest_term : ℕ
-greatest_term = 1044129454823828663600873526
+abbrev pub greatest_ball_term : ℕ
+greatest_ball_term = 1044129454823828663600873526
 
 -- The last point is above a, b, c. Of each point the in-sphere polynomial is the height times the square of its
 -- distance from a, less the product of the step to it and (x, y, z).
@@ -26,6 +26,6 @@ pub record IsBallOf (a b c : ℕ) (ball : Ball) : Type 0 where
   pub z_within : IsWithin greatest_mixed ball.z
 
 -- the last point, if there is one
-abbrev pub last_of : Option Ball → Option ℕ
-last_of None = None
-last_of (Some ball) = Some ball.last
+abbrev pub last_of_ball : Option Ball → Option ℕ
+last_of_ball None = None
+last_of_ball (Some ball) = Some ball.last

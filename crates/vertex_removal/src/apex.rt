@@ -3,7 +3,7 @@
 ghost use Rattle.std.specs.Prelude.{◌≡◌, ◌≢◌, pos, ◌<ℤ◌, ◌↔◌, IfSome, IsTrue};
 ghost use Rattle.point_order.specs.Orientation.{orientation};
 ghost use Rattle.point_order.specs.Sets.{IsAscending};
-ghost use Rattle.vertex_removal.specs.Balls.{IsBallOf, last_of};
+ghost use Rattle.vertex_removal.specs.Balls.{IsBallOf, last_of_ball};
 ghost use Rattle.vertex_removal.specs.Wraps.{leader_of, IsApex};
 
 use crate::ball::Ball;
@@ -23,7 +23,7 @@ pub(crate) fn is_over(a: Point, b: Point, c: Point, p: Point) -> bool
 fn leader(a: Point, b: Point, c: Point, best: Option<Ball>, next: Point) -> Ball
     requires above { pos 0 <ℤ orientation a b c next }
     requires best { IfSome best (λ ball. IsBallOf a b c ball × (ball.last ≢ next)) }
-    ensures leads { result.last ≡ leader_of a b c (last_of best) next }
+    ensures leads { result.last ≡ leader_of a b c (last_of_ball best) next }
     ensures ball { IsBallOf a b c result }
 {
     match best {

@@ -7,7 +7,7 @@ ghost use Rattle.point_order.specs.Orientation.{orientation};
 ghost use Rattle.point_order.specs.Sets.{AreFive};
 ghost use Rattle.point_order.specs.Sizes.{greatest_minor, greatest_square};
 ghost use Rattle.point_order.specs.Spheres.{is_outside};
-ghost use Rattle.vertex_removal.specs.Balls.{IsBallOf, greatest_mixed, greatest_term};
+ghost use Rattle.vertex_removal.specs.Balls.{IsBallOf, greatest_mixed, greatest_ball_term};
 
 use point_order::{Point, Step};
 use sphere_ties::outside;
@@ -42,17 +42,17 @@ fn term(p: i64, q: i64) -> i128
     requires p { IsWithin greatest_mixed p }
     requires q { IsWithin greatest_square q }
     ensures value { result ≡ p *ℤ q }
-    ensures bound { IsWithin greatest_term result }
+    ensures bound { IsWithin greatest_ball_term result }
 {
     p as i128 * q as i128
 }
 
 // p - q - r - s
 fn less_three(p: i128, q: i128, r: i128, s: i128) -> i128
-    requires p { IsWithin greatest_term p }
-    requires q { IsWithin greatest_term q }
-    requires r { IsWithin greatest_term r }
-    requires s { IsWithin greatest_term s }
+    requires p { IsWithin greatest_ball_term p }
+    requires q { IsWithin greatest_ball_term q }
+    requires r { IsWithin greatest_ball_term r }
+    requires s { IsWithin greatest_ball_term s }
     ensures { result ≡ p -ℤ q -ℤ r -ℤ s }
 {
     p - q - r - s

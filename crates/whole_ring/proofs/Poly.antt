@@ -30,7 +30,6 @@ use Rattle.whole_ring.specs.Poly.{
   ◌⊕◌,
   ◌⊗◌,
   minus,
-  at,
   value,
   Sum,
   num,
@@ -53,6 +52,7 @@ use Rattle.whole_ring.specs.Poly.{
   given,
   combined,
   Hold,
+  entry_at,
 }
 
 -- ---- small laws, one for each step below
@@ -93,8 +93,8 @@ pick_is false f g xs z h k = k
 
 -- `made` means what `node` means, q being 0 or not
 pub made_is : (i : ℕ) (p q : Sum) (xs : List ℤ) → sum_value (made i p q) xs ≡ sum_value p xs
-    +ℤ at xs i *ℤ sum_value q xs
-made_is i p (num (pos zero)) xs = sym (no_rest (sum_value p xs) (at xs i))
+    +ℤ entry_at xs i *ℤ sum_value q xs
+made_is i p (num (pos zero)) xs = sym (no_rest (sum_value p xs) (entry_at xs i))
 made_is i p (num (pos (suc n))) xs = refl
 made_is i p (num (negsuc n)) xs = refl
 made_is i p (node j r s) xs = refl
@@ -103,8 +103,8 @@ made_is i p (node j r s) xs = refl
 add_num_is : (c : ℤ) (p : Sum) (xs : List ℤ) → sum_value (add_num c p) xs ≡ c +ℤ sum_value p xs
 add_num_is c (num d) xs = refl
 add_num_is c (node i p q) xs =
-    ap (λ n. n +ℤ at xs i *ℤ sum_value q xs) (add_num_is c p xs)
-    ∙ +ℤ_assoc c (sum_value p xs) (at xs i *ℤ sum_value q xs)
+    ap (λ n. n +ℤ entry_at xs i *ℤ sum_value q xs) (add_num_is c p xs)
+    ∙ +ℤ_assoc c (sum_value p xs) (entry_at xs i *ℤ sum_value q xs)
 
 -- what is added to the first part of a node is added to the node
 aside : (p r x y : ℤ) → (p +ℤ r) +ℤ x ≡ (p +ℤ x) +ℤ r
@@ -118,26 +118,28 @@ last p r x = omega (arith, ints)
 add_node_is : (i : ℕ) (p q : Sum) (f g : Sum → Sum) (xs : List ℤ) →
     ((t : Sum) → sum_value (f t) xs ≡ sum_value p xs +ℤ sum_value t xs) →
     ((t : Sum) → sum_value (g t) xs ≡ sum_value q xs +ℤ sum_value t xs) → (t : Sum) →
-    sum_value (add_node i p q f g t) xs ≡ (sum_value p xs +ℤ at xs i *ℤ sum_value q xs) +ℤ sum_value t xs
+    sum_value (add_node i p q f g t) xs ≡ (sum_value p xs +ℤ entry_at xs i *ℤ sum_value q xs) +ℤ sum_value t xs
 add_node_is i p q f g xs hf hg (num c) =
-    ap (λ n. n +ℤ at xs i *ℤ sum_value q xs) (add_num_is c p xs)
-    ∙ swap_last (sum_value p xs) (at xs i) (sum_value q xs) c
+    ap (λ n. n +ℤ entry_at xs i *ℤ sum_value q xs) (add_num_is c p xs)
+    ∙ swap_last (sum_value p xs) (entry_at xs i) (sum_value q xs) c
 add_node_is i p q f g xs hf hg (node j r s) =
     let P = sum_value p xs in
     let Q = sum_value q xs in
     let R = sum_value r xs in
     let S = sum_value s xs in
     pick_is (eqb i j) (λ u. made i (f r) (g s)) (λ u. pick (ltb i j) (λ v. node i (f (node j r s)) q)
-    (λ v. node j (add_node i p q f g r) s)) xs ((P +ℤ at xs i *ℤ Q) +ℤ (R +ℤ at xs j *ℤ S))
+    (λ v. node j (add_node i p q f g r) s)) xs ((P +ℤ entry_at xs i *ℤ Q) +ℤ (R +ℤ entry_at xs j *ℤ S))
     (λ t.
     made_is i (f r) (g s) xs
-    ∙ ap₂ (λ m n. m +ℤ at xs i *ℤ n) (hf r) (hg s)
-    ∙ sums P R (at xs i) Q S
-    ∙ ap (λ n. (P +ℤ at xs i *ℤ Q) +ℤ (R +ℤ at xs n *ℤ S)) (eqb→eq i j t))
+    ∙ ap₂ (λ m n. m +ℤ entry_at xs i *ℤ n) (hf r) (hg s)
+    ∙ sums P R (entry_at xs i) Q S
+    ∙ ap (λ n. (P +ℤ entry_at xs i *ℤ Q) +ℤ (R +ℤ entry_at xs n *ℤ S)) (eqb→eq i j t))
     (pick_is (ltb i j) (λ v. node i (f (node j r s)) q) (λ v. node j (add_node i p q f g r) s) xs
-    ((P +ℤ at xs i *ℤ Q) +ℤ (R +ℤ at xs j *ℤ S))
-    (λ t. ap (λ n. n +ℤ at xs i *ℤ Q) (hf (node j r s)) ∙ aside P (R +ℤ at xs j *ℤ S) (at xs i *ℤ Q) P)
-    (ap (λ n. n +ℤ at xs j *ℤ S) (add_node_is i p q f g xs hf hg r) ∙ last (P +ℤ at xs i *ℤ Q) R (at xs j *ℤ S)))
+    ((P +ℤ entry_at xs i *ℤ Q) +ℤ (R +ℤ entry_at xs j *ℤ S))
+    (λ t. ap (λ n. n +ℤ entry_at xs i *ℤ Q) (hf (node j r s))
+    ∙ aside P (R +ℤ entry_at xs j *ℤ S) (entry_at xs i *ℤ Q) P)
+    (ap (λ n. n +ℤ entry_at xs j *ℤ S) (add_node_is i p q f g xs hf hg r)
+    ∙ last (P +ℤ entry_at xs i *ℤ Q) R (entry_at xs j *ℤ S)))
 
 -- polynomials are added
 pub add_sum_is : (p t : Sum) (xs : List ℤ) → sum_value (add_sum p t) xs ≡ sum_value p xs +ℤ sum_value t xs
@@ -149,15 +151,15 @@ add_sum_is (node i p q) t xs =
 pub neg_sum_is : (p : Sum) (xs : List ℤ) → sum_value (neg_sum p) xs ≡ neg_ℤ (sum_value p xs)
 neg_sum_is (num c) xs = refl
 neg_sum_is (node i p q) xs =
-    ap₂ (λ m n. m +ℤ at xs i *ℤ n) (neg_sum_is p xs) (neg_sum_is q xs)
-    ∙ negated (sum_value p xs) (at xs i) (sum_value q xs)
+    ap₂ (λ m n. m +ℤ entry_at xs i *ℤ n) (neg_sum_is p xs) (neg_sum_is q xs)
+    ∙ negated (sum_value p xs) (entry_at xs i) (sum_value q xs)
 
 -- a polynomial is multiplied by a number
 times_num_is : (c : ℤ) (p : Sum) (xs : List ℤ) → sum_value (times_num c p) xs ≡ c *ℤ sum_value p xs
 times_num_is c (num d) xs = refl
 times_num_is c (node i p q) xs =
-    ap₂ (λ m n. m +ℤ at xs i *ℤ n) (times_num_is c p xs) (times_num_is c q xs)
-    ∙ outside c (sum_value p xs) (at xs i) (sum_value q xs)
+    ap₂ (λ m n. m +ℤ entry_at xs i *ℤ n) (times_num_is c p xs) (times_num_is c q xs)
+    ∙ outside c (sum_value p xs) (entry_at xs i) (sum_value q xs)
 
 -- the same, where the number may be 0
 scale_is : (c : ℤ) (p : Sum) (xs : List ℤ) → sum_value (scale c p) xs ≡ c *ℤ sum_value p xs
@@ -166,14 +168,14 @@ scale_is (pos (suc n)) p xs = times_num_is (pos (suc n)) p xs
 scale_is (negsuc n) p xs = times_num_is (negsuc n) p xs
 
 -- a polynomial is multiplied by a variable
-pub times_var_is : (i : ℕ) (p : Sum) (xs : List ℤ) → sum_value (times_var i p) xs ≡ at xs i *ℤ sum_value p xs
-times_var_is i (num c) xs = made_is i (num (pos 0)) (num c) xs ∙ +ℤ_idl (at xs i *ℤ c)
+pub times_var_is : (i : ℕ) (p : Sum) (xs : List ℤ) → sum_value (times_var i p) xs ≡ entry_at xs i *ℤ sum_value p xs
+times_var_is i (num c) xs = made_is i (num (pos 0)) (num c) xs ∙ +ℤ_idl (entry_at xs i *ℤ c)
 times_var_is i (node j r s) xs =
     pick_is (ltb j i) (λ u. node j (times_var i r) (times_var i s)) (λ u. node i (num (pos 0)) (node j r s)) xs
-    (at xs i *ℤ (sum_value r xs +ℤ at xs j *ℤ sum_value s xs))
-    (λ t. ap₂ (λ m n. m +ℤ at xs j *ℤ n) (times_var_is i r xs) (times_var_is i s xs)
-    ∙ outside (at xs i) (sum_value r xs) (at xs j) (sum_value s xs))
-    (+ℤ_idl (at xs i *ℤ (sum_value r xs +ℤ at xs j *ℤ sum_value s xs)))
+    (entry_at xs i *ℤ (sum_value r xs +ℤ entry_at xs j *ℤ sum_value s xs))
+    (λ t. ap₂ (λ m n. m +ℤ entry_at xs j *ℤ n) (times_var_is i r xs) (times_var_is i s xs)
+    ∙ outside (entry_at xs i) (sum_value r xs) (entry_at xs j) (sum_value s xs))
+    (+ℤ_idl (entry_at xs i *ℤ (sum_value r xs +ℤ entry_at xs j *ℤ sum_value s xs)))
 
 -- a node times a number
 put_together : (p i q t : ℤ) → p *ℤ t +ℤ i *ℤ (q *ℤ t) ≡ (p +ℤ i *ℤ q) *ℤ t
@@ -185,12 +187,12 @@ mul_sum_is (num c) t xs = scale_is c t xs
 mul_sum_is (node i p q) t xs =
     add_sum_is (mul_sum p t) (times_var i (mul_sum q t)) xs
     ∙ ap₂ (λ m n. m +ℤ n) (mul_sum_is p t xs) (times_var_is i (mul_sum q t) xs
-    ∙ ap (λ n. at xs i *ℤ n) (mul_sum_is q t xs))
-    ∙ put_together (sum_value p xs) (at xs i) (sum_value q xs) (sum_value t xs)
+    ∙ ap (λ n. entry_at xs i *ℤ n) (mul_sum_is q t xs))
+    ∙ put_together (sum_value p xs) (entry_at xs i) (sum_value q xs) (sum_value t xs)
 
 -- the polynomial of an expression has its value
 pub sum_of_is : (e : Expr) (xs : List ℤ) → sum_value (sum_of e) xs ≡ value e xs
-sum_of_is (var n) xs = var_head (at xs n)
+sum_of_is (var n) xs = var_head (entry_at xs n)
 sum_of_is (lit c) xs = refl
 sum_of_is (a ⊕ b) xs = add_sum_is (sum_of a) (sum_of b) xs ∙ ap₂ (λ m n. m +ℤ n) (sum_of_is a xs) (sum_of_is b xs)
 sum_of_is (a ⊗ b) xs = mul_sum_is (sum_of a) (sum_of b) xs ∙ ap₂ (λ m n. m *ℤ n) (sum_of_is a xs) (sum_of_is b xs)

@@ -51,13 +51,13 @@ tail [] = []
 tail (x ∷ xs) = xs
 
 -- the number at a place of a list, and 0 past its end
-abbrev pub at : List ℤ → ℕ → ℤ
-at xs zero = head xs
-at xs (suc n) = at (tail xs) n
+abbrev pub entry_at : List ℤ → ℕ → ℤ
+entry_at xs zero = head xs
+entry_at xs (suc n) = entry_at (tail xs) n
 
 -- what an expression stands for, where the variables have the values of a list
 abbrev pub value : Expr → List ℤ → ℤ
-value (var n) xs = at xs n
+value (var n) xs = entry_at xs n
 value (lit c) xs = c
 value (a ⊕ b) xs = value a xs +ℤ value b xs
 value (a ⊗ b) xs = value a xs *ℤ value b xs
@@ -74,7 +74,7 @@ pub data Sum : Type 0 where
 -- the value of a polynomial
 abbrev pub sum_value : Sum → List ℤ → ℤ
 sum_value (num c) xs = c
-sum_value (node i p q) xs = sum_value p xs +ℤ at xs i *ℤ sum_value q xs
+sum_value (node i p q) xs = sum_value p xs +ℤ entry_at xs i *ℤ sum_value q xs
 
 -- the first where the test is true, else the second; only the one that is picked is computed
 abbrev pub pick : Bool → (Unit {0} → Sum) → (Unit {0} → Sum) → Sum

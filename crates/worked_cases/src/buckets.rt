@@ -2,7 +2,7 @@
 
 ghost use Rattle.std.specs.Prelude.{◌≡◌, ◌+◌, ◌*◌, ◌<◌, ◌≤◌, Some, IsSome, IfOk, length};
 ghost use Rattle.cell_store.specs.Grids.{bucket_of as number_of};
-ghost use Rattle.cell_store.specs.Buckets.{bucket_at, points_in};
+ghost use Rattle.cell_store.specs.Buckets.{bucket_at, points_at};
 ghost use Rattle.cell_store.specs.Shares.{ShowsWith, Stands, share_at};
 ghost use Rattle.cell_store.specs.Meshes.{StandsForSome};
 
@@ -85,7 +85,7 @@ fn put_first(answer: &mut Answer, hold: &Hold, p: Point)
 fn searched<'a, L: Ledger>(hold: &'a Hold, p: Point, steps: &mut Steps<L>) -> Star<'a>
     requires stands { StandsForSome hold.now }
     requires bucket { IsSome (bucket_at hold.now.places (number_of hold.now.grid p)) }
-    ensures { length (points_in hold.now.places (number_of hold.now.grid p)) ≤ 4 → steps.new ≤ steps.old + 3 }
+    ensures { length (points_at hold.now.places (number_of hold.now.grid p)) ≤ 4 → steps.new ≤ steps.old + 3 }
 {
     hold.star_counted(p, steps)
 }

@@ -1,7 +1,7 @@
 use Rattle.std.proofs.Common.{◌∙◌, List, [], ℕ, sym}
 use Rattle.std.specs.Prelude.{None}
 use Rattle.point_order.specs.declared.cell.Cell.{Cell}
-use Rattle.alpha_complex.specs.Kinds.{part_kind, part_of}
+use Rattle.alpha_complex.specs.Kinds.{part_kind, faces_of_part}
 use Rattle.alpha_complex.proofs.Leasts.{written_is_map}
 use Rattle.alpha_complex.proofs.kinds.part_by_threads.Goals as goal
 
@@ -10,7 +10,7 @@ returns g c =
     let level = c.args.level.now in
     let part = c.args.part in
     written_is_map (λ (f : List ℕ × List Cell). part_kind part level.faces.now level.alpha f) ([], []) None
-    (part_of part level.faces.now) _ _ _ _
+    (faces_of_part part level.faces.now) _ _ _ _
     c.deref_mut.ensures.value c.deref_mut.ensures.len (c.in_ok-kinds.ensures.len ∙ c.count_of.ensures)
     c.par_for_each_mut.auto.s (λ i l.
     let at = (c.par_for_each_mut.ensures i None l).1 in

@@ -2,7 +2,8 @@
 use Rattle.std.proofs.Common.{drop}
 use Rattle.std.specs.Prelude.{map, codes}
 use Rattle.std.specs.List.{concat}
-use Rattle.text_sheets.specs.Lines.{block, held}
+use Rattle.text_sheets.specs.Lines.{block}
+use Rattle.list_laws.specs.Lists.{held}
 use Rattle.text_sheets.proofs.Cited.{PutsBut}
 use Rattle.alpha_steps.specs.Text.{step_line}
 use Rattle.alpha_steps.proofs.texts.put_cells.Given as goal

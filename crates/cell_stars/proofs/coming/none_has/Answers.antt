@@ -3,7 +3,7 @@ use Rattle.list_laws.proofs.Cited.{each_more, each_taken}
 use Rattle.point_order.specs.declared.cell.Cell.{Cell}
 use Rattle.point_order.specs.Facets.{points_of}
 use Rattle.point_order.specs.Sets.{IsIn}
-use Rattle.cell_stars.specs.Places.{at}
+use Rattle.cell_stars.specs.Places.{at_slot}
 use Rattle.cell_stars.proofs.MoveLaws.{lacks_here}
 use Rattle.cell_stars.proofs.coming.none_has.Goals as goal
 use Rattle.cell_stars.proofs.coming.none_has.Goals.{in-Some+else-has_vertex, in_default}
@@ -14,7 +14,7 @@ loop-i-preserved c =
     let star = c.args.star.now in
     let p = c.args.p in
     let x = get_or star c.loop-i.i-index 0 in
-    each_more (λ i. (d : Cell) → at slots i ≡ Some d → IsIn p (points_of d) →
+    each_more (λ i. (d : Cell) → at_slot slots i ≡ Some d → IsIn p (points_of d) →
     ⊥) star c.loop-i.i-index x 0 c.loop-i-test.true refl c.loop-i.invariant
     (elim c.match-cell_at.branch [
       | in-Some+else-has_vertex w ↦ lacks_here slots x p w.in-Some.cell.now w.has_vertex.result w.in-Some.ensures
@@ -23,5 +23,5 @@ loop-i-preserved c =
     ])
 
 pub returns : goal.returns
-returns c t i m = each_taken (λ i. (d : Cell) → at c.args.slots.now i ≡ Some d → IsIn c.args.p (points_of d) →
+returns c t i m = each_taken (λ i. (d : Cell) → at_slot c.args.slots.now i ≡ Some d → IsIn c.args.p (points_of d) →
     ⊥) c.args.star.now c.loop-i.i-index c.loop-i-test.false c.loop-i.invariant i m

@@ -2,7 +2,7 @@ use Rattle.std.proofs.Common.{sym, ◌∙◌, ap, drop, length}
 use Rattle.std.specs.Option.{option_map}
 use Rattle.list_laws.proofs.Cited.{front_is}
 use Rattle.cell_stars.specs.Plans.{or_else}
-use Rattle.cell_stars.specs.Turns.{kept}
+use Rattle.cell_stars.specs.Turns.{replaced}
 use Rattle.cell_stars.proofs.Turned.{part_back, part_below}
 use Rattle.cell_stars.proofs.turns.turn_back_part.Goals as goal
 
@@ -26,4 +26,4 @@ returns g c =
     rw e (part_back r.longer _ other r.before b.new.changes changes.items r.was b.new.list list.items _ r.part
     (b.auto.list ∙ ap length c.deref_mut.ensures.value) (b.ensures.list ∙ c.deref_mut.ensures.value)
     (b.ensures.changes ∙ c.deref_mut-2.ensures.value)
-    (c.turn_list.ensures.other ∙ ap (kept other) f) (c.turn_list.ensures.list ∙ ap (or_else other) f))
+    (c.turn_list.ensures.other ∙ ap (replaced other) f) (c.turn_list.ensures.list ∙ ap (or_else other) f))

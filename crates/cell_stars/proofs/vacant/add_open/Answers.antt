@@ -1,12 +1,12 @@
 use Rattle.std.proofs.Common.{◌≡◌, ℕ, None, arith}
-use Rattle.cell_stars.specs.Places.{at}
+use Rattle.cell_stars.specs.Places.{at_slot}
 use Rattle.cell_stars.proofs.MoveLaws.{open_more, open_same}
 use Rattle.cell_stars.proofs.vacant.add_open.Goals as goal
 use Rattle.cell_stars.proofs.vacant.add_open.Goals.{then-is_open+in_ok-push, else-is_open}
 
 pub loop-list-preserved : goal.loop-list-preserved
 loop-list-preserved c =
-    let P : ℕ → Type 0 = λ i. at c.args.slots.now i ≡ None in
+    let P : ℕ → Type 0 = λ i. at_slot c.args.slots.now i ≡ None in
     let old = c.args.list.now.items in
     elim c.if-is_open.branch [
       | then-is_open+in_ok-push w ↦ rw w.list-is

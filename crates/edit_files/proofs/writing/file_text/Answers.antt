@@ -4,7 +4,7 @@ use Rattle.edit_history.specs.declared.history.Edit.{Edit}
 use Rattle.edit_files.specs.Content.{Content, content}
 use Rattle.edit_files.specs.Lines.{text_of}
 use Rattle.edit_files.specs.Versions.{row}
-use Rattle.edit_files.specs.Writing.{edit_text, point_text}
+use Rattle.edit_files.specs.Writing.{edit_text, line_of_point}
 use Rattle.edit_files.proofs.Fronts.{to_radii}
 use Rattle.edit_files.proofs.Written.{ended_put, queries_put, title_put, to_radii_put}
 use Rattle.edit_files.proofs.writing.file_text.Goals as goal
@@ -16,12 +16,13 @@ returns c =
     let f : Content = content c.args.file.now in
     let begun = title_put (row f.version).title c.in_ok-text.text.items c.extend_from_slice.new.self.items
     (c.in_ok-text.ensures.items ∙ c.row-row.ensures.title) c.in_ok-extend_from_slice.ensures.items in
-    let so_far : c.put_radii.new.text.items ≡ text_of (to_radii f.version (map point_text f.points) (map edit_text
+    let so_far : c.put_radii.new.text.items ≡ text_of (to_radii f.version (map line_of_point f.points) (map edit_text
     f.edits) (map decimal f.radii)) =
     to_radii_put f c.extend_from_slice.new.self.items c.put_points.new.text.items c.extend_from_slice-2.new.self.items
     c.put_edits.new.text.items c.extend_from_slice-3.new.self.items c.put_radii.new.text.items
     begun
-    (c.in_ok-put_points.ensures ∙ ap (λ (l : List ℕ). c.extend_from_slice.new.self.items ++ text_of (map point_text l))
+    (c.in_ok-put_points.ensures
+    ∙ ap (λ (l : List ℕ). c.extend_from_slice.new.self.items ++ text_of (map line_of_point l))
     c.deref.ensures.value)
     c.in_ok-extend_from_slice-2.ensures.items
     (c.in_ok-put_edits.ensures ∙ ap (λ (l : List Edit). c.extend_from_slice-2.new.self.items ++ text_of (map edit_text
@@ -36,7 +37,7 @@ returns c =
           w.put_points-then-row.new.text.items c.extend_from_slice-4.new.self.items has so_far
           w.in_ok-extend_from_slice-4.ensures.items
           (w.in_ok-put_points-2.ensures ∙ ap (λ (l : List ℕ). w.extend_from_slice-then-row.new.self.items ++ text_of
-          (map point_text l)) w.deref-then-row.ensures.value)
+          (map line_of_point l)) w.deref-then-row.ensures.value)
           (rw (← w.text-is) c.in_ok-extend_from_slice-5.ensures.items)
       | else-row w ↦
           let none : (row f.version).queries ≡ false = sym c.row-row.ensures.queries ∙ w.if-row.false in

@@ -2,10 +2,11 @@
 use Rattle.std.proofs.Common.{◌≡◌, ◌++◌, drop}
 use Rattle.std.specs.Prelude.{map}
 use Rattle.edit_files.specs.Lines.{text_of}
-use Rattle.edit_files.specs.Writing.{point_text}
+use Rattle.edit_files.specs.Writing.{line_of_point}
 use Rattle.edit_files.proofs.writing.put_points.Given as goal
 
 abbrev pub invariant-loop-point : goal.invariant-loop-point
 invariant-loop-point l =
-    l.text.items ++ text_of (map point_text (drop l.point-index l.points)) ≡ l.fn.text.items ++ text_of (map point_text
+    l.text.items ++ text_of (map line_of_point (drop l.point-index l.points))
+    ≡ l.fn.text.items ++ text_of (map line_of_point
     l.points)

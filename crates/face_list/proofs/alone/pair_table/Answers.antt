@@ -5,7 +5,7 @@ use Rattle.point_order.specs.Subsets.{subsets}
 use Rattle.std.proofs.lemmas.Map.Lookups.{exact_bytes}
 use Rattle.std.proofs.lemmas.Result.{IfOk-weaker}
 use Rattle.point_order.specs.Facets.{points_of}
-use Rattle.face_list.specs.Gather.{AreItems, Gathers}
+use Rattle.face_list.specs.Gather.{AreItems, GathersItems}
 use Rattle.face_list.proofs.FaceLists.{items_name, parts_gathered}
 use Rattle.face_list.proofs.alone.pair_table.Goals as goal
 
@@ -26,5 +26,6 @@ returns-in-Some-clause-faces c = parts_gathered 2 c.args.cells.now c.in-Some.tab
 pub returns-in_ok-items-in-None-clause-faces : goal.returns-in_ok-items-in-None-clause-faces
 returns-in_ok-items-in-None-clause-faces c = IfOk-weaker c.gather.result _ _
     (λ t g. parts_gathered 2 c.args.cells.now t c.requires.ascending
-    (subst (λ (l : List (List ℕ × ℕ)). Gathers (slice_cmp nat_cmp) c.args.cells.now l t) c.in_ok-items-in-None.ensures
+    (subst (λ (l : List (List ℕ × ℕ)). GathersItems (slice_cmp nat_cmp) c.args.cells.now l t)
+    c.in_ok-items-in-None.ensures
     g)) c.gather.ensures.gathers

@@ -1,6 +1,6 @@
 use Rattle.std.proofs.Common.{◌∙◌, sym, subst, length, arith}
 use Rattle.std.proofs.lemmas.Option.{IfSome_then}
-use Rattle.face_list.specs.Gather.{Gathers, items_from}
+use Rattle.face_list.specs.Gather.{items_from, GathersItems}
 use Rattle.face_list.specs.Tables.{IsTable}
 use Rattle.face_list.proofs.FaceLists.{items_name}
 use Rattle.face_list.proofs.Growing.{gathered_all, gathered_table, gathers_own}
@@ -24,7 +24,7 @@ pub returns-clause-gathers : goal.returns-clause-gathers
 returns-clause-gathers g c =
     let cells = c.args.cells.now in
     IfSome_then c.whole.result c.whole.ensures
-    (λ t w. subst (Gathers g.K.Ord.cmp cells (items_from 0 g.K.Part.parts_of cells)) (sym w.0)
+    (λ t w. subst (GathersItems g.K.Ord.cmp cells (items_from 0 g.K.Part.parts_of cells)) (sym w.0)
     (gathered_all g.K.Ord.cmp g.met.K.Ord.total c.requires.exact cells _ _ c.in_ok-all.all c.in_ok-all.ensures.items
     (w.1 ∙ c.in_ok-room.ensures)))
 

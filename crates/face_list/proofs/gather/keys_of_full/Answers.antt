@@ -4,7 +4,7 @@ use Rattle.std.specs.declared.cmp.Ordering.TheVariants.{Less}
 use Rattle.std.proofs.lemmas.List.{take_more, take_all}
 use Rattle.list_laws.proofs.Cited.{at_in, before_next, in_end, sorted_none}
 use Rattle.point_order.specs.Sets.{IsIn}
-use Rattle.face_list.specs.Gather.{full_keys, is_full, item_cmp}
+use Rattle.face_list.specs.Gather.{full_keys, item_cmp, is_a_full_cell}
 use Rattle.face_list.specs.Tables.{cell_at}
 use Rattle.face_list.proofs.Gathering.{full_from, full_more, open_more, not_greater, cell_is}
 use Rattle.face_list.proofs.gather.keys_of_full.Goals as goal
@@ -41,8 +41,9 @@ loop-key-preserved g c =
     let t = take_more items n item c.loop-key-test.true ∙ ap (λ v. take n items ++ v ∷ []) (sym c.loop-key-item.is) in
     let inside = c.requires.numbers item (subst (λ v. IsIn v items) (sym c.loop-key-item.is)
     (at_in items n item c.loop-key-test.true)) in
-    let full : c.is_full.result ≡ is_full (cell_at cells item.1) =
-    c.is_full.ensures ∙ ap is_full (cell_is cells item.1 c.index-cells-number.result inside c.index-cells-number.is) in
+    let full : c.is_full.result ≡ is_a_full_cell (cell_at cells item.1) =
+    c.is_full.ensures ∙ ap is_a_full_cell
+    (cell_is cells item.1 c.index-cells-number.result inside c.index-cells-number.is) in
     elim c.if-is_full.branch [
       | then-is_full+in_ok-put_key w ↦ record {
         order = rw w.keys-is w.in_ok-put_key.ensures.order;

@@ -3,7 +3,7 @@ use Rattle.std.specs.Ordering.{nat_cmp}
 use Rattle.std.proofs.lemmas.Map.Lookups.{exact_unsigned}
 use Rattle.std.proofs.lemmas.Result.{IfOk-weaker}
 use Rattle.point_order.specs.Facets.{points_of}
-use Rattle.face_list.specs.Gather.{AreItems, Gathers}
+use Rattle.face_list.specs.Gather.{AreItems, GathersItems}
 use Rattle.face_list.proofs.FaceLists.{items_name, points_gathered}
 use Rattle.face_list.proofs.lists.point_table.Goals as goal
 
@@ -17,5 +17,5 @@ gather-requires-clause-numbers g c κs l = subst (AreItems _) (sym c.in_ok-items
 pub returns-clause-faces : goal.returns-clause-faces
 returns-clause-faces g c = IfOk-weaker c.gather.result _ _
     (λ t g. points_gathered c.args.cells.now t c.in_ok-items.ensures.ascending
-    (subst (λ (l : List (ℕ × ℕ)). Gathers nat_cmp c.args.cells.now l t) c.in_ok-items.ensures.items g))
+    (subst (λ (l : List (ℕ × ℕ)). GathersItems nat_cmp c.args.cells.now l t) c.in_ok-items.ensures.items g))
     c.gather.ensures.gathers

@@ -1,6 +1,6 @@
 use Rattle.std.proofs.Common.{◌∙◌, ◌+◌, ◌<◌, [], arith, drop, length, sym}
 use Rattle.point_order.specs.declared.cell.Cell.TheVariants.{Full}
-use Rattle.mesh_check.specs.Flaws.{listed}
+use Rattle.mesh_check.specs.Flaws.{as_cells}
 use Rattle.mesh_check.proofs.Lists.{cells_front, own, triples_left, with_flaw, without_flaw}
 use Rattle.mesh_check.proofs.cells.first_flaw.Goals as goal
 
@@ -12,7 +12,7 @@ returns-in-Some c =
     let i = c.loop-place.place in
     let within : i < c.len-place-end.result → i < length l =
     (λ h. let n = c.len-place-end.ensures in omega (arith, n, h)) in
-    sym (with_flaw s (listed (drop (i + 1) l) h) (Full c.at.result) c.in-Some.flaw
+    sym (with_flaw s (as_cells (drop (i + 1) l) h) (Full c.at.result) c.in-Some.flaw
     (sym c.flaw_of_quad.ensures ∙ c.in-Some.is))
     ∙ sym (cells_front s l h i c.at.result (within c.loop-place-test.true)
     (own l i c.at.result [] (within c.loop-place-test.true) c.at.ensures)) ∙ c.loop-place.invariant
@@ -25,7 +25,7 @@ loop-place-preserved c =
     let i = c.loop-place.place in
     let within : i < c.len-place-end.result → i < length l =
     (λ h. let n = c.len-place-end.ensures in omega (arith, n, h)) in
-    sym (without_flaw s (listed (drop (i + 1) l) h) (Full c.at.result) (sym c.flaw_of_quad.ensures ∙ c.in_default.is))
+    sym (without_flaw s (as_cells (drop (i + 1) l) h) (Full c.at.result) (sym c.flaw_of_quad.ensures ∙ c.in_default.is))
     ∙ sym (cells_front s l h i c.at.result (within c.loop-place-test.true)
     (own l i c.at.result [] (within c.loop-place-test.true) c.at.ensures)) ∙ c.loop-place.invariant
 

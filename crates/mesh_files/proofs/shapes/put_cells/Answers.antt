@@ -3,7 +3,8 @@ use Rattle.std.specs.Prelude.{map, codes}
 use Rattle.std.specs.List.{concat}
 use Rattle.std.proofs.lemmas.List.{length-map}
 use Rattle.text_sheets.specs.Indices.{indices_line}
-use Rattle.text_sheets.specs.Lines.{held, held_line}
+use Rattle.text_sheets.specs.Lines.{held_line}
+use Rattle.list_laws.specs.Lists.{held}
 use Rattle.text_sheets.proofs.Cited.{block_put, held_lines}
 use Rattle.mesh_files.proofs.shapes.put_cells.Goals as goal
 

@@ -3,17 +3,17 @@ use Rattle.std.specs.Prelude.{map, codes}
 use Rattle.std.specs.List.{concat}
 use Rattle.std.proofs.lemmas.List.{length-map}
 use Rattle.alpha_complex.specs.declared.shape.Kind.{Kind}
-use Rattle.mesh_files.specs.Text.{face_line, points_in}
+use Rattle.mesh_files.specs.Text.{face_line, points_of_faces}
 use Rattle.text_sheets.proofs.Cited.{ends, goes_on, starts}
 use Rattle.text_sheets.proofs.Cited.{below_end, past_end}
 use Rattle.mesh_files.proofs.shapes.put_points.Goals as goal
 
 -- as many points as faces
-point_count : (seen : List (ℕ × Kind)) (points : List ℕ) → points ≡ points_in seen → length points ≡ length seen
+point_count : (seen : List (ℕ × Kind)) (points : List ℕ) → points ≡ points_of_faces seen → length points ≡ length seen
 point_count seen points e = ap length e ∙ length-map seen (λ (p : ℕ × Kind). p.0)
 
 -- as many points as lines
-line_count : (line : ℕ × Kind → List ℕ) (seen : List (ℕ × Kind)) (points : List ℕ) → points ≡ points_in seen →
+line_count : (line : ℕ × Kind → List ℕ) (seen : List (ℕ × Kind)) (points : List ℕ) → points ≡ points_of_faces seen →
     length points ≡ length (map line seen)
 line_count line seen points e = point_count seen points e ∙ sym (length-map seen line)
 

@@ -4,7 +4,8 @@ use Rattle.std.specs.List.{concat}
 use Rattle.std.proofs.lemmas.List.{length-map}
 use Rattle.alpha_complex.specs.declared.shape.Kind.{Kind}
 use Rattle.mesh_files.specs.Text.{face_line}
-use Rattle.text_sheets.specs.Lines.{held, held_line}
+use Rattle.text_sheets.specs.Lines.{held_line}
+use Rattle.list_laws.specs.Lists.{held}
 use Rattle.text_sheets.proofs.Cited.{block_put, held_lines}
 use Rattle.mesh_files.proofs.shapes.put_triples.Goals as goal
 

@@ -1,7 +1,7 @@
 use Rattle.std.proofs.Common.{sym, ℕ, ◌≡◌, rules}
 use Rattle.std.specs.Prelude.{nat_lt}
 use Rattle.std.proofs.lemmas.List.Sorted.{IsPartitionPoint-from_clause}
-use Rattle.mesh_rows.proofs.Places.{prefix_is, below_front}
+use Rattle.list_laws.proofs.Cited.{prefix_is, below_front}
 use Rattle.mesh_rows.proofs.numbers.number.Goals as goal
 
 pub returns : goal.returns

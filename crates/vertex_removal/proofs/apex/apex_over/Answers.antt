@@ -1,6 +1,6 @@
 use Rattle.std.proofs.Common.{sym, subst, List, ℕ, Some, take, ◌++◌, ◌∷◌, []}
 use Rattle.list_laws.proofs.Cited.{apart_place, at_place, distinct_ascending, in_take, not_both, take_next}
-use Rattle.vertex_removal.specs.Balls.{last_of}
+use Rattle.vertex_removal.specs.Balls.{last_of_ball}
 use Rattle.vertex_removal.specs.Wraps.{LeadsAbove}
 use Rattle.vertex_removal.proofs.Apexes.{lead_apart, next_below, next_above}
 use Rattle.vertex_removal.proofs.Balls.{ball_apart}
@@ -14,7 +14,7 @@ pub leader-requires-clause-best : goal.leader-requires-clause-best
 leader-requires-clause-best c =
     let t = c.args.points.now in
     ball_apart c.args.a c.args.b c.args.c c.loop-p.best c.p-item.result c.loop-p.invariant.1
-    (lead_apart t (take c.loop-p.p-index t) c.args.a c.args.b c.args.c (last_of c.loop-p.best) c.p-item.result
+    (lead_apart t (take c.loop-p.p-index t) c.args.a c.args.b c.args.c (last_of_ball c.loop-p.best) c.p-item.result
     c.loop-p.invariant.0
     (apart_place t c.loop-p.p-index c.p-item.result (distinct_ascending t c.requires) c.loop-p-test.true
     c.p-item.is))
@@ -25,7 +25,7 @@ loop-p-preserved c =
     let t = c.args.points.now in
     let n = c.loop-p.p-index in
     let e = c.p-item.result in
-    let o = last_of c.loop-p.best in
+    let o = last_of_ball c.loop-p.best in
     let within = λ (x : ℕ). in_take n t x in
     let here = at_place t n e e c.loop-p-test.true c.p-item.is in
     let apart = lead_apart t (take n t) c.args.a c.args.b c.args.c o e c.loop-p.invariant.0

@@ -3,21 +3,21 @@ use Rattle.std.specs.Int.{w128}
 use Rattle.std.specs.Int.RustNames.{FitsSigned}
 use Rattle.whole_ring.specs.Bounds.{IsWithin}
 use Rattle.whole_ring.proofs.Cited.{fits_as, read, read_as, same_difference, within_fits, within_sub}
-use Rattle.vertex_removal.specs.Balls.{greatest_term}
+use Rattle.vertex_removal.specs.Balls.{greatest_ball_term}
 use Rattle.vertex_removal.proofs.ball.less_three.Goals as goal
 
 -- two terms fit, three, and all four
-two : {p q : ℤ} → IsWithin greatest_term p → IsWithin greatest_term q → FitsSigned w128 (p -ℤ q)
+two : {p q : ℤ} → IsWithin greatest_ball_term p → IsWithin greatest_ball_term q → FitsSigned w128 (p -ℤ q)
 two h k = within_fits w128 (within_sub h k) (lit< tt)
 
 -- three terms
-three : {p q r : ℤ} → IsWithin greatest_term p → IsWithin greatest_term q → IsWithin greatest_term r
+three : {p q r : ℤ} → IsWithin greatest_ball_term p → IsWithin greatest_ball_term q → IsWithin greatest_ball_term r
     → FitsSigned w128 (p -ℤ q -ℤ r)
 three h k l = within_fits w128 (within_sub (within_sub h k) l) (lit< tt)
 
 -- all four
-four : {p q r s : ℤ} → IsWithin greatest_term p → IsWithin greatest_term q → IsWithin greatest_term r
-    → IsWithin greatest_term s → FitsSigned w128 (p -ℤ q -ℤ r -ℤ s)
+four : {p q r s : ℤ} → IsWithin greatest_ball_term p → IsWithin greatest_ball_term q → IsWithin greatest_ball_term r
+    → IsWithin greatest_ball_term s → FitsSigned w128 (p -ℤ q -ℤ r -ℤ s)
 four h k l m = within_fits w128 (within_sub (within_sub (within_sub h k) l) m) (lit< tt)
 
 pub overflow_sub-result : goal.overflow_sub-result

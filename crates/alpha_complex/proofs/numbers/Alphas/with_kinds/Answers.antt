@@ -7,7 +7,8 @@ use Rattle.alpha_complex.specs.declared.shape.Kind.{Kind}
 use Rattle.alpha_complex.specs.Judged.{is_admitted_pair, is_admitted_triple, is_small_cell}
 use Rattle.alpha_complex.specs.Kinds.{kind_of, part_kind}
 use Rattle.alpha_complex.specs.Leasts.{IsLeastOf}
-use Rattle.alpha_complex.specs.Slots.{held, slots_of, cell_slots_of}
+use Rattle.alpha_complex.specs.Slots.{slots_of, cell_slots_of}
+use Rattle.list_laws.specs.Lists.{held}
 use Rattle.alpha_complex.proofs.KindSteps.{admitted_told, all_told, cells_told}
 use Rattle.alpha_complex.proofs.Shaped.{pair_kinds_are, points_are, triple_kinds_are, cells_are}
 use Rattle.alpha_complex.proofs.numbers.Alphas.with_kinds.Goals as goal

@@ -2,7 +2,7 @@ use Rattle.std.proofs.Common.{◌≡◌, IsSomeAnd, sym, ◌∙◌, ap, subst, �
 use Rattle.std.specs.Prelude.{slice_set}
 use Rattle.list_laws.proofs.Cited.{if_some, len_set, of_some, some_holds, within_list}
 use Rattle.point_order.specs.Sets.{is_among}
-use Rattle.cell_store.specs.Buckets.{StandAtPlaces, content_of, layout_at, points_in, shown}
+use Rattle.cell_store.specs.Buckets.{StandAtPlaces, content_of, layout_at, shown, points_at}
 use Rattle.cell_store.specs.Grids.{bucket_of}
 use Rattle.cell_store.specs.Ready.{HasPlaceFor, HasRoom, IsNoteReady, IsPointReady, ArePlansReady}
 use Rattle.cell_store.proofs.Layouts.{shown_is, shown_len, shown_set}
@@ -47,9 +47,9 @@ put_point_in-requires c =
     (c.grid.ensures.grid ∙ sym (ap (λ h. h.grid) c.self.view_is)) in
     let at_b = within_list places b c.index_mut.result.now None h c.index_mut.ensures.value in
     let back : i.point ≡ Some p = ap (λ h. h.room.point) c.self.view_is ∙ c.requires.room in
-    let known = ap (λ h. is_among p (points_in h.places (bucket_of h.grid p))) c.self.view_is ∙ c.requires.absent in
+    let known = ap (λ h. is_among p (points_at h.places (bucket_of h.grid p))) c.self.view_is ∙ c.requires.absent in
     point_room i.grid b p places c.index_mut.result.now (some_holds (λ p. IsPointReady i.grid places p) i.point p
-    (sym back) c.self.invariant.3) number (ap (λ m. is_among p (points_in (shown places) m)) number ∙ known) at_b
+    (sym back) c.self.invariant.3) number (ap (λ m. is_among p (points_at (shown places) m)) number ∙ known) at_b
 
 -- what was ready stays so, with the point put in
 pub invariant_of-self : goal.invariant_of-self
@@ -67,14 +67,14 @@ invariant_of-self c =
     (c.grid.ensures.grid ∙ sym (ap (λ h. h.grid) c.self.view_is)) in
     let at_b = within_list places b c.index_mut.result.now None h c.index_mut.ensures.value in
     let back : i.point ≡ Some p = ap (λ h. h.room.point) c.self.view_is ∙ c.requires.room in
-    let known = ap (λ h. is_among p (points_in h.places (bucket_of h.grid p))) c.self.view_is ∙ c.requires.absent in
+    let known = ap (λ h. is_among p (points_at h.places (bucket_of h.grid p))) c.self.view_is ∙ c.requires.absent in
     let new = c.put_point_in.new.place in
     let r = c.put_point_in.ensures in
     let was = at_b ∙ r.was in
     let before_has : HasPlaceFor p r.before = of_some (HasPlaceFor p) (layout_at places b) r.before was
     (subst (λ m. IsSomeAnd (layout_at places m) (HasPlaceFor p)) (sym number)
     (some_holds (λ p. IsPointReady i.grid places p) i.point p (sym back) c.self.invariant.3)) in
-    let here = point_is b p false places r.before (ap (λ m. is_among p (points_in (shown places) m)) number ∙ known) was
+    let here = point_is b p false places r.before (ap (λ m. is_among p (points_at (shown places) m)) number ∙ known) was
     in (
       len_set places b new ∙ c.self.invariant.0,
       if_some (λ e. ArePlansReady e.turned i.grid e.gone.items e.fresh.items places e.plans.items)
@@ -115,7 +115,7 @@ returns-clause-put c =
     (c.grid.ensures.grid ∙ sym (ap (λ h. h.grid) c.self.view_is)) in
     let at_b = within_list places b c.index_mut.result.now None h c.index_mut.ensures.value in
     let back : i.point ≡ Some p = ap (λ h. h.room.point) c.self.view_is ∙ c.requires.room in
-    let known = ap (λ h. is_among p (points_in h.places (bucket_of h.grid p))) c.self.view_is ∙ c.requires.absent in
+    let known = ap (λ h. is_among p (points_at h.places (bucket_of h.grid p))) c.self.view_is ∙ c.requires.absent in
     let r = c.put_point_in.ensures in
     let was = at_b ∙ r.was in
     put_is c.args.self.now _ i.grid b p (shown places) (content_of r.before) (content_of r.after)

@@ -20,7 +20,7 @@ use Rattle.claim_rule.specs.declared.event.Played.TheVariants.{Done, Taken}
 use Rattle.claim_rule.specs.Boards.{BoardState}
 use Rattle.claim_rule.specs.Good.{IsGood, Good}
 use Rattle.claim_rule.specs.Events.{CanClaim, Next}
-use Rattle.claim_rule.specs.Kept.{kept}
+use Rattle.claim_rule.specs.Kept.{kept_board}
 use Rattle.std.proofs.lemmas.List.{get_or_read}
 use Rattle.list_laws.proofs.Cited.{some_of}
 use Rattle.cell_store.specs.Buckets.{bucket_at}
@@ -54,7 +54,7 @@ returns-then-word-ne0-clause-next c h good =
     λ q. c.if-word-from.false (word ∙ q ∙ ap (λ k. k + 1) (sym c.from.ensures)) in
     let zero : slice_index_or i.words.items c.args.b 0 ≢ 0 = λ q. c.if-word-ne0.true (word ∙ q) in
     let next = seen_as h _ c.args.self.now (Claim c.args.n c.args.b) (Taken (slice_index_or i.words.items c.args.b 0))
-    (kept i.hold.grid i.parts i.most i.begun.value.history i.ticket i.words.items i.hold.places i.seats.items)
+    (kept_board i.hold.grid i.parts i.most i.begun.value.history i.ticket i.words.items i.hold.places i.seats.items)
     c.self.view_is
     (claim_taken i.hold.grid i.parts i.most i.begun.value.history i.ticket i.words.items i.hold.places i.seats.items
     c.args.n c.args.b live.0 h good' live.1 below zero other) in
@@ -70,7 +70,7 @@ invariant_of-self c =
     let below : c.args.b < length i.words.items = omega (arith, c.if-b-len.false, c.len.ensures) in
     let word : c.index-word.result.now ≡ slice_index_or i.words.items c.args.b 0 =
     get_or_read i.words.items _ _ below c.index-word.ensures 0 in
-    subst (λ k. Good (kept i.hold.grid i.parts i.most i.begun.value.history i.ticket
+    subst (λ k. Good (kept_board i.hold.grid i.parts i.most i.begun.value.history i.ticket
     (slice_set i.words.items c.args.b (k + 1)) i.hold.places i.seats.items)) (sym c.from-2.ensures)
     (good_by g.0 _ (Claim c.args.n c.args.b) Done _ g.1 _ (claim_next i.hold.grid i.parts i.most i.begun.value.history
     i.ticket i.words.items i.hold.places i.seats.items c.args.n c.args.b live.0 g.0 g.1 live.1 below
@@ -90,10 +90,10 @@ returns-clause-next c h good =
     let word : c.index-word.result.now ≡ slice_index_or i.words.items c.args.b 0 =
     get_or_read i.words.items _ _ below c.index-word.ensures 0 in
     subst (λ k. Next h c.args.self.now (Claim c.args.n c.args.b) Done
-    (kept i.hold.grid i.parts i.most i.begun.value.history i.ticket (slice_set i.words.items c.args.b (k + 1))
+    (kept_board i.hold.grid i.parts i.most i.begun.value.history i.ticket (slice_set i.words.items c.args.b (k + 1))
     i.hold.places i.seats.items)) (sym c.from-2.ensures)
     (seen_as h _ c.args.self.now (Claim c.args.n c.args.b) Done
-    (kept i.hold.grid i.parts i.most i.begun.value.history i.ticket
+    (kept_board i.hold.grid i.parts i.most i.begun.value.history i.ticket
     (slice_set i.words.items c.args.b (c.args.n + 1)) i.hold.places i.seats.items) c.self.view_is
     (claim_next i.hold.grid i.parts i.most i.begun.value.history i.ticket i.words.items i.hold.places i.seats.items
     c.args.n c.args.b live.0 h good' live.1 below (sym word ∙ c.if-word-ne0.false)))

@@ -20,7 +20,7 @@ use Rattle.claim_rule.specs.declared.event.Played.TheVariants.{Done}
 use Rattle.claim_rule.specs.Boards.{BoardState}
 use Rattle.claim_rule.specs.Good.{IsGood, Good}
 use Rattle.claim_rule.specs.Events.{Next, CanJoin}
-use Rattle.claim_rule.specs.Kept.{kept}
+use Rattle.claim_rule.specs.Kept.{kept_board}
 use Rattle.list_laws.proofs.Cited.{none_there, within}
 use Rattle.claim_rule.proofs.Moves.{good_by, not_live, seen_as}
 use Rattle.claim_rule.proofs.Seats.{join_facts, join_next, seat_inside}
@@ -111,7 +111,7 @@ invariant_of-self c =
     (c.holds_nothing-else-not-holds_nothing.ensures.0 c.if-not-holds_nothing-2.false) in
     let next : c.args.m ≡ t.first + t.parts =
     omega (arith, c.if-from.false, c.from.ensures, c.from-2.ensures, c.from-3.ensures) in
-    subst (λ k. Good (kept i.hold.grid i.parts i.most i.begun.value.history i.ticket i.words.items i.hold.places
+    subst (λ k. Good (kept_board i.hold.grid i.parts i.most i.begun.value.history i.ticket i.words.items i.hold.places
     (slice_set (slice_set i.seats.items c.args.m None) c.args.n
     (Some (record t { parts = t.parts + o.parts; left = t.left + o.left; seen = k }))))) (sym c.max.ensures)
     (good_by g.0 _ (Join c.args.n c.args.m) Done _ g.1 _ (join_next i.hold.grid i.parts i.most i.begun.value.history
@@ -139,11 +139,11 @@ returns-clause-next c h good =
     let next : c.args.m ≡ t.first + t.parts =
     omega (arith, c.if-from.false, c.from.ensures, c.from-2.ensures, c.from-3.ensures) in
     subst (λ k. Next h c.args.self.now (Join c.args.n c.args.m) Done
-    (kept i.hold.grid i.parts i.most i.begun.value.history i.ticket i.words.items i.hold.places
+    (kept_board i.hold.grid i.parts i.most i.begun.value.history i.ticket i.words.items i.hold.places
     (slice_set (slice_set i.seats.items c.args.m None) c.args.n
     (Some (record t { parts = t.parts + o.parts; left = t.left + o.left; seen = k }))))) (sym c.max.ensures)
     (seen_as h _ c.args.self.now (Join c.args.n c.args.m) Done
-    (kept i.hold.grid i.parts i.most i.begun.value.history i.ticket i.words.items i.hold.places
+    (kept_board i.hold.grid i.parts i.most i.begun.value.history i.ticket i.words.items i.hold.places
     (slice_set (slice_set i.seats.items c.args.m None) c.args.n
     (Some (record t { parts = t.parts + o.parts; left = t.left + o.left; seen = max t.seen o.seen }))))
     c.self.view_is

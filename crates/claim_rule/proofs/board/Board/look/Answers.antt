@@ -1,7 +1,7 @@
 use Rattle.std.proofs.Common.{None, Some, slice_index_or, slice_set, sym, ◌∙◌, ap}
 use Rattle.claim_rule.specs.declared.event.Event.TheVariants.{Look}
 use Rattle.claim_rule.specs.declared.event.Played.TheVariants.{Done}
-use Rattle.claim_rule.specs.Kept.{kept}
+use Rattle.claim_rule.specs.Kept.{kept_board}
 use Rattle.claim_rule.proofs.Moves.{good_by, seen_as, look_next}
 use Rattle.claim_rule.proofs.board.Board.look.Goals as goal
 
@@ -19,7 +19,8 @@ returns-in-Some-clause-good c = invariant_of-self c
 pub returns-in-Some-clause-next : goal.returns-in-Some-clause-next
 returns-in-Some-clause-next c h good =
     let i = c.self.inside in
-    seen_as h _ c.args.self.now (Look c.args.n) Done (kept i.hold.grid i.parts i.most i.begun.value.history i.ticket
+    seen_as h _ c.args.self.now (Look c.args.n) Done
+    (kept_board i.hold.grid i.parts i.most i.begun.value.history i.ticket
     i.words.items i.hold.places (slice_set i.seats.items c.args.n
     (Some (record c.in-Some.seat { seen = i.ticket })))) c.self.view_is
     (look_next i.hold.grid i.parts i.most i.begun.value.history i.ticket i.words.items i.hold.places i.seats.items

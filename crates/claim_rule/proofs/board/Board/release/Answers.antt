@@ -5,7 +5,7 @@ use Rattle.claim_rule.specs.declared.event.Played.TheVariants.{Done}
 use Rattle.claim_rule.specs.Boards.{BoardState}
 use Rattle.claim_rule.specs.Good.{IsGood}
 use Rattle.claim_rule.specs.Events.{CanRelease}
-use Rattle.claim_rule.specs.Kept.{kept}
+use Rattle.claim_rule.specs.Kept.{kept_board}
 use Rattle.cell_store.specs.Buckets.{bucket_at}
 use Rattle.claim_rule.proofs.Moves.{good_by, seen_as, release_next, holds_named, not_live}
 use Rattle.claim_rule.proofs.board.Board.release.Goals as goal
@@ -64,7 +64,7 @@ returns-clause-next c h good =
     let d = c.deref-else-not-is_live.ensures.value in
     let name = c.names.ensures.0 c.if-not-names.false in
     seen_as h _ c.args.self.now (Release c.args.n c.args.b) Done
-    (kept i.hold.grid i.parts i.most i.begun.value.history i.ticket (slice_set i.words.items c.args.b 0)
+    (kept_board i.hold.grid i.parts i.most i.begun.value.history i.ticket (slice_set i.words.items c.args.b 0)
     i.hold.places i.seats.items) c.self.view_is
     (release_next i.hold.grid i.parts i.most i.begun.value.history i.ticket i.words.items i.hold.places i.seats.items
     c.args.n c.args.b live.0 h good' live.1 (subst (λ l. c.args.b < length l) d name.0)

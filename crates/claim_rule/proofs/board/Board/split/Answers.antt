@@ -21,7 +21,7 @@ use Rattle.claim_rule.specs.declared.event.Played.TheVariants.{Done}
 use Rattle.claim_rule.specs.Boards.{BoardState}
 use Rattle.claim_rule.specs.Good.{IsGood}
 use Rattle.claim_rule.specs.Events.{CanSplit}
-use Rattle.claim_rule.specs.Kept.{kept}
+use Rattle.claim_rule.specs.Kept.{kept_board}
 use Rattle.list_laws.proofs.Cited.{some_of, within}
 use Rattle.claim_rule.proofs.Moves.{good_by, not_live, seen_as}
 use Rattle.claim_rule.proofs.Seats.{split_facts, split_next, seat_inside, as_many}
@@ -114,7 +114,7 @@ returns-clause-next c h good =
     let fewer : c.args.parts < t.parts = omega (arith, c.if-parts-seat.false) in
     let less : c.args.left ≤ t.left = omega (arith, c.if-left-seat.false) in
     seen_as h _ c.args.self.now (Split c.args.n c.args.parts c.args.left) Done
-    (kept i.hold.grid i.parts i.most i.begun.value.history i.ticket i.words.items i.hold.places
+    (kept_board i.hold.grid i.parts i.most i.begun.value.history i.ticket i.words.items i.hold.places
     (slice_set (slice_set i.seats.items c.args.n (Some (record
     t { parts = t.parts - c.args.parts; left = t.left - c.args.left; seen = i.ticket })))
     (t.first + (t.parts - c.args.parts)) (Some (record {

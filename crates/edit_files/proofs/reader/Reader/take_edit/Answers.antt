@@ -3,7 +3,7 @@ use Rattle.std.specs.Prelude.{codes, nat_le}
 use Rattle.std.specs.Str.{bytes_eq}
 use Rattle.edit_files.specs.Content.{Content, content}
 use Rattle.edit_files.specs.Grammar.{line_limit}
-use Rattle.edit_files.specs.Judging.{listed, with_edit, edit}
+use Rattle.edit_files.specs.Judging.{with_edit, edit, list_line}
 use Rattle.edit_files.specs.declared.version.Version.{Version}
 use Rattle.edit_files.proofs.reader.Reader.take_edit.Goals as goal
 
@@ -15,9 +15,9 @@ returns c = λ newest.
     let v : Version = taken.version in
     let other : bytes_eq line (codes "radii") ≡ false = search rules in
     let full : c.is_full.result ≡ nat_le line_limit (length taken.points + length taken.edits) = c.is_full.ensures in
-    let in_list : listed v line (nat_le line_limit (length taken.points + length taken.edits)) (with_edit taken
+    let in_list : list_line v line (nat_le line_limit (length taken.points + length taken.edits)) (with_edit taken
     (edit v line)) ≡ with_edit taken (edit v line) =
-    ap (λ (f : Bool). listed v line f (with_edit taken (edit v line))) (sym full)
+    ap (λ (f : Bool). list_line v line f (with_edit taken (edit v line))) (sym full)
     ∙ c.in_ok-admit.ensures (with_edit taken (edit v line)) in
     let read : edit v line ≡ Ok c.in_ok-edit_of.field-0 = sym c.in_ok-edit_of.ensures in
     let items : c.push.new.self.items ≡ c.args.self.now.file.edits.items ++ c.in_ok-edit_of.field-0 ∷ [] =

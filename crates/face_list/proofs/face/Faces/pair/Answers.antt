@@ -1,6 +1,6 @@
 use Rattle.std.proofs.Common.{◌≡◌, ℕ, List, ap, subst, ◌<◌, length, get_or, arith}
 use Rattle.point_order.specs.declared.cell.Cell.{Cell}
-use Rattle.face_list.specs.Tables.{numbered}
+use Rattle.face_list.specs.Tables.{cells_numbered}
 use Rattle.face_list.proofs.Stretches.{seen_length, face_seen, numbers_seen}
 use Rattle.face_list.proofs.face.Faces.pair.Goals as goal
 
@@ -16,8 +16,8 @@ returns-clause-face c =
     let e = seen_length c.self.inside.cells.now c.self.inside.pairs c.self.invariant.1 in
     let l = ap (λ v. length v.pairs) c.self.view_is in
     let h : c.args.index < length c.self.inside.pairs.keys.items = omega (arith, c.requires, e, l) in
-    subst (λ v. ◌≡◌ {A = List ℕ × List Cell} (c.face.result.0, numbered v.cells c.face.result.1.now)
-    (get_or v.pairs c.args.index (c.face.result.0, numbered v.cells c.face.result.1.now))) c.self.view_is
+    subst (λ v. ◌≡◌ {A = List ℕ × List Cell} (c.face.result.0, cells_numbered v.cells c.face.result.1.now)
+    (get_or v.pairs c.args.index (c.face.result.0, cells_numbered v.cells c.face.result.1.now))) c.self.view_is
     (face_seen c.self.inside.cells.now t c.self.invariant.1 c.args.index c.face.result.0 c.face.result.1.now h
     c.face.ensures.key c.face.ensures.numbers)
 

@@ -1,4 +1,4 @@
--- The place of a point in an ascending list.
+-- The front of an ascending list: the numbers below one.
 use Rattle.std.proofs.Common.{
   ◌≡◌,
   refl,
@@ -25,8 +25,8 @@ use Rattle.std.specs.List.{prefix_len, AllWithin}
 use Rattle.std.specs.List.Sorted.{IsPartitionedBy}
 use Rattle.std.proofs.lemmas.Bool.{cases_lt}
 use Rattle.std.proofs.lemmas.Bool.Decides.{nat_tests}
-use Rattle.list_laws.proofs.Cited.{rises}
-use Rattle.point_order.specs.Sets.{IsAscending}
+use Rattle.list_laws.specs.Lists.{IsAscending}
+use Rattle.list_laws.proofs.Ascending.{rises}
 
 -- where the first i pass and the others fail, the front that passes is i long
 pub prefix_is : {X : Type 0} (p : X → Bool) (xs : List X) (i : ℕ) → i ≤ length xs →
@@ -42,7 +42,7 @@ prefix_is p (x ∷ xs) (suc i) h t f =
     (λ k d l m. f (suc k) d (omega (arith, l)) (omega (arith, m))) in
     rw e (omega (arith, r))
 
--- the points below p are at the front
+-- the numbers below p are at the front
 pub below_front : (s : List ℕ) (p : ℕ) → IsAscending s → IsPartitionedBy (λ q. nat_lt q p) s
 below_front s p h i j d l m t =
     let u : get_or s j d < p = grind (arith, nat_tests) in
