@@ -36,6 +36,14 @@ unfolding bucket_of x_of y_of z_of
 bucket_below g p h = below g (p / 268435456 % 16384) (p / 16384 % 16384) (p % 16384) h (omega arith) (omega arith)
     (omega arith)
 
+-- the grid of one bucket has every point in it
+pub only_bucket : (g v p : ℕ) → is_grid_size g ≡ true → g ≡ v → g ≡ 1 → 0 ≡ bucket_of v p
+only_bucket g v p h e o =
+    let w : v ≡ 1 = sym e ∙ o in
+    let b : bucket_of v p < v * v * v = bucket_below v p (subst (λ n. is_grid_size n ≡ true) e h) in
+    let c : bucket_of v p < 1 * 1 * 1 = subst (λ n. bucket_of v p < n * n * n) w b in
+    omega (arith, c)
+
 -- a part of the range by a product in place of a quotient by its width
 part_is : (g c : ℕ) → is_grid_size g ≡ true → c < 16384 → c * g / 16384 ≡ c / (16384 / g)
 part_is g c h l =

@@ -69,6 +69,9 @@ impl Grid {
         ensures number { result ≡ number_of self.now p }
         ensures below { number_of self.now p < self.now * self.now * self.now }
     {
+        if self.size == 1 {
+            return 0;
+        }
         let x = (p.key() / 268435456 % 16384) as u32 * self.size / 16384;
         let y = (p.key() / 16384 % 16384) as u32 * self.size / 16384;
         let z = (p.key() % 16384) as u32 * self.size / 16384;
