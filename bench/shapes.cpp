@@ -1,10 +1,10 @@
 // The peer of bench/shape: CGAL's alpha complexes of the points that an edit file leaves, one for each radius of the
-// file, in the same text from the line of the points on. The triangulation is made once, of the final points (CGAL sorts
-// them along a curve), and copied for each radius, since Fixed_alpha_shape_3 takes its triangulation over. It settles
-// ties in its own way, so the texts are equal for points of which no five are on one sphere. Alpha is a squared radius
-// there too, and what CGAL calls exterior is not listed. The two kinds of words differ in one more thing: CGAL calls a
-// face of a shape singular where no cell that contains it is in the shape, and so does this program; regular and
-// interior are the same too, since an infinite cell is never in the shape.
+// file, in the same text from the line of the points on. The triangulation is made once, of the final points (CGAL
+// sorts them along a curve), and copied for each radius, since Fixed_alpha_shape_3 takes its triangulation over. It
+// settles ties in its own way, so the texts are equal for points of which no five are on one sphere. Alpha is a squared
+// radius there too, and what CGAL calls exterior is not listed. The two kinds of words differ in one more thing: CGAL
+// calls a face of a shape singular where no cell that contains it is in the shape, and so does this program; regular
+// and interior are the same too, since an infinite cell is never in the shape.
 #include "mesh_text.h"
 
 #include <CGAL/Delaunay_triangulation_3.h>
