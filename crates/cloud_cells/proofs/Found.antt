@@ -1,22 +1,6 @@
 -- The cells in slots are looked for in a list, one after another.
-use Rattle.std.specs.Prelude.{
-  ◌≡◌,
-  refl,
-  ℕ,
-  ◌+◌,
-  ◌<◌,
-  ◌≤◌,
-  List,
-  [],
-  ◌∷◌,
-  ◌++◌,
-  length,
-  take,
-  Option,
-  None,
-  Some,
-  slice_index_or,
-}
+use Rattle.std.specs.Prelude.{◌≡◌, refl, ℕ, ◌+◌, ◌<◌, ◌≤◌, List, [], ◌∷◌, ◌++◌, length, take, Option, None, Some}
+use Rattle.std.specs.Prelude.{slice_index_or}
 use Rattle.std.proofs.Common.{append-nil, arith, ap, inl, inr, sym, subst, ◌∙◌}
 use Rattle.std.proofs.lemmas.List.{length-append, take_all}
 use Rattle.list_laws.proofs.Cited.{from_append, take_next}

@@ -5,7 +5,6 @@ use Rattle.list_laws.proofs.Cited.{distinct_push, from_append, in_left, in_right
 use Rattle.list_laws.specs.Lists.{AreDistinct}
 use Rattle.point_order.specs.declared.cell.Cell.{Cell}
 use Rattle.point_order.specs.Sets.{IsIn}
-use Rattle.cloud_cells.specs.Clouds.{AreCellsOf}
 use Rattle.cloud_cells.specs.Nets.{AreMoved, cells_of_slots}
 use Rattle.cloud_cells.proofs.Nets.{live_append, live_in}
 
@@ -68,12 +67,4 @@ none_moved slots = record {
     λ i. subst (λ (v : List Cell). IsIn q v) (append-nil (cells_of_slots slots)) i,
   );
   once = λ d. subst (λ (v : List Cell). AreDistinct v) (sym (append-nil (cells_of_slots slots))) d;
-}
-
--- the cells of a complex that were moved are its cells
-pub moved_cells : (s : List ℕ) (l moved : List Cell) → AreMoved l moved → AreCellsOf s l → AreCellsOf s moved
-moved_cells s l moved m k = record {
-  solid = k.solid;
-  members = λ q. (λ i. (k.members q).0 ((m.members q).1 i), λ i. (m.members q).0 ((k.members q).1 i));
-  once = m.once k.once;
 }

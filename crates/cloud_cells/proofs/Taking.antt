@@ -1,75 +1,105 @@
 -- Cells are taken out of the net: the net and those that are gone have the cells of the complex still.
 use Rattle.std.specs.Prelude.{◌≡◌, ℕ, false, List, [], ◌∷◌, ◌++◌, Option, None, Some, MatchOption}
 use Rattle.std.specs.Option.{is_some}
-use Rattle.std.proofs.Common.{refl, sym, ap, ◌∙◌, subst, inl, inr, append-nil}
-use Rattle.list_laws.specs.Lists.{AreDistinct}
+use Rattle.std.proofs.Common.{refl, sym, subst, inl, inr, append-nil}
 use Rattle.list_laws.proofs.Cited.{distinct_push, from_append, in_left, in_right}
 use Rattle.point_order.specs.declared.cell.Cell.{Cell}
 use Rattle.point_order.specs.declared.cell.Facet.{Facet}
 use Rattle.point_order.specs.Sets.{IsIn}
 use Rattle.cloud_cells.specs.Clouds.{AreCellsOf, HasOtherIn}
 use Rattle.hole_laws.specs.Others.{IsOtherOf, HaveNoOther}
-use Rattle.cloud_cells.specs.Nets.{IsWithout}
-
--- no cell stands in both parts
-pub in_two : (l m : List Cell) (x : Cell) → AreDistinct (l ++ m) → IsIn x l → IsIn x m → ⊥
-in_two [] m x d i j = i
-in_two (y ∷ l) m x d (inl e) j = d.0 (subst (λ (k : Cell). IsIn k (l ++ m)) (sym e) (in_right x l m j))
-in_two (y ∷ l) m x d (inr i) j = in_two l m x d.1 i j
-
--- the first part has each once
-pub first_distinct : (l m : List Cell) → AreDistinct (l ++ m) → AreDistinct l
-first_distinct [] m d = tt
-first_distinct (y ∷ l) m d = (λ i. d.0 (in_left y l m i), first_distinct l m d.1)
-
--- so has the other
-last_distinct : (l m : List Cell) → AreDistinct (l ++ m) → AreDistinct m
-last_distinct [] m d = d
-last_distinct (y ∷ l) m d = last_distinct l m d.1
-
--- two parts that are apart
-joined : (l m : List Cell) → AreDistinct l → AreDistinct m → ((q : Cell) → IsIn q l → IsIn q m → ⊥) →
-    AreDistinct (l ++ m)
-joined [] m d e a = e
-joined (y ∷ l) m d e a = (
-  λ i. elim (from_append y l m i) [ inl j ↦ d.0 j | inr j ↦ a y (inl refl) j ],
-  joined l m d.1 e (λ q i j. a q (inr i) j),
-)
+use Rattle.cloud_cells.specs.Nets.{AreMoved, AreWith, IsWithout}
+use Rattle.cloud_cells.specs.Parts.{AreWithin, AreWithinNew}
+use Rattle.cloud_cells.specs.declared.reach.Reach.{Reach}
+use Rattle.cloud_cells.proofs.Moving.{first_distinct, in_two, joined, last_distinct, moved_cells, moved_first, moved_on}
 
 -- one more cell is gone
-pub taken : (s : List ℕ) (l gone rest : List Cell) (c : Cell) → AreCellsOf s (l ++ gone) → IsWithout l c rest →
-    AreCellsOf s (rest ++ (gone ++ c ∷ []))
-taken s l gone rest c k w =
-    let here = (w.members c).1 (inr refl) in
-    let d = w.once (first_distinct l gone k.once) in
-    let more = distinct_push gone c (last_distinct l gone k.once) (λ j. in_two l gone c k.once here j) in
-    record {
-      solid = k.solid;
-      members = λ q. (
-        λ m. (k.members q).0 (elim (from_append q rest (gone ++ c ∷ []) m) [
-          | inl j ↦ in_left q l gone ((w.members q).1 (inl j))
-          | inr j ↦ elim (from_append q gone (c ∷ []) j) [
-            | inl g ↦ in_right q l gone g
-            | inr e ↦ elim e [ inl f ↦ in_left q l gone ((w.members q).1 (inr f)) | inr none ↦ absurd none ]
-          ]
-        ]),
-        λ m. elim (from_append q l gone ((k.members q).1 m)) [
-          | inl j ↦ elim ((w.members q).0 j) [
-            | inl r ↦ in_left q rest (gone ++ c ∷ []) r
-            | inr e ↦ in_right q rest (gone ++ c ∷ []) (in_right q gone (c ∷ []) (inl e))
-          ]
-          | inr g ↦ in_right q rest (gone ++ c ∷ []) (in_left q gone (c ∷ []) g)
-        ],
-      );
-      once = joined rest (gone ++ c ∷ []) d.1 more (λ q i j. elim (from_append q gone (c ∷ []) j) [
-        | inl g ↦ in_two l gone q k.once ((w.members q).1 (inl i)) g
-        | inr e ↦ elim e [ inl f ↦ d.0 (subst (λ (v : Cell). IsIn v rest) (sym f) i) | inr none ↦ none ]
-      ]);
-    }
+pub taken : (l gone rest : List Cell) (c : Cell) → IsWithout l c rest → AreMoved (l ++ gone) (rest ++ (gone ++ c ∷ []))
+taken l gone rest c w = record {
+  members = λ q. (
+    λ m. elim (from_append q l gone m) [
+      | inl j ↦ elim ((w.members q).0 j) [
+        | inl r ↦ in_left q rest (gone ++ c ∷ []) r
+        | inr e ↦ in_right q rest (gone ++ c ∷ []) (in_right q gone (c ∷ []) (inl e))
+      ]
+      | inr g ↦ in_right q rest (gone ++ c ∷ []) (in_left q gone (c ∷ []) g)
+    ],
+    λ m. elim (from_append q rest (gone ++ c ∷ []) m) [
+      | inl j ↦ in_left q l gone ((w.members q).1 (inl j))
+      | inr j ↦ elim (from_append q gone (c ∷ []) j) [
+        | inl g ↦ in_right q l gone g
+        | inr e ↦ elim e [ inl f ↦ in_left q l gone ((w.members q).1 (inr f)) | inr none ↦ absurd none ]
+      ]
+    ],
+  );
+  once = λ d. (
+      let here = (w.members c).1 (inr refl) in
+      let o = w.once (first_distinct l gone d) in
+      let more = distinct_push gone c (last_distinct l gone d) (λ j. in_two l gone c d here j) in
+      joined rest (gone ++ c ∷ []) o.1 more (λ q i j. elim (from_append q gone (c ∷ []) j) [
+        | inl g ↦ in_two l gone q d ((w.members q).1 (inl i)) g
+        | inr e ↦ elim e [ inl f ↦ o.0 (subst (λ (v : Cell). IsIn v rest) (sym f) i) | inr none ↦ none ]
+      ]));
+}
+
+-- the last that is gone is put back
+pub given_back : (all now now' gone : List Cell) (c : Cell) → AreMoved all (now ++ (gone ++ c ∷ [])) →
+    AreWith now c now' → AreMoved all (now' ++ gone)
+given_back all now now' gone c a w = moved_on all (now ++ (gone ++ c ∷ [])) (now' ++ gone) a (record {
+  members = λ q. (
+    λ m. elim (from_append q now (gone ++ c ∷ []) m) [
+      | inl j ↦ in_left q now' gone ((w.members q).1 (inl j))
+      | inr j ↦ elim (from_append q gone (c ∷ []) j) [
+        | inl g ↦ in_right q now' gone g
+        | inr e ↦ elim e [ inl f ↦ in_left q now' gone ((w.members q).1 (inr f)) | inr none ↦ absurd none ]
+      ]
+    ],
+    λ m. elim (from_append q now' gone m) [
+      | inl j ↦ elim ((w.members q).0 j) [
+        | inl r ↦ in_left q now (gone ++ c ∷ []) r
+        | inr e ↦ in_right q now (gone ++ c ∷ []) (in_right q gone (c ∷ []) (inl e))
+      ]
+      | inr g ↦ in_right q now (gone ++ c ∷ []) (in_left q gone (c ∷ []) g)
+    ],
+  );
+  once = λ d. (
+      let both = last_distinct now (gone ++ c ∷ []) d in
+      let o = w.once (first_distinct now (gone ++ c ∷ []) d)
+      (λ i. in_two now (gone ++ c ∷ []) c d i (in_right c gone (c ∷ []) (inl refl))) in
+      joined now' gone o (first_distinct gone (c ∷ []) both) (λ q i j. elim ((w.members q).0 i) [
+        | inl r ↦ in_two now (gone ++ c ∷ []) q d r (in_left q gone (c ∷ []) j)
+        | inr e ↦ in_two gone (c ∷ []) q both j (inl e)
+      ]));
+})
 
 -- none is gone yet
-pub with_none : (s : List ℕ) (l gone : List Cell) → AreCellsOf s l → gone ≡ [] → AreCellsOf s (l ++ gone)
-with_none s l gone k e = subst (AreCellsOf s) (sym (ap (λ (g : List Cell). l ++ g) e ∙ append-nil l)) k
+pub with_none : (s : List ℕ) (l gone others : List Cell) → AreCellsOf s (l ++ others) → gone ≡ [] →
+    AreCellsOf s ((l ++ gone) ++ others)
+with_none s l gone others k e =
+    subst (λ (g : List Cell). AreCellsOf s ((l ++ g) ++ others)) (sym e)
+    (subst (λ (v : List Cell). AreCellsOf s (v ++ others)) (sym (append-nil l)) k)
+
+-- the same beside others
+abbrev pub within_none : (reach : Reach) (p : ℕ) (l gone : List Cell) → AreWithinNew reach p l → gone ≡ [] →
+    AreWithinNew reach p (l ++ gone)
+within_none reach p l gone w e = (
+  record {
+    others = w.0.others;
+    set = w.0.set;
+    cells_of = with_none w.0.set l gone w.0.others w.0.cells_of e;
+    alone = w.0.alone;
+  },
+  w.1,
+)
+
+-- cells that were moved are within the same complex
+abbrev pub within_moved : (reach : Reach) (l m : List Cell) → AreMoved l m → AreWithin reach l → AreWithin reach m
+within_moved reach l m a w = record {
+  others = w.others;
+  set = w.set;
+  cells_of = moved_cells w.set (l ++ w.others) (m ++ w.others) (moved_first l m w.others a) w.cells_of;
+  alone = w.alone;
+}
 
 -- ---- across a facet
 

@@ -2,11 +2,9 @@
 //!
 //! What the table answers is a hint. No contract speaks of it.
 
-use point_order::{Facet, Point};
+use crate::corners::Face;
+use crate::slots::short;
 use std::alloc::{AllocError, Global};
-
-// In the place of a point's key, where an edge ends in the infinite vertex.
-const INFINITE: u64 = u64::MAX;
 
 // An edge of a rim facet, and the facet of the new cell that is on it.
 #[derive(Clone, Copy)]
@@ -23,66 +21,53 @@ pub(crate) struct Door {
     pub(crate) number: usize,
 }
 
-// The three edges of a facet. The cell of the facet and p has a facet on each.
-pub(crate) fn edges_of(facet: &Facet, p: Point) -> [Edge; 3] {
-    match facet {
-        Facet::Three(tri) => {
-            let (a, b, c) = tri.corners();
-            [
-                Edge::new(b.key(), c.key(), (p < a) as usize),
-                Edge::new(a.key(), c.key(), 1 + (p < b) as usize),
-                Edge::new(a.key(), b.key(), 2 + (p < c) as usize),
-            ]
-        }
-        Facet::Two(pair) => {
-            let (a, b) = pair.corners();
-            [
-                Edge::new(b.key(), INFINITE, (p < a) as usize),
-                Edge::new(a.key(), INFINITE, 1 + (p < b) as usize),
-                Edge::new(a.key(), b.key(), 3),
-            ]
-        }
-    }
+// The three edges of a facet. The cell of the facet and the point with key p has a facet on each.
+pub(crate) fn edges_of(facet: &Face, p: u64) -> [Edge; 3] {
+    let (a, b, c) = (facet.x, facet.y, facet.z);
+    [
+        Edge::new(b, c, (p < a) as usize),
+        Edge::new(a, c, 1 + (p < b) as usize),
+        Edge::new(a, b, 2 + (p < c) as usize),
+    ]
 }
 
 // The number of the facet itself in the cell of it and p: how many of its points are below p.
-pub(crate) fn number_under(facet: &Facet, p: Point) -> usize {
-    match facet {
-        Facet::Three(tri) => {
-            let (a, b, c) = tri.corners();
-            (a < p) as usize + (b < p) as usize + (c < p) as usize
-        }
-        Facet::Two(pair) => {
-            let (a, b) = pair.corners();
-            (a < p) as usize + (b < p) as usize
-        }
-    }
+pub(crate) fn number_under(facet: &Face, p: u64) -> usize {
+    (facet.x < p) as usize + (facet.y < p) as usize + (facet.z < p) as usize
 }
 
-// A facet that waits for the other on its edge. It counts where the stamp is that of the point at hand.
+// A facet by itself, as an edge is, and its number in a cell.
+pub(crate) fn whole_facet(facet: &Face, number: usize) -> Edge {
+    Edge::new(
+        facet.x | facet.z << 42,
+        facet.y | (facet.z >> 22) << 42,
+        number,
+    )
+}
+
+// A facet that waits for the other on its edge: four times its place, and its number. It counts where the stamp is that
+// of the table.
 #[derive(Clone, Copy)]
 struct Entry {
     first: u64,
     second: u64,
-    stamp: u64,
-    door: Door,
+    stamp: u32,
+    door: u32,
 }
 
 // One that waits for none.
 const EMPTY: Entry = Entry {
     first: 0,
     second: 0,
-    stamp: INFINITE,
-    door: Door {
-        place: 0,
-        number: 0,
-    },
+    stamp: 0,
+    door: 0,
 };
 
 // The facets of new cells by their edges, scattered over a list whose length is a power of two.
 #[derive(Drop)]
 pub(crate) struct Edges {
     entries: Vec<Entry>,
+    stamp: u32,
 }
 
 impl Edges {
@@ -90,11 +75,13 @@ impl Edges {
     pub(crate) fn new(alloc: Global) -> Edges {
         Edges {
             entries: Vec::new(alloc),
+            stamp: 0,
         }
     }
 
-    // Sees to it that the table is more than twice as long as there are edges of so many facets.
+    // Empties the table, and sees to it that it is more than twice as long as there are edges of so many facets.
     pub(crate) fn make_room(&mut self, facets: usize) -> Result<(), AllocError> {
+        self.stamp = self.stamp.wrapping_add(1);
         let most = facets.saturating_mul(4);
         if self.entries.len() >= most && self.entries.len() > 0 {
             return Ok(());
@@ -106,7 +93,7 @@ impl Edges {
     }
 
     // The facet that waits on the edge, or none, and then this one does.
-    pub(crate) fn meet(&mut self, edge: &Edge, stamp: u64, place: usize) -> Option<Door> {
+    pub(crate) fn meet(&mut self, edge: &Edge, place: usize) -> Option<Door> {
         let mask = self.entries.len().wrapping_sub(1);
         let mut at = scattered(edge) & mask;
         for _ in 0..self.entries.len() {
@@ -114,17 +101,20 @@ impl Edges {
                 return None;
             }
             let entry = self.entries[at];
-            if entry.stamp != stamp {
+            if entry.stamp != self.stamp {
                 self.entries[at] = Entry {
                     first: edge.first,
                     second: edge.second,
-                    stamp,
-                    door: edge.door(place),
+                    stamp: self.stamp,
+                    door: short(place << 2 | edge.number),
                 };
                 return None;
             }
             if entry.first == edge.first && entry.second == edge.second {
-                return Some(entry.door);
+                return Some(Door {
+                    place: entry.door as usize >> 2,
+                    number: entry.door as usize & 3,
+                });
             }
             at = at.wrapping_add(1) & mask;
         }

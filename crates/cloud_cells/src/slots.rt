@@ -1,28 +1,17 @@
 //! What stands in a slot, and what stood there before it was taken out.
 
-ghost use Rattle.std.specs.Prelude.{
-  ◌≡◌,
-  ◌↔◌,
-  ◌<◌,
-  ◌∷◌,
-  [],
-  ◌++◌,
-  Some,
-  None,
-  length,
-  IfOk,
-  IsTrue,
-  MatchOption,
-  OnOk,
-};
+ghost use Rattle.std.specs.Prelude.{◌≡◌, ◌↔◌, ◌<◌, ◌≤◌, ◌+◌, ◌∷◌, [], ◌++◌, Some, None, length, IfOk, IsTrue};
+ghost use Rattle.std.specs.Prelude.{MatchOption, OnOk};
 ghost use Rattle.point_order.specs.Sets.{IsIn};
 ghost use Rattle.cloud_cells.specs.Clouds.{HasOtherIn};
 ghost use Rattle.hole_laws.specs.Others.{IsOtherOf, HaveNoOther};
+ghost use Rattle.cloud_cells.specs.Stars.{HaveRoom};
 ghost use Rattle.cloud_cells.specs.Nets.{AreMoved, AreWith, HasNoOther, IsOtherOn, IsWithout, cells_of_slots, slot_at};
 
+use crate::corners::{Corners, Face};
 use crate::packed::Packed;
 use crate::spot::Spot;
-use point_order::{Cell, Facet};
+use point_order::Cell;
 use std::alloc::{AllocError, Global};
 use std::marker::Model;
 
@@ -44,19 +33,36 @@ impl Model for Slot {
 }
 
 // A number in 32 bits, where it has no more.
-fn short(number: usize) -> u32 {
+pub(crate) fn short(number: usize) -> u32 {
     u32::try_from(number).unwrap_or(u32::MAX)
 }
 
 impl Slot {
     // A slot of a cell of which nothing is known.
-    pub(crate) fn new(cell: Cell) -> Slot
-        ensures { result ≡ Some cell }
+    pub(crate) fn new(cell: &Corners) -> Slot
+        ensures { result ≡ Some cell.now }
     {
         Slot {
-            packed: Packed::of(&cell),
+            packed: Packed::of(cell),
             links: [0; 4],
         }
+    }
+
+    // A slot without a cell.
+    fn free() -> Slot
+        ensures { result ≡ None }
+    {
+        Slot {
+            packed: Packed::none(0),
+            links: [0; 4],
+        }
+    }
+
+    // The keys of the cell, if it has one.
+    fn corners(&self) -> Option<Corners>
+        ensures { result ≡ self.now }
+    {
+        self.packed.corners()
     }
 
     // The cell, if it has one.
@@ -89,7 +95,7 @@ impl Slot {
     fn clear(&mut self, number: usize)
         ensures { self.new ≡ None }
     {
-        self.packed = Packed::none(u16::try_from(number).unwrap_or(u16::MAX));
+        self.packed = Packed::none(short(number));
     }
 
     // What stands in it, without the rest.
@@ -100,26 +106,26 @@ impl Slot {
     }
 
     // A cell is put in.
-    fn fill(&mut self, cell: Cell)
-        ensures { self.new ≡ Some cell }
+    fn fill(&mut self, cell: &Corners)
+        ensures { self.new ≡ Some cell.now }
     {
-        self.packed = Packed::of(&cell);
+        self.packed = Packed::of(cell);
     }
 }
 
 // What stands in a slot; past the end nothing does.
-pub(crate) fn cell_at(slots: &[Slot], i: usize) -> Option<Cell>
+pub(crate) fn cell_at(slots: &[Slot], i: usize) -> Option<Corners>
     ensures { result ≡ slot_at slots.now i }
 {
     if i < slots.len() {
-        slots[i].cell()
+        slots[i].corners()
     } else {
         None
     }
 }
 
 // Whether the cell stands in a slot.
-fn stands_at(slots: &[Slot], i: usize, cell: &Cell) -> bool
+fn stands_at(slots: &[Slot], i: usize, cell: &Corners) -> bool
     ensures { IsTrue result ↔ (slot_at slots.now i ≡ Some cell.now) }
 {
     match cell_at(slots, i) {
@@ -129,7 +135,7 @@ fn stands_at(slots: &[Slot], i: usize, cell: &Cell) -> bool
 }
 
 // The slot of a cell, which is likely to be the hint.
-fn place_of(slots: &[Slot], cell: &Cell, hint: usize) -> usize
+fn place_of(slots: &[Slot], cell: &Corners, hint: usize) -> usize
     requires { IsIn cell.now (cells_of_slots slots.now) }
     ensures { slot_at slots.now result ≡ Some cell.now }
 {
@@ -145,14 +151,14 @@ fn place_of(slots: &[Slot], cell: &Cell, hint: usize) -> usize
 }
 
 // Whether the cell is another on the facet.
-fn is_other(other: &Cell, cell: &Cell, facet: &Facet) -> bool
+fn is_other(other: &Corners, cell: &Corners, facet: &Face) -> bool
     ensures { IsTrue result ↔ IsOtherOn cell.now facet.now other.now }
 {
-    other.is_on(facet) && !other.is_same(cell)
+    other.number_of(facet) < 4 && !other.is_same(cell)
 }
 
 // The cell of a slot, where it is another on the facet.
-pub(crate) fn other_at(slots: &[Slot], i: usize, cell: &Cell, facet: &Facet) -> Option<Cell>
+pub(crate) fn other_at(slots: &[Slot], i: usize, cell: &Corners, facet: &Face) -> Option<Corners>
     ensures { MatchOption result (HasNoOther slots.now i cell.now facet.now)
         (λ other. IsOtherOf (cells_of_slots slots.now) cell.now facet.now other) }
 {
@@ -164,7 +170,7 @@ pub(crate) fn other_at(slots: &[Slot], i: usize, cell: &Cell, facet: &Facet) -> 
 }
 
 // The cell across a facet of a cell, and its slot, where all are looked at. There is to be one.
-pub(crate) fn other_across(slots: &[Slot], cell: &Cell, facet: &Facet) -> (Cell, usize)
+pub(crate) fn other_across(slots: &[Slot], cell: &Corners, facet: &Face) -> (Corners, usize)
     requires { HasOtherIn (cells_of_slots slots.now) cell.now facet.now }
     ensures { IsOtherOf (cells_of_slots slots.now) cell.now facet.now result.0 }
 {
@@ -177,7 +183,12 @@ pub(crate) fn other_across(slots: &[Slot], cell: &Cell, facet: &Facet) -> (Cell,
 }
 
 // The cell of those taken out that is another on the facet, likely the one at the hint.
-pub(crate) fn gone_across(gone: &[Spot], cell: &Cell, facet: &Facet, hint: usize) -> Option<Cell>
+pub(crate) fn gone_across(
+    gone: &[Spot],
+    cell: &Corners,
+    facet: &Face,
+    hint: usize,
+) -> Option<Corners>
     ensures { MatchOption result (HaveNoOther gone.now cell.now facet.now)
         (λ other. IsOtherOf gone.now cell.now facet.now other) }
 {
@@ -196,7 +207,7 @@ pub(crate) fn gone_across(gone: &[Spot], cell: &Cell, facet: &Facet, hint: usize
 }
 
 // Takes a cell out of its slot, so many after the first, and answers which that was.
-pub(crate) fn take_out(slots: &mut Vec<Slot>, cell: &Cell, hint: usize, number: usize) -> usize
+pub(crate) fn take_out(slots: &mut Vec<Slot>, cell: &Corners, hint: usize, number: usize) -> usize
     requires { IsIn cell.now (cells_of_slots slots.old.items) }
     ensures { IsWithout (cells_of_slots slots.old.items) cell.now (cells_of_slots slots.new.items) }
 {
@@ -215,8 +226,12 @@ fn is_free(slots: &[Slot], i: usize) -> bool
 }
 
 // Puts a cell into the slot of the hint, where that is free, or behind all, and answers which that was.
-pub(crate) fn put_in(slots: &mut Vec<Slot>, cell: Cell, hint: usize) -> Result<usize, AllocError>
-    ensures { OnOk result (AreWith (cells_of_slots slots.old.items) cell (cells_of_slots slots.new.items)) }
+pub(crate) fn put_in(
+    slots: &mut Vec<Slot>,
+    cell: &Corners,
+    hint: usize,
+) -> Result<usize, AllocError>
+    ensures { OnOk result (AreWith (cells_of_slots slots.old.items) cell.now (cells_of_slots slots.new.items)) }
 {
     if is_free(slots, hint) {
         slots[hint].fill(cell);
@@ -225,6 +240,66 @@ pub(crate) fn put_in(slots: &mut Vec<Slot>, cell: Cell, hint: usize) -> Result<u
     let place = slots.len();
     slots.push(Slot::new(cell))?;
     Ok(place)
+}
+
+// Takes a cell out of its slot, so many after the first. No slot comes or goes.
+pub(crate) fn clear_slot(slots: &mut [Slot], cell: &Corners, hint: usize, number: usize)
+    requires { IsIn cell.now (cells_of_slots slots.old) }
+    ensures taken { IsWithout (cells_of_slots slots.old) cell.now (cells_of_slots slots.new) }
+    ensures size { length slots.new ≡ length slots.old }
+{
+    let place = place_of(slots, cell, hint);
+    if place < slots.len() {
+        slots[place].clear(number);
+    }
+}
+
+// Whether the slot has no cell.
+fn has_none(slots: &[Slot], i: usize) -> bool
+    ensures { IsTrue result ↔ (slot_at slots.now i ≡ None) }
+{
+    match cell_at(slots, i) {
+        Some(_) => false,
+        None => true,
+    }
+}
+
+// A free slot, which is likely to be the hint. There is to be one.
+fn free_slot(slots: &[Slot], hint: usize) -> usize
+    requires { HaveRoom slots.now 1 }
+    ensures { (result < length slots.now) × (slot_at slots.now result ≡ None) }
+{
+    if is_free(slots, hint) {
+        return hint;
+    }
+    for i in 0..slots.len() {
+        if has_none(slots, i) {
+            return i;
+        }
+    }
+    unreachable!()
+}
+
+// Puts a cell into a free slot, which is likely to be the hint, and answers which that was. No slot comes or goes.
+pub(crate) fn fill_slot(slots: &mut [Slot], cell: &Corners, hint: usize) -> usize
+    requires { HaveRoom slots.old 1 }
+    ensures with_cell { AreWith (cells_of_slots slots.old) cell.now (cells_of_slots slots.new) }
+    ensures size { length slots.new ≡ length slots.old }
+    ensures count { length (cells_of_slots slots.new) ≡ length (cells_of_slots slots.old) + 1 }
+{
+    let place = free_slot(slots, hint);
+    slots[place].fill(cell);
+    place
+}
+
+// Puts a free slot behind all.
+pub(crate) fn push_free(slots: &mut Vec<Slot>) -> Result<(), AllocError>
+    ensures cells { cells_of_slots slots.new.items ≡ cells_of_slots slots.old.items }
+    ensures less { length slots.old.items ≤ length slots.new.items }
+    ensures size { OnOk result (length slots.new.items ≡ length slots.old.items + 1) }
+{
+    slots.push(Slot::free())?;
+    Ok(())
 }
 
 // Puts the cell of a slot, if it has one, behind the cells.

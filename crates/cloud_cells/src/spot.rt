@@ -2,13 +2,13 @@
 
 ghost use Rattle.std.specs.Prelude.{◌≡◌};
 
-use point_order::Cell;
+use crate::corners::Corners;
 use std::marker::Model;
 
 // A cell at hand, and where it is likely to stand. Contracts see it as the cell.
 #[derive(Drop)]
 pub(crate) struct Spot {
-    cell: Cell,
+    cell: Corners,
     place: usize,
 }
 
@@ -22,14 +22,14 @@ impl Model for Spot {
 
 impl Spot {
     // The cell, which is likely to stand in the slot.
-    pub(crate) fn new(cell: Cell, place: usize) -> Spot
+    pub(crate) fn new(cell: Corners, place: usize) -> Spot
         ensures { result ≡ cell }
     {
         Spot { cell, place }
     }
 
     // The cell.
-    pub(crate) fn cell(&self) -> &Cell
+    pub(crate) fn cell(&self) -> &Corners
         ensures { result.now ≡ self.now }
     {
         &self.cell

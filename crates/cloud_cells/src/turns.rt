@@ -1,7 +1,8 @@
 //! The points in the order in which they come to the net.
 
-ghost use Rattle.std.specs.Prelude.{◌≡◌, IfOk, IsPermutation};
-ghost use Rattle.point_order.specs.Coordinates.{IsKey};
+ghost use Rattle.std.specs.Prelude.{◌≡◌, ◌↔◌, ◌∷◌, [], IfOk, IsTrue};
+ghost use Rattle.point_order.specs.Sets.{IsIn};
+ghost use Rattle.cloud_cells.specs.Parts.{AreOthers};
 
 use crate::curve::turn_of;
 use point_order::Point;
@@ -26,24 +27,49 @@ impl Model for Turn {
 impl Turn {
     // The point.
     pub(crate) fn point(&self) -> Point
-        ensures value { result ≡ self.now }
-        ensures key { IsKey self.now }
+        ensures { result ≡ self.now }
     {
-        let _ = self.point.key();
         self.point
+    }
+
+    // The same once more.
+    pub(crate) fn copied(&self) -> Turn
+        ensures { result ≡ self.now }
+    {
+        Turn {
+            number: self.number,
+            point: self.point,
+        }
     }
 }
 
-// The points in the order of their turns.
-pub(crate) fn turns_of(alloc: Global, points: &[Point]) -> Result<Vec<Turn>, AllocError>
-    ensures { IfOk result (λ turns. IsPermutation points.now turns.items) }
+// Whether p is one of the four.
+fn is_of_four(a: Point, b: Point, c: Point, d: Point, p: Point) -> bool
+    ensures { IsTrue result ↔ IsIn p (a ∷ b ∷ c ∷ d ∷ []) }
+{
+    a == p || b == p || c == p || d == p
+}
+
+// The points but the four, in the order of their turns.
+pub(crate) fn turns_of(
+    alloc: Global,
+    points: &[Point],
+    a: Point,
+    b: Point,
+    c: Point,
+    d: Point,
+) -> Result<Vec<Turn>, AllocError>
+    ensures { IfOk result (λ turns. AreOthers (a ∷ b ∷ c ∷ d ∷ []) points.now turns.items) }
 {
     let mut turns = Vec::with_capacity(alloc, points.len())?;
     for p in points {
-        turns.push(Turn {
-            number: turn_of(*p),
-            point: *p,
-        })?;
+        if !is_of_four(a, b, c, d, *p) {
+            let _ = p.key();
+            turns.push(Turn {
+                number: turn_of(*p),
+                point: *p,
+            })?;
+        }
     }
     turns.sort_unstable_by_key(|turn| turn.number);
     Ok(turns)

@@ -1,17 +1,10 @@
 -- The lemmas that other crates cite.
+pub use Rattle.hole_laws.proofs.AroundPoint.{star_connected}
 pub use Rattle.hole_laws.proofs.EditLaws.{changes_reached, edits_commute, stays_solid}
 pub use Rattle.hole_laws.proofs.FacetVertices.{IsAgainst, against_of, over_facet}
 pub use Rattle.hole_laws.proofs.Judged.{goes_in_conflict, mates_judge, stays_without_conflict}
-pub use Rattle.hole_laws.proofs.Laws.{
-  cells_after,
-  found_from_held,
-  fresh_are_near,
-  fresh_have_point,
-  old_lack_point,
-  region_connected,
-  some_rim,
-}
-pub use Rattle.hole_laws.proofs.Near.{facet_inside, facet_point}
+pub use Rattle.hole_laws.proofs.Laws.{cells_after, found_from_held, fresh_are_near, fresh_have_point, old_lack_point}
+pub use Rattle.hole_laws.proofs.Laws.{region_connected, some_rim}
 pub use Rattle.hole_laws.proofs.NewCells.{point_vertex}
 pub use Rattle.hole_laws.proofs.OfSets.{lists_of, more_set}
 pub use Rattle.hole_laws.proofs.RemovalLaws.{cells_of_rest, coming_are_near, refilled_from_link, solid_near}

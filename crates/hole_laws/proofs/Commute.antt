@@ -50,14 +50,6 @@ abbrev pub Reach : PointSet → Step → Vertex → Type 0
 Reach S (add p) q = (q ≡ p) ⊎ (has_as_point S p ≡ false) × IsAtGone (cell S) (cell (set_with S p)) q
 Reach S (take p) q = (q ≡ p) ⊎ (has_as_point S p ≡ true) × (q ≢ far) × AreLinked (cell S) p q
 
--- both orders do the same
-pub record Commutes (S : PointSet) (e d : Step) : Type 0 where
-  pub same : after (after S d) e ≡ after (after S e) d
-  pub reply_d : reply S d ≡ reply (after S e) d
-  pub reply_e : reply (after S d) e ≡ reply S e
-  pub reach_d : (q : Vertex) → Reach S d q ↔ Reach (after S e) d q
-  pub reach_e : (q : Vertex) → Reach (after S d) e q ↔ Reach S e q
-
 -- e changes nothing, by its own point
 abbrev pub Idle : PointSet → Step → Type 0
 Idle S e = has_as_point S (point_of e) ≡ is_add e
@@ -287,31 +279,6 @@ pub record Turned (S : PointSet) (e d : Step) (S1 S2 : PointSet) : Type 0 where
   pub reach_d : (q : Vertex) → Along S d by q ↔ Along S1 d S2 q
   pub reach_e : (q : Vertex) → Along by e S2 q ↔ Along S e S1 q
 
--- so they commute
-from_turned : (S : PointSet) (e d : Step) (S1 S2 : PointSet) → Makes S e S1 → Makes S1 d S2 → after S e ≡ S1 →
-    Turned S e d S1 S2 → Commutes S e d
-from_turned S e d S1 S2 m n q t = record {
-  same = ap (λ (U : PointSet). after U e) p ∙ makes_after t.by e S2 t.second
-      ∙ sym (ap (λ (U : PointSet). after U d) q ∙ makes_after S1 d S2 n);
-  reply_d = makes_reply S d t.by t.first ∙ sym (ap (λ (U : PointSet). reply U d) q ∙ makes_reply S1 d S2 n);
-  reply_e = ap (λ (U : PointSet). reply U e) p ∙ makes_reply t.by e S2 t.second ∙ sym (makes_reply S e S1 m);
-  reach_d = λ x. (
-    λ h. subst (λ (U : PointSet). Reach U d x) (sym q) ((makes_reach S1 d S2 n x).1
-        ((t.reach_d x).0 ((makes_reach S d t.by t.first x).0 h))),
-    λ h. (makes_reach S d t.by t.first x).1 ((t.reach_d x).1 ((makes_reach S1 d S2 n x).0
-        (subst (λ (U : PointSet). Reach U d x) q h))),
-  );
-  reach_e = λ x. (
-    λ h. (makes_reach S e S1 m x).1 ((t.reach_e x).0 ((makes_reach t.by e S2 t.second x).0
-        (subst (λ (U : PointSet). Reach U e x) p h))),
-    λ h. subst (λ (U : PointSet). Reach U e x) (sym p) ((makes_reach t.by e S2 t.second x).1
-        ((t.reach_e x).1 ((makes_reach S e S1 m x).0 h))),
-  );
-}
-  where
-    p : after S d ≡ t.by
-    p = makes_after S d t.by t.first
-
 -- what is reached along opposite sides
 rho_both : (S T U V : PointSet) (x q : Vertex) → At S T q ↔ At U V q → Rho S T x q ↔ Rho U V x q
 rho_both S T U V x q f = (corners.rho_along S T U V x q f.0, corners.rho_along U V S T x q f.1)
@@ -405,90 +372,6 @@ turn B (add x) (take y) T A s n bt m d =
 
     a : corners.Agree R A B T
     a = corners.agree_across R A B T x y record { ra = ra; rb = rb; at = m.0; bt = bt } m.1 s d
-
--- where e is idle
-idle_first : (S : PointSet) (e d : Step) → is_point (point_of d) ≡ true → point_of e ≢ point_of d → Idle S e →
-    Commutes S e d
-idle_first S e d nd n i = record {
-  same = idle_after (after S d) e j ∙ ap (λ (U : PointSet). after U d) (sym p);
-  reply_d = ap (λ (U : PointSet). reply U d) (sym p);
-  reply_e = idle_reply (after S d) e j ∙ sym (idle_reply S e i);
-  reach_d = λ x. (subst (λ (U : PointSet). Reach U d x) (sym p), subst (λ (U : PointSet). Reach U d x) p);
-  reach_e = λ x. (
-    λ h. own_reach S e x (idle_reach (after S d) e x j h),
-    λ h. own_reach (after S d) e x (idle_reach S e x i h),
-  );
-}
-  where
-    p : after S e ≡ S
-    p = idle_after S e i
-
-    j : Idle (after S d) e
-    j = others S d (point_of e) nd n ∙ i
-
--- where d is idle
-idle_second : (S : PointSet) (e d : Step) → is_point (point_of e) ≡ true → point_of e ≢ point_of d →
-    Idle (after S e) d → Commutes S e d
-idle_second S e d ne n i = record {
-  same = ap (λ (U : PointSet). after U e) p ∙ sym (idle_after (after S e) d i);
-  reply_d = idle_reply S d j ∙ sym (idle_reply (after S e) d i);
-  reply_e = ap (λ (U : PointSet). reply U e) p;
-  reach_d = λ x. (
-    λ h. own_reach (after S e) d x (idle_reach S d x j h),
-    λ h. own_reach S d x (idle_reach (after S e) d x i h),
-  );
-  reach_e = λ x. (subst (λ (U : PointSet). Reach U e x) p, subst (λ (U : PointSet). Reach U e x) (sym p));
-}
-  where
-    j : Idle S d
-    j = sym (others S e (point_of d) ne (λ f. n (sym f))) ∙ i
-
-    p : after S d ≡ S
-    p = idle_after S d j
-
--- edits whose reaches are apart commute
-pub commute : (S : PointSet) (e d : Step) → solid S ≡ true → is_point (point_of e) ≡ true →
-    is_point (point_of d) ≡ true →
-    Disjoint (Reach S e) (Reach (after S e) d) → Commutes S e d
-commute S e d s ne nd apart = go (kind S e ne) (kind (after S e) d nd)
-  where
-    n : point_of e ≢ point_of d
-    n f = apart (point_of e) (own_reach S e (point_of e) refl) (own_reach (after S e) d (point_of e) f)
-
-    idle_or : (T : PointSet) → Kind T d → (Idle T d) ⊎ (Idle T d → ⊥)
-    idle_or T k = go2 (has_as_point T (point_of d)) (is_add d)
-      where
-        go2 : (b c : Bool) → (b ≡ c) ⊎ (b ≡ c → ⊥)
-        go2 true true = inl refl
-        go2 false false = inl refl
-        go2 true false = inr (λ h. false≢true (sym h))
-        go2 false true = inr false≢true
-
-    go : Kind S e → Kind (after S e) d → Commutes S e d
-    go (idle i) k = idle_first S e d nd n i
-    go (flat f) (idle i) = idle_second S e d ne n i
-    go (real m) (idle i) = idle_second S e d ne n i
-    go (flat f) k = ⊎_elim (λ i. idle_second S e d ne n i)
-        (λ i. let p = flat_after S e f in
-        let t = touches (after S e) d (ap solid p ∙ s) nd i in
-        absurd (apart t.0 (flat_reach S e s f t.0 (sym (ap (λ (U : PointSet). has_as_point U t.0) p) ∙ t.1)) t.2))
-        (idle_or (after S e) k)
-    go (real m) (flat f) =
-        let t = stays S e (after S e) s m in
-        absurd (apart t.0 t.2 (flat_reach (after S e) d (makes_solid S e (after S e) s m) f t.0 t.1))
-    go (real m) (real k) = from_turned S e d (after S e) (after (after S e) d) m k refl
-        (turn S e d (after S e) (after (after S e) d) s n m k
-        λ q a b. apart q ((makes_reach S e (after S e) m q).1 a)
-        ((makes_reach (after S e) d (after (after S e) d) k q).1 b))
-
--- a solid set stays solid
-pub solid_after : (S : PointSet) (e : Step) → solid S ≡ true → is_point (point_of e) ≡ true → solid (after S e) ≡ true
-solid_after S e s n = go (kind S e n)
-  where
-    go : Kind S e → solid (after S e) ≡ true
-    go (idle i) = ap solid (idle_after S e i) ∙ s
-    go (flat f) = ap solid (flat_after S e f) ∙ s
-    go (real m) = makes_solid S e (after S e) s m
 
 -- a point of a cell that the edit changes is in its reach
 pub locality : (S : PointSet) (e : Step) (w x y z : Vertex) → solid S ≡ true → is_point (point_of e) ≡ true →

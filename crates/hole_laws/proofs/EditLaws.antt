@@ -11,15 +11,8 @@ use Rattle.point_order.specs.Facets.{points_of}
 use Rattle.point_order.specs.declared.cell.Cell.{Cell}
 use Rattle.edit_history.specs.declared.history.Edit.{Edit}
 use Rattle.edit_history.specs.declared.history.Edit.TheVariants.{Add, Take, Move}
-use Rattle.edit_history.specs.declared.history.Reply.TheVariants.{
-  Inserted,
-  Duplicate,
-  Removed,
-  Missing,
-  Flat,
-  Moved,
-  Occupied,
-}
+use Rattle.edit_history.specs.declared.history.Reply.TheVariants.{Inserted, Duplicate, Removed, Missing, Flat, Moved}
+use Rattle.edit_history.specs.declared.history.Reply.TheVariants.{Occupied}
 use Rattle.edit_history.specs.Edits.{HasKeys, moved_to, reply_to, after, arrived, changed}
 use Rattle.del_laws.specs.Cells.{Vertex, point, far}
 use Rattle.del_laws.specs.PointSets.{PointSet, solid, cell, minus, is_point, has_as_point, set_with}

@@ -41,10 +41,6 @@ pub record IsAgainst (q : Cell) (z : Vertex) (f : Facet) : Type 0 where
 differ : (a b : ℕ) → a < b → point a ≢ point b
 differ a b l e = omega (arith, same_point a b e)
 
--- the other way round
-differ' : (a b : ℕ) → a < b → point b ≢ point a
-differ' a b l e = differ a b l (sym e)
-
 -- four points in order
 four_points : (a b c d : ℕ) → a < b → b < c → c < d → AreFourVertices (point a) (point b) (point c) (point d)
 four_points a b c d ab bc cd = record {

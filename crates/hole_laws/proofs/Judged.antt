@@ -11,18 +11,8 @@ use Rattle.point_order.specs.Conflicts.{is_in_conflict, CanJudge}
 use Rattle.point_order.specs.declared.cell.Cell.{Cell}
 use Rattle.point_order.specs.declared.cell.Cell.TheVariants.{Full, Open}
 use Rattle.del_laws.specs.Vertices.{is_full_cell, is_open_cell}
-use Rattle.del_laws.proofs.Cited.{
-  cell_is_listed,
-  full_is_kept,
-  full_not_flat,
-  listed_full,
-  listed_inside,
-  listed_is_cell,
-  listed_mate,
-  listed_open,
-  of_four,
-  open_is_kept,
-}
+use Rattle.del_laws.proofs.Cited.{cell_is_listed, full_is_kept, full_not_flat, listed_full, listed_inside}
+use Rattle.del_laws.proofs.Cited.{listed_is_cell, listed_mate, listed_open, of_four, open_is_kept}
 use Rattle.hole_laws.specs.Edits.{IsSet, IsNew, IsMate}
 use Rattle.hole_laws.specs.Laws.{StaysWithoutConflict, GoesInConflict, SomeMate, MatesJudge}
 use Rattle.hole_laws.proofs.OfSets.{more_set}

@@ -12,19 +12,8 @@ use Rattle.hole_laws.proofs.Tests.{Insertion}
 use Rattle.hole_laws.specs.Lists.{AreJoined}
 use Rattle.hole_laws.proofs.Vertex.{ListsCells}
 use Rattle.hole_laws.specs.Edits.{IsSolidSet, IsNew, GoesFrom, StaysFrom, IsRimOf, IsFresh}
-use Rattle.hole_laws.specs.Laws.{
-  SomeRim,
-  CellsAfter,
-  FreshHavePoint,
-  OldLackPoint,
-  IsClosedPart,
-  RegionConnected,
-  IsHeldPart,
-  FoundFromHeld,
-  IsReached,
-  FreshAreNear,
-  JoinedAreReached,
-}
+use Rattle.hole_laws.specs.Laws.{SomeRim, CellsAfter, FreshHavePoint, OldLackPoint, IsClosedPart, RegionConnected}
+use Rattle.hole_laws.specs.Laws.{IsHeldPart, FoundFromHeld, IsReached, FreshAreNear, JoinedAreReached}
 use Rattle.hole_laws.proofs.Listed.{decide_listed, region_listed}
 use Rattle.hole_laws.proofs.NewCells.{point_vertex, new_over_rim, over_rim_new, without_new, rim_listed, over_has_point}
 use Rattle.hole_laws.proofs.Near.{held_listed, new_near, at_gone, joined_going, joined_of}

@@ -32,3 +32,4 @@ pub mod Crossing
 pub mod Exploring
 pub mod FourCells
 pub mod Cited
+pub mod AroundPoint

@@ -2,17 +2,8 @@
 use Rattle.std.specs.Prelude.{◌≡◌, ℕ, Bool, true, ◌&&◌, ◌||◌, List, [], ◌∷◌, ◌⊎◌}
 use Rattle.std.proofs.Common.{refl, sym, ap₂, ◌∙◌, subst, inl, inr}
 use Rattle.std.proofs.lemmas.Bool.{false≢true}
-use Rattle.list_laws.proofs.Cited.{
-  and_not,
-  and_not_from,
-  any_from,
-  any_true,
-  false_if,
-  first_true,
-  four_is,
-  second_true,
-  true_or_false,
-}
+use Rattle.list_laws.proofs.Cited.{and_not, and_not_from, any_from, any_true, false_if, first_true, four_is}
+use Rattle.list_laws.proofs.Cited.{second_true, true_or_false}
 use Rattle.point_order.specs.Sets.{IsIn}
 use Rattle.point_order.specs.Facets.{facets_of}
 use Rattle.point_order.specs.declared.cell.Cell.{Cell}
@@ -43,7 +34,7 @@ four_of c k w x y z h =
     record { wx = b.2; wy = b.1; wz = b.0; xy = d.1; xz = d.0; yz = λ e. a.0 (sym e) }
 
 -- a list's test does not depend on the order of the vertices
-listed_symmetric : (l : List Cell) → Symmetric (is_listed l)
+pub listed_symmetric : (l : List Cell) → Symmetric (is_listed l)
 unfolding is_listed
 listed_symmetric l = record { first = first l; middle = middle l; last = last l }
   where
@@ -60,13 +51,13 @@ listed_symmetric l = record { first = first l; middle = middle l; last = last l 
     last (q ∷ l) w x y z = ap₂ (λ a b. a || b) ((vertices_symmetric q).last w x y z) (last l w x y z)
 
 -- what the test says
-listed_from : (l : List Cell) (w x y z : Vertex) → is_listed l w x y z ≡ true → HasListed l w x y z
+pub listed_from : (l : List Cell) (w x y z : Vertex) → is_listed l w x y z ≡ true → HasListed l w x y z
 unfolding is_listed
 listed_from l w x y z h =
     let t = any_from (λ q. has_vertices q w x y z) l h in record { q = t.0; listed = t.1; vertices = t.2 }
 
 -- and back
-listed_true : (l : List Cell) (w x y z : Vertex) (q : Cell) → IsIn q l → has_vertices q w x y z ≡ true →
+pub listed_true : (l : List Cell) (w x y z : Vertex) (q : Cell) → IsIn q l → has_vertices q w x y z ≡ true →
     is_listed l w x y z ≡ true
 unfolding is_listed
 listed_true l w x y z q m h = any_true (λ q. has_vertices q w x y z) l q m h

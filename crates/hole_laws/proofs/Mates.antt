@@ -2,19 +2,8 @@
 use Rattle.std.specs.Prelude.{◌≡◌, ℕ, Bool, true, false, List, [], ◌∷◌, ◌⊎◌, MatchBool, not, Some, None}
 use Rattle.std.specs.List.{find}
 use Rattle.std.proofs.Common.{sym, subst, inl, inr, arith}
-use Rattle.list_laws.proofs.Cited.{
-  IsFound,
-  among_from,
-  among_true,
-  at_most,
-  distinct_ascending,
-  found_from,
-  not_both,
-  not_from,
-  not_true,
-  searched,
-  true_or_false,
-}
+use Rattle.list_laws.proofs.Cited.{IsFound, among_from, among_true, at_most, distinct_ascending, found_from, not_both}
+use Rattle.list_laws.proofs.Cited.{not_from, not_true, searched, true_or_false}
 use Rattle.point_order.specs.declared.cell.Cell.{Cell}
 use Rattle.point_order.specs.declared.cell.Cell.TheVariants.{Full, Open}
 use Rattle.point_order.specs.declared.cell.Facet.TheVariants.{Three}

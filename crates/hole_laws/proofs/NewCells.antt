@@ -16,16 +16,8 @@ use Rattle.hole_laws.specs.Lists.{cell_over, Goes, IsRimFacet, IsOverRim}
 use Rattle.hole_laws.proofs.Vertex.{has_vertex, has_vertices, IsOrdered, HasListed, ListsCells, IsFacetVertex}
 use Rattle.hole_laws.proofs.Order.{AreFourVertices}
 use Rattle.hole_laws.proofs.Rims.{new_has_rim, rim_makes_new}
-use Rattle.hole_laws.proofs.FacetVertices.{
-  IsAgainst,
-  HasAgainst,
-  AgainstSome,
-  facet_against,
-  against_of,
-  facet_from,
-  shared_facet,
-  over_facet,
-}
+use Rattle.hole_laws.proofs.FacetVertices.{IsAgainst, HasAgainst, AgainstSome, facet_against, against_of, facet_from}
+use Rattle.hole_laws.proofs.FacetVertices.{shared_facet, over_facet}
 use Rattle.hole_laws.proofs.Listed.{four_of, corners, cell_of, listed_of, goes_test, test_goes}
 
 -- the points of a cell are its vertices

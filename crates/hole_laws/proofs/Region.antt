@@ -5,19 +5,8 @@ use Rattle.std.proofs.Common.{refl, sym, ap, ◌∙◌, inl, inr}
 use Rattle.std.proofs.lemmas.Bool.{false≢true}
 use Rattle.list_laws.specs.Lists.{IsIn}
 use Rattle.list_laws.specs.Laws.{odd, HasAnother}
-use Rattle.list_laws.proofs.Cited.{
-  HasSome,
-  and_not,
-  and_not_false,
-  and_not_from,
-  another,
-  even_degrees,
-  false_if,
-  odd_same,
-  odd_some,
-  one_odd,
-  two_even,
-}
+use Rattle.list_laws.proofs.Cited.{HasSome, and_not, and_not_false, and_not_from, another, even_degrees, false_if}
+use Rattle.list_laws.proofs.Cited.{odd_same, odd_some, one_odd, two_even}
 use Rattle.del_laws.specs.Cells.{Vertex}
 use Rattle.del_laws.specs.Base.{Symmetric, Symmetric3, Across}
 use Rattle.hole_laws.proofs.Tests.{Insertion, gone}

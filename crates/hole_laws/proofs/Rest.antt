@@ -2,18 +2,8 @@
 use Rattle.std.specs.Prelude.{◌≡◌, ◌≢◌, ℕ, not, ◌==◌, List}
 use Rattle.std.proofs.Common.{refl, sym, subst, inl, inr}
 use Rattle.std.proofs.lemmas.Bool.{cases_eq}
-use Rattle.list_laws.proofs.Cited.{
-  false_if,
-  filtered_ascending,
-  filtered_from,
-  filtered_true,
-  not_both,
-  not_from,
-  not_true,
-  same_from,
-  same_members,
-  same_true,
-}
+use Rattle.list_laws.proofs.Cited.{false_if, filtered_ascending, filtered_from, filtered_true, not_both, not_from}
+use Rattle.list_laws.proofs.Cited.{not_true, same_from, same_members, same_true}
 use Rattle.point_order.specs.Sets.{IsIn, with_point, without_point}
 use Rattle.point_order.proofs.Cited.{ascending_with, in_with, in_with_new, in_with_old}
 use Rattle.hole_laws.specs.Edits.{IsSet, IsNew}

@@ -10,19 +10,8 @@ use Rattle.point_order.specs.Facets.{facets_of, points_of}
 use Rattle.point_order.specs.declared.cell.Cell.{Cell}
 use Rattle.point_order.specs.declared.cell.Facet.{Facet}
 use Rattle.hole_laws.specs.Lists.{cell_over, HasHeld, IsAtGoing, AreJoined}
-use Rattle.hole_laws.specs.Edits.{
-  IsSet,
-  IsSolidSet,
-  IsNew,
-  IsMate,
-  GoesFrom,
-  StaysFrom,
-  IsRimOf,
-  IsFresh,
-  ComesWithout,
-  IsLinkSet,
-  IsPointAcross,
-}
+use Rattle.hole_laws.specs.Edits.{IsSet, IsSolidSet, IsNew, IsMate, GoesFrom, StaysFrom, IsRimOf, IsFresh, ComesWithout}
+use Rattle.hole_laws.specs.Edits.{IsLinkSet, IsPointAcross}
 
 -- ---- conflict
 

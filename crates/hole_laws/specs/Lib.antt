@@ -5,3 +5,4 @@ pub mod Lists
 pub mod Others
 pub mod Digs
 pub mod FiveCells
+pub mod Stars

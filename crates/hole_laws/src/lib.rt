@@ -7,29 +7,11 @@
 #![tactic(auto)]
 
 ghost use Rattle.hole_laws.specs.Commuting.{StaysSolid, ChangesReached, EditsCommute};
-ghost use Rattle.hole_laws.specs.Laws.{
-  StaysWithoutConflict,
-  GoesInConflict,
-  SomeMate,
-  MatesJudge,
-  SomeRim,
-  CellsAfter,
-  FreshHavePoint,
-  OldLackPoint,
-  OneGoneEach,
-  OneFreshEach,
-  RegionConnected,
-  FoundFromHeld,
-  FreshAreNear,
-  JoinedAreReached,
-  MadeByInsertion,
-  CellsOfRest,
-  MadeByRemoval,
-  RefilledFromLink,
-  ComingAreNear,
-  SolidNear,
-  FlatRestJoined,
-};
+ghost use Rattle.hole_laws.specs.Laws.{StaysWithoutConflict, GoesInConflict, SomeMate, MatesJudge, SomeRim, CellsAfter};
+ghost use Rattle.hole_laws.specs.Laws.{FreshHavePoint, OldLackPoint, OneGoneEach, OneFreshEach, RegionConnected};
+ghost use Rattle.hole_laws.specs.Laws.{FoundFromHeld, FreshAreNear, JoinedAreReached, MadeByInsertion, CellsOfRest};
+ghost use Rattle.hole_laws.specs.Laws.{MadeByRemoval, RefilledFromLink, ComingAreNear, SolidNear, FlatRestJoined};
+ghost use Rattle.hole_laws.specs.Stars.{StarConnected};
 
 /// A cell of the set is one of the set with a new point `p` exactly where it is not in conflict with `p`.
 ///
@@ -111,4 +93,11 @@ pub fn edit_is_local()
 /// the same set, answer the same and reach the same points.
 pub fn edits_commute()
     ensures { EditsCommute }
+{}
+
+/// The cells at a point of a set are one star, connected across the facets that have the point.
+///
+/// So a search over these facets that begins with one of the cells finds all of them.
+pub fn star_is_connected()
+    ensures { StarConnected }
 {}

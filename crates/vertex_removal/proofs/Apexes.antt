@@ -1,45 +1,11 @@
 -- The fourth point of the cell over a triple: of the points above it, the one that leads when all were met.
-use Rattle.std.specs.Prelude.{
-  ◌≡◌,
-  ◌≢◌,
-  ℕ,
-  true,
-  false,
-  pos,
-  ◌<ℤ◌,
-  Bool,
-  cond,
-  not,
-  ◌&&◌,
-  ◌||◌,
-  List,
-  [],
-  ◌∷◌,
-  ◌++◌,
-  ◌⊎◌,
-  Option,
-  None,
-  Some,
-  IfSome,
-}
+use Rattle.std.specs.Prelude.{◌≡◌, ◌≢◌, ℕ, true, false, pos, ◌<ℤ◌, Bool, cond, not, ◌&&◌, ◌||◌, List, [], ◌∷◌, ◌++◌}
+use Rattle.std.specs.Prelude.{◌⊎◌, Option, None, Some, IfSome}
 use Rattle.std.specs.List.{list_all}
 use Rattle.std.specs.Int.Signed.{lt_z}
 use Rattle.std.proofs.Common.{refl, sym, ◌∙◌, subst, inl, inr}
-use Rattle.list_laws.proofs.Cited.{
-  all_from,
-  among_from,
-  first_true,
-  from_append,
-  in_left,
-  in_right,
-  less_from,
-  low_turned,
-  not_both,
-  not_zero,
-  one_true,
-  second_true,
-  two_signs,
-}
+use Rattle.list_laws.proofs.Cited.{all_from, among_from, first_true, from_append, in_left, in_right, less_from}
+use Rattle.list_laws.proofs.Cited.{low_turned, not_both, not_zero, one_true, second_true, two_signs}
 use Rattle.point_order.specs.Orientation.{orientation, is_flat}
 use Rattle.point_order.specs.Heights.{height, lifted, out}
 use Rattle.point_order.specs.Sets.{IsIn, AreFour, AreFive, is_among}
@@ -49,18 +15,8 @@ use Rattle.point_order.proofs.Cited.{last_first, last_second, last_third, zero_f
 use Rattle.del_laws.specs.Cells.{Vertex, point, far, Full, On}
 use Rattle.del_laws.specs.Keys.{AreKeys}
 use Rattle.del_laws.specs.Vertices.{are_among, is_full_cell}
-use Rattle.del_laws.proofs.Cited.{
-  across_full,
-  across_open,
-  cell_true,
-  full_turned,
-  lifted_swap45,
-  open_under,
-  orientation_same12,
-  orientation_same13,
-  orientation_same23,
-  out_is,
-}
+use Rattle.del_laws.proofs.Cited.{across_full, across_open, cell_true, full_turned, lifted_swap45, open_under}
+use Rattle.del_laws.proofs.Cited.{orientation_same12, orientation_same13, orientation_same23, out_is}
 use Rattle.vertex_removal.specs.Wraps.{leader_of, IsApex, LeadsAbove}
 
 -- ---- points above a plane
@@ -86,10 +42,6 @@ apart_two a b c d e h k n =
     let p = apart_above a b c d h in
     let q = apart_above a b c e k in
     (p.0, p.1, p.2, q.2, p.3, p.4, q.4, p.5, q.5, n)
-
--- they are independent
-pub not_flat : (a b c d : ℕ) → pos 0 <ℤ orientation a b c d → is_flat a b c d ≡ false
-not_flat a b c d h = zero_false (orientation a b c d) (λ e. not_zero (orientation a b c d) h e)
 
 -- a point above is none of the three
 none_of : (a b c d e : ℕ) → pos 0 <ℤ orientation a b c e → e ≢ d → ¬ (IsIn e (a ∷ b ∷ c ∷ d ∷ []))

@@ -1,24 +1,6 @@
 -- The sphere of a triple and a point above it: the in-sphere polynomial by minors of the steps to the three.
-use Rattle.std.specs.Prelude.{
-  ◌≡◌,
-  ◌≢◌,
-  ℕ,
-  suc,
-  ℤ,
-  pos,
-  ◌<ℤ◌,
-  ◌+ℤ◌,
-  ◌-ℤ◌,
-  ◌*ℤ◌,
-  ◌&&◌,
-  ◌||◌,
-  [],
-  ◌∷◌,
-  Option,
-  None,
-  Some,
-  IfSome,
-}
+use Rattle.std.specs.Prelude.{◌≡◌, ◌≢◌, ℕ, suc, ℤ, pos, ◌<ℤ◌, ◌+ℤ◌, ◌-ℤ◌, ◌*ℤ◌, ◌&&◌, ◌||◌, [], ◌∷◌, Option, None, Some}
+use Rattle.std.specs.Prelude.{IfSome}
 use Rattle.std.specs.Int.Signed.{lt_z}
 use Rattle.std.proofs.Common.{arith, ◌∙◌}
 use Rattle.std.proofs.lemmas.Int.{ints}
@@ -26,18 +8,8 @@ use Rattle.whole_ring.specs.Poly.{Expr, var, ◌⊕◌, ◌⊖◌, ◌⊗◌}
 use Rattle.whole_ring.specs.Signs.{HasSignOf, below, at_zero, above}
 use Rattle.whole_ring.proofs.Cited.{ring, sign}
 use Rattle.point_order.specs.Heights.{sphere_polynomial}
-use Rattle.point_order.specs.Orientation.{
-  x_from,
-  y_from,
-  z_from,
-  minor,
-  triple,
-  normal_x,
-  normal_y,
-  normal_z,
-  orientation,
-  distance,
-}
+use Rattle.point_order.specs.Orientation.{x_from, y_from, z_from, minor, triple, normal_x, normal_y, normal_z}
+use Rattle.point_order.specs.Orientation.{orientation, distance}
 use Rattle.vertex_removal.specs.Balls.{IsBallOf, last_of_ball}
 use Rattle.vertex_removal.specs.declared.ball.Ball.{Ball}
 use Rattle.point_order.proofs.Cited.{sphere_from_first}

@@ -1,21 +1,6 @@
 -- Lists of cells in which each stands once.
-use Rattle.std.specs.Prelude.{
-  ◌≡◌,
-  ℕ,
-  suc,
-  ◌+◌,
-  ◌<◌,
-  ◌≤◌,
-  Bool,
-  true,
-  false,
-  List,
-  [],
-  ◌∷◌,
-  drop,
-  length,
-  slice_index_or,
-}
+use Rattle.std.specs.Prelude.{◌≡◌, ℕ, suc, ◌+◌, ◌<◌, ◌≤◌, Bool, true, false, List, [], ◌∷◌, drop, length}
+use Rattle.std.specs.Prelude.{slice_index_or}
 use Rattle.std.specs.List.{IsDistinct, AllByRecursion}
 use Rattle.std.specs.List.Sorted.{IsStrictlySortedBy}
 use Rattle.std.specs.Ordering.{eq_by_cmp}
@@ -50,16 +35,3 @@ same = eq_by_cmp_equiv cell_order
 -- so a list in order has
 pub sorted_once : (xs : List Cell) → IsStrictlySortedBy cell_cmp xs → AreDistinct xs
 sorted_once xs o = apart_once (eq_by_cmp cell_cmp) same.refl xs (IsDistinct-from_sorted cell_cmp xs o)
-
--- from the end of a list on no cell stands twice
-pub differ_none : (list : List Cell) (k : ℕ) → length list ≤ k → AreDistinct (drop k list)
-differ_none list k h = subst (λ (l : List Cell). AreDistinct l) (sym (drop_of_length-le list h)) tt
-
--- nor with one cell more, which is none of those behind it
-pub differ_more : (list : List Cell) (k : ℕ) (x : Cell) → k < length list → x ≡ slice_index_or list k x →
-    ¬ (IsIn x (drop (k + 1) list)) → AreDistinct (drop (k + 1) list) → AreDistinct (drop k list)
-differ_more list k x h e n d = subst (λ (l : List Cell). AreDistinct l) (sym is) (n, d)
-  where
-    is : drop k list ≡ x ∷ drop (k + 1) list
-    is = drop-cons list k x h ∙ ap (λ (c : Cell). c ∷ drop (suc k) list) (sym e)
-        ∙ ap (λ (n : ℕ). x ∷ drop n list) (sym (add-one k))

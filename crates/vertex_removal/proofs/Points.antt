@@ -3,22 +3,8 @@ use Rattle.std.specs.Prelude.{◌≡◌, ℕ, ◌+◌, ◌<◌, not, ◌==◌, �
 use Rattle.std.specs.List.{filter, flat_map}
 use Rattle.std.proofs.Common.{sym, ◌∙◌, ap, subst, inl, inr}
 use Rattle.std.proofs.lemmas.List.{flat_map_more}
-use Rattle.list_laws.proofs.Cited.{
-  false_if,
-  filtered_from,
-  filtered_true,
-  flat_from,
-  from_append,
-  in_flat,
-  in_left,
-  in_right,
-  not_both,
-  not_from,
-  not_true,
-  same_from,
-  same_true,
-  take_next,
-}
+use Rattle.list_laws.proofs.Cited.{false_if, filtered_from, filtered_true, flat_from, from_append, in_flat, in_left}
+use Rattle.list_laws.proofs.Cited.{in_right, not_both, not_from, not_true, same_from, same_true, take_next}
 use Rattle.point_order.specs.declared.cell.Cell.{Cell}
 use Rattle.point_order.specs.Facets.{points_of}
 use Rattle.point_order.specs.Sets.{IsIn, IsAscending, AreSamePoints}

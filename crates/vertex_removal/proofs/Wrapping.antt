@@ -6,20 +6,8 @@ use Rattle.std.proofs.Common.{refl, sym, ◌∙◌, ap, subst, inl, inr, arith}
 use Rattle.std.proofs.lemmas.Bool.{cases_eq}
 use Rattle.std.proofs.lemmas.List.Sorted.{IsPermutation-sym}
 use Rattle.list_laws.specs.Lists.{AreDistinct}
-use Rattle.list_laws.proofs.Cited.{
-  all_from,
-  all_true,
-  among_true,
-  both_true,
-  distinct_push,
-  first_true,
-  from_append,
-  in_left,
-  in_moved,
-  in_right,
-  none_in,
-  second_true,
-}
+use Rattle.list_laws.proofs.Cited.{all_from, all_true, among_true, both_true, distinct_push, first_true, from_append}
+use Rattle.list_laws.proofs.Cited.{in_left, in_moved, in_right, none_in, second_true}
 use Rattle.point_order.specs.declared.cell.Cell.{Cell}
 use Rattle.point_order.specs.declared.cell.Cell.TheVariants.{Full, Open}
 use Rattle.point_order.specs.declared.cell.Facet.{Facet}
@@ -34,52 +22,17 @@ use Rattle.point_order.specs.Spheres.{is_outside}
 use Rattle.point_order.proofs.Cited.{in_with, in_with_new, in_with_old}
 use Rattle.del_laws.specs.Cells.{Vertex, point, On}
 use Rattle.del_laws.specs.Vertices.{are_among, is_full_cell}
-use Rattle.del_laws.proofs.Cited.{
-  IsOver,
-  cell_from,
-  cell_is_listed,
-  fits,
-  listed_facets,
-  listed_is_cell,
-  over_facet,
-  test_is_listed,
-  vertex_discrete,
-}
+use Rattle.del_laws.proofs.Cited.{IsOver, cell_from, cell_is_listed, fits, listed_facets, listed_is_cell, over_facet}
+use Rattle.del_laws.proofs.Cited.{test_is_listed, vertex_discrete}
 use Rattle.hole_laws.specs.Edits.{IsSet, IsNew, IsLinkSet, GoesFrom, StaysFrom, IsRimOf}
 use Rattle.hole_laws.specs.Lists.{cell_over}
-use Rattle.hole_laws.proofs.Cited.{
-  IsAgainst,
-  IsFacetVertex,
-  against_of,
-  cells_after,
-  fresh_have_point,
-  goes_in_conflict,
-  lists_of,
-  mates_judge,
-  more_set,
-  old_lack_point,
-  one_gone_each,
-  over_facet as over_point,
-  point_vertex,
-  region_connected,
-  within_new,
-  without_from,
-}
+use Rattle.hole_laws.proofs.Cited.{IsAgainst, IsFacetVertex, against_of, cells_after, fresh_have_point}
+use Rattle.hole_laws.proofs.Cited.{goes_in_conflict, lists_of, mates_judge, more_set, old_lack_point, one_gone_each}
+use Rattle.hole_laws.proofs.Cited.{over_facet as over_point, point_vertex, region_connected, within_new, without_from}
 use Rattle.hole_laws.proofs.Cited.{one_of_two}
 use Rattle.vertex_removal.specs.Near.{AreTaken}
-use Rattle.vertex_removal.specs.Wraps.{
-  IsApex,
-  CanWrap,
-  IsHole,
-  IsOuter,
-  IsFacetIn,
-  AreSidesOf,
-  IsOpen,
-  AreMet,
-  IsFacetOn,
-  LeaderIsApex,
-  OuterIsRim,
-}
+use Rattle.vertex_removal.specs.Wraps.{IsApex, CanWrap, IsHole, IsOuter, IsFacetIn, AreSidesOf, IsOpen, AreMet}
+use Rattle.vertex_removal.specs.Wraps.{IsFacetOn, LeaderIsApex, OuterIsRim}
 use Rattle.vertex_removal.specs.declared.wrap.Side.{Side}
 use Rattle.vertex_removal.proofs.Apexes.{cell_above, cell_point}
 
@@ -395,10 +348,6 @@ module _ (t : List ℕ) (v : ℕ) (k : CanWrap t v) (found : List Cell) (sides :
           record { goes = all_go; settled = settled; opened = still_open; once = distinct_push found c w.once new }
 
 -- ---- facets that are met
-
--- none was met yet
-pub none_met : (sides : List Side) → AreMet [] sides sides
-none_met sides = record { each = λ f m. absurd m; came = λ s m. inl m; went = λ s m. inl m }
 
 -- one more is met, which is none of those before
 pub one_met : (facets : List Facet) (f : Facet) (old now new : List Side) → ¬ (IsIn f facets) → AreMet facets old now →

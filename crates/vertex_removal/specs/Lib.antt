@@ -3,3 +3,4 @@ pub mod Turns
 pub mod Near
 pub mod Wraps
 pub mod Balls
+pub mod Coming

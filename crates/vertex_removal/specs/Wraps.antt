@@ -1,23 +1,7 @@
 -- Wrapping the hole of a point that is taken: the cells that the point takes away from the complex of the points near
 -- it, found from the facets of the cells at it.
-use Rattle.std.specs.Prelude.{
-  ◌≡◌,
-  ℕ,
-  ◌<◌,
-  true,
-  pos,
-  ◌<ℤ◌,
-  List,
-  [],
-  ◌∷◌,
-  ◌⊎◌,
-  Option,
-  None,
-  Some,
-  if◌then◌else◌,
-  length,
-  slice_index_or,
-}
+use Rattle.std.specs.Prelude.{◌≡◌, ℕ, ◌<◌, true, pos, ◌<ℤ◌, List, [], ◌∷◌, ◌⊎◌, Option, None, Some, if◌then◌else◌}
+use Rattle.std.specs.Prelude.{length, slice_index_or}
 use Rattle.point_order.specs.declared.cell.Cell.{Cell}
 use Rattle.point_order.specs.declared.cell.Cell.TheVariants.{Full}
 use Rattle.point_order.specs.declared.cell.Facet.{Facet}

@@ -21,9 +21,11 @@
 
 mod apex;
 mod ball;
+mod coming;
 pub mod laws;
 mod near;
 mod refill;
 mod wrap;
 
+pub use coming::cells_for_star;
 pub use refill::{Refill, RefillTurn};

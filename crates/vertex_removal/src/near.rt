@@ -115,7 +115,7 @@ fn fewer_points(alloc: Global, points: &[Point]) -> Result<Vec<Point>, AllocErro
 }
 
 // The points of the cells other than v, ascending.
-fn points_but(alloc: Global, cells: &[Cell], v: Point) -> Result<Vec<Point>, AllocError>
+pub(crate) fn points_but(alloc: Global, cells: &[Cell], v: Point) -> Result<Vec<Point>, AllocError>
     ensures { IfOk result (λ points. ArePointsBut cells.now v points.items) }
 {
     let mut points = all_points(alloc, cells)?;

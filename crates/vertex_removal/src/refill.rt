@@ -48,7 +48,7 @@ pub enum RefillTurn {
 
 // The cells that v takes away from the complex of the points near it, by wrapping the hole or by digging in that
 // complex.
-fn cells_coming(
+pub(crate) fn cells_coming(
     alloc: Global,
     points: &[Point],
     v: Point,

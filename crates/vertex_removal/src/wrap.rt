@@ -10,16 +10,8 @@ ghost use Rattle.point_order.specs.Complex.{complex};
 ghost use Rattle.point_order.specs.Facets.{facets_of, points_of};
 ghost use Rattle.hole_laws.specs.Edits.{GoesFrom};
 ghost use Rattle.vertex_removal.specs.Near.{AreTaken};
-ghost use Rattle.vertex_removal.specs.Wraps.{
-  CanWrap,
-  IsHole,
-  IsOuter,
-  IsFacetIn,
-  AreSidesOf,
-  AreMet,
-  IsPlaceOf,
-  IsFacetOn,
-};
+ghost use Rattle.vertex_removal.specs.Wraps.{CanWrap, IsHole, IsOuter, IsFacetIn, AreSidesOf, AreMet, IsPlaceOf};
+ghost use Rattle.vertex_removal.specs.Wraps.{IsFacetOn};
 
 use crate::apex::{apex_over, is_over};
 use point_order::{Cell, Facet, Point, has_cell};

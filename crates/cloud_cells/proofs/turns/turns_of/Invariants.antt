@@ -1,5 +1,6 @@
-use Rattle.std.proofs.Common.{◌≡◌, take}
+use Rattle.std.proofs.Common.{◌∷◌, [], take}
+use Rattle.cloud_cells.specs.Parts.{AreOthers}
 use Rattle.cloud_cells.proofs.turns.turns_of.Given as goal
 
 abbrev pub invariant-loop-p : goal.invariant-loop-p
-invariant-loop-p l = l.turns.items ≡ take l.p-index l.points
+invariant-loop-p l = AreOthers (l.a ∷ l.b ∷ l.c ∷ l.d ∷ []) (take l.p-index l.points) l.turns.items

@@ -1,19 +1,8 @@
 use Rattle.std.proofs.Common.{ℤ, ◌*ℤ◌, ◌+ℤ◌, ◌-ℤ◌, lit<, w64}
 use Rattle.std.specs.Int.RustNames.{FitsSigned}
 use Rattle.whole_ring.specs.Bounds.{IsWithin}
-use Rattle.whole_ring.proofs.Cited.{
-  fits_as,
-  read,
-  read_as,
-  same_difference,
-  same_product,
-  same_sum,
-  within_add,
-  within_as,
-  within_fits,
-  within_mul,
-  within_sub,
-}
+use Rattle.whole_ring.proofs.Cited.{fits_as, read, read_as, same_difference, same_product, same_sum, within_add}
+use Rattle.whole_ring.proofs.Cited.{within_as, within_fits, within_mul, within_sub}
 use Rattle.point_order.specs.Sizes.{greatest_minor, greatest_square}
 use Rattle.vertex_removal.specs.Balls.{greatest_mixed}
 use Rattle.vertex_removal.proofs.ball.mixed.Goals as goal

@@ -12,7 +12,7 @@ other_across-other-requires c =
     let n = none_other c.args.gone.now cell c.args.facet.now c.gone_across.result c.gone_across.ensures
     c.if-is_some.ensures in
     let h = subst (λ (q : Cell). HasOtherIn (cells_of_slots c.args.self.now ++ c.args.gone.now) q c.args.facet.now)
-    (sym c.cell-cell.ensures) c.requires in
+    (sym c.cell-cell.ensures) (c.requires c.in-Whole.is) in
     subst (λ (l : List (Option Cell)). HasOtherIn (cells_of_slots l) cell c.args.facet.now)
-    (sym c.self.view_is ∙ sym c.deref-2.ensures.value) (other_kept (cells_of_slots c.args.self.now) c.args.gone.now
-    cell c.args.facet.now h n)
+    (sym c.self.view_is ∙ sym c.deref-in-Whole.ensures.value)
+    (other_kept (cells_of_slots c.args.self.now) c.args.gone.now cell c.args.facet.now h n)

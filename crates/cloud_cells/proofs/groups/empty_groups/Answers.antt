@@ -1,0 +1,20 @@
+use Rattle.std.proofs.Common.{◌∙◌, ◌++◌, ap, refl, List, ℕ}
+use Rattle.point_order.specs.declared.cell.Cell.{Cell}
+use Rattle.cloud_cells.specs.Nets.{cells_of_slots}
+use Rattle.cloud_cells.specs.declared.groups.Group.{Group}
+use Rattle.cloud_cells.proofs.Beside.{flat_behind}
+use Rattle.cloud_cells.proofs.groups.empty_groups.Goals as goal
+
+pub fill-init : goal.fill-init
+fill-init c = rw c.new-groups.ensures.items (refl, refl)
+
+pub fill-preserved : goal.fill-preserved
+fill-preserved c =
+    let g = c.new.result in
+    let l = c.fill.groups.items in
+    rw c.in_ok-push.ensures.items (
+      flat_behind (λ (x : Group). cells_of_slots x.net) l g ∙ ap (λ (v : List Cell). v ++ cells_of_slots g.net)
+          c.fill.invariant.0 ∙ ap cells_of_slots c.new.ensures.cells,
+      flat_behind (λ (x : Group). x.waiting.items) l g ∙ ap (λ (v : List ℕ). v ++ g.waiting.items)
+          c.fill.invariant.1 ∙ c.new.ensures.points,
+    )

@@ -1,0 +1,34 @@
+use Rattle.std.proofs.Common.{append-nil, subst, sym, ◌∙◌, ◌∷◌, [], ℕ}
+use Rattle.std.proofs.lemmas.Bool.{MatchBool-at_false, MatchBool-at_true}
+use Rattle.cloud_cells.specs.Nets.{cells_of_slots}
+use Rattle.cloud_cells.specs.Parts.{Grow}
+use Rattle.cloud_cells.proofs.Parts.{put_each, put_none}
+use Rattle.cloud_cells.proofs.grow.put_or_leave.Goals as goal
+
+pub insert-requires : goal.insert-requires
+insert-requires c = rw c.point.ensures c.requires
+
+pub returns-then-is_put-clause-put : goal.returns-then-is_put-clause-put
+returns-then-is_put-clause-put c =
+    let old = cells_of_slots c.args.net.now in
+    let new = cells_of_slots c.insert.new.net in (
+      [],
+      sym (append-nil c.args.left.now.items),
+      put_each (c.args.turn.now ∷ []) old new (subst (λ (p : ℕ). Grow (p ∷ []) old new) c.point.ensures
+          (MatchBool-at_true _ _ c.if-is_put.true c.in_ok-is_put.ensures)),
+    )
+
+pub returns-clause-put : goal.returns-clause-put
+returns-clause-put c =
+    let old = cells_of_slots c.args.net.now in
+    let new = cells_of_slots c.insert.new.net in (
+      c.args.turn.now ∷ [],
+      rw c.copied.ensures at c.in_ok-push.ensures.items,
+      put_none (c.args.turn.now ∷ []) old new
+          (MatchBool-at_false _ _ c.if-is_put.false c.in_ok-is_put.ensures).1,
+    )
+
+-- of the whole none is left
+pub returns-clause-all : goal.returns-clause-all
+returns-clause-all c e =
+    let p = (MatchBool-at_false _ _ c.if-is_put.false c.in_ok-is_put.ensures).0 in absurd (cc (sym e ∙ p))

@@ -1,0 +1,193 @@
+//! The cells of a set of points that one owner changes.
+
+ghost use Rattle.std.specs.Prelude.{◌≡◌, ◌+◌, ◌≤◌, ◌++◌, true, length, IfOk, List, OnErr, OnOk, ℕ};
+ghost use Rattle.point_order.specs.Complex.{complex};
+ghost use Rattle.point_order.specs.Sets.{IsAscending};
+ghost use Rattle.point_order.specs.Solid.{is_solid};
+ghost use Rattle.cloud_cells.specs.Clouds.{AreCellsOf, AreCellsOfSome};
+ghost use Rattle.cloud_cells.specs.Linked.{AreCellsWith};
+ghost use Rattle.cloud_cells.specs.Nets.{AreMoved, AreWithAll, cells_of_slots};
+ghost use Rattle.cloud_cells.specs.Stars.{AreBehindAll, AreStarOf};
+
+use crate::behind_all::cells_behind;
+use crate::edges::Edges;
+use crate::grow::{cells_of, net_of_points};
+use crate::hints::Hints;
+use crate::linked::{closed, opened};
+use crate::net::Net;
+use crate::star::{Star, give_back};
+use crate::walk::walked_to;
+use point_order::{Cell, Point, cells_in_order};
+use std::alloc::{AllocError, Global};
+use std::marker::Model;
+
+/// The cells at a point, which were taken out of linked cells. Contracts see it as these.
+#[derive(Drop)]
+pub struct OpenStar {
+    star: Star,
+    cells: Vec<Cell>,
+}
+
+impl Model for OpenStar {
+    ghost use Rattle.std.specs.Prelude.{◌≡◌, List};
+    ghost use Rattle.point_order.specs.declared.cell.Cell.{Cell};
+
+    ghost Value = { List Cell };
+
+    ghost view = { λ s. s.star.gone.items };
+
+    ghost invariant = { λ s. s.cells.items ≡ s.star.gone.items };
+}
+
+impl OpenStar {
+    /// The cells.
+    pub fn cells(&self) -> &[Cell]
+        ensures { result.now ≡ self.now }
+    {
+        &self.cells
+    }
+}
+
+/// The cells of a set of points in slots, with what lies likely across their facets. Contracts see it as its cells, and
+/// how many can be put in without memory.
+#[derive(Drop)]
+pub struct LinkedCells {
+    pub(crate) net: Net,
+    pub(crate) edges: Edges,
+    pub(crate) hints: Hints,
+    pub(crate) spare: usize,
+}
+
+impl Model for LinkedCells {
+    ghost use Rattle.cloud_cells.specs.Linked.{LinkedView};
+    ghost use Rattle.cloud_cells.specs.Nets.{cells_of_slots};
+    ghost use Rattle.cloud_cells.specs.Stars.{HaveRoom};
+
+    ghost Value = { LinkedView };
+
+    ghost view = { λ c. record { cells = cells_of_slots c.net; room = c.spare } };
+
+    ghost invariant = { λ c. HaveRoom c.net c.spare };
+}
+
+// Opens the star of a point of the set.
+fn open_at(alloc: Global, net: &mut Net, v: Point, start: usize) -> Result<OpenStar, AllocError>
+    requires { AreCellsWith v (cells_of_slots net.old) }
+    ensures cells { IfOk result (λ star. AreMoved (cells_of_slots net.old) (cells_of_slots net.new ++ star)) }
+    ensures star { IfOk result (λ star. (s : List ℕ) → AreCellsOf s (cells_of_slots net.old) → AreStarOf s v star) }
+    ensures refused { OnErr result (AreMoved (cells_of_slots net.old) (cells_of_slots net.new)) }
+    ensures size { length net.new ≡ length net.old }
+{
+    let hint = walked_to(net, v, start);
+    let star = opened(alloc, net, v, hint)?;
+    match cells_of(alloc, &star.gone) {
+        Ok(cells) => Ok(OpenStar { star, cells }),
+        Err(e) => {
+            give_back(net, &star.gone);
+            Err(e)
+        }
+    }
+}
+
+impl LinkedCells {
+    /// The cells of points, which are ascending and solid.
+    ///
+    /// # Errors
+    /// Want of memory.
+    pub fn of_points(alloc: Global, points: &[Point]) -> Result<LinkedCells, AllocError>
+        requires ascending { IsAscending points.now }
+        requires solid { is_solid points.now ≡ true }
+        ensures { IfOk result (λ linked. AreCellsOf points.now linked.cells) }
+    {
+        let net = net_of_points(alloc, points)?;
+        let hints = Hints::of_net(alloc, &net);
+        Ok(LinkedCells {
+            net,
+            edges: Edges::new(alloc),
+            hints,
+            spare: 0,
+        })
+    }
+
+    /// Takes the cells at a point of the set out.
+    ///
+    /// # Errors
+    /// Want of memory. The cells are then as before, in any order.
+    pub fn open_star(&mut self, alloc: Global, v: Point) -> Result<OpenStar, AllocError>
+        requires { AreCellsWith v self.old.cells }
+        ensures cells { IfOk result (λ star. AreMoved self.old.cells (self.new.cells ++ star)) }
+        ensures star { IfOk result (λ star. (s : List ℕ) → AreCellsOf s self.old.cells → AreStarOf s v star) }
+        ensures room { IfOk result (λ star. length star ≤ self.new.room) }
+        ensures more { IfOk result (λ star. self.old.room + length star ≤ self.new.room) }
+        ensures refused { OnErr result (AreMoved self.old.cells self.new.cells) }
+        ensures kept { OnErr result (self.new.room ≡ self.old.room) }
+    {
+        let start = self.hints.start(&self.net, v);
+        let star = open_at(alloc, &mut self.net, v, start)?;
+        let _ = self.net.len();
+        self.spare = self.spare.saturating_add(star.cells.len());
+        Ok(star)
+    }
+
+    /// The cells of an open star, and those behind their facets, some more than once.
+    ///
+    /// # Errors
+    /// Want of memory.
+    pub fn around(&self, alloc: Global, star: &OpenStar) -> Result<Vec<Cell>, AllocError>
+        requires { AreCellsOfSome (self.now.cells ++ star.now) }
+        ensures { IfOk result (λ cells. (s : List ℕ) → AreCellsOf s (self.now.cells ++ star.now) →
+            AreBehindAll s star.now star.now cells.items) }
+    {
+        cells_behind(alloc, &self.net, &star.star.gone, &star.cells)
+    }
+
+    /// Puts cells in the place of those of an open star.
+    ///
+    /// # Errors
+    /// Want of memory. The star's cells are then put back.
+    pub fn close_star(&mut self, star: OpenStar, cells: &[Cell]) -> Result<(), AllocError>
+        requires { length star ≤ self.old.room }
+        ensures filled { OnOk result (AreWithAll self.old.cells cells.now self.new.cells) }
+        ensures refused { OnErr result (AreMoved (self.old.cells ++ star) self.new.cells) }
+        ensures kept { OnErr result (self.old.room ≤ self.new.room + length star) }
+    {
+        match closed(
+            &mut self.net,
+            &mut self.edges,
+            self.spare,
+            &star.star,
+            cells,
+        ) {
+            Ok(()) => {
+                self.spare = self.spare.saturating_sub(cells.len());
+                self.hints.note_first(cells, self.net.last());
+                Ok(())
+            }
+            Err(e) => {
+                self.spare = self.spare.saturating_sub(star.star.gone.len());
+                Err(e)
+            }
+        }
+    }
+
+    /// Puts the cells of an open star back.
+    pub fn put_star_back(&mut self, star: OpenStar)
+        requires { length star ≤ self.old.room }
+        ensures cells { AreMoved (self.old.cells ++ star) self.new.cells }
+        ensures kept { self.old.room ≤ self.new.room + length star }
+    {
+        give_back(&mut self.net, &star.star.gone);
+        self.spare = self.spare.saturating_sub(star.star.gone.len());
+    }
+
+    /// The cells, Full cells first, each kind in order.
+    ///
+    /// # Errors
+    /// Want of memory.
+    pub fn in_order(self, alloc: Global) -> Result<Vec<Cell>, AllocError>
+        ensures { IfOk result (λ cells. (s : List ℕ) → IsAscending s → AreCellsOf s self.cells →
+            cells.items ≡ complex s) }
+    {
+        Ok(cells_in_order(self.net.cells(alloc)?))
+    }
+}
