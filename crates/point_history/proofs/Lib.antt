@@ -1,2 +1,3 @@
 pub mod KeySets
 pub mod MoreLines
+pub mod Cited

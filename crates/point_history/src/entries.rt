@@ -1,21 +1,7 @@
 //! Entries that are made point by point.
 
-ghost use Rattle.std.specs.Prelude.{
-  ◌≡◌,
-  ◌≤◌,
-  ◌^◌,
-  ◌++◌,
-  ◌∷◌,
-  [],
-  List,
-  ℕ,
-  Some,
-  IfOk,
-  OnOk,
-  length,
-  option_map,
-  if◌then◌else◌,
-};
+ghost use Rattle.std.specs.Prelude.{◌≡◌, ◌≤◌, ◌^◌, ◌++◌, ◌∷◌, [], List, ℕ, Some, IfOk, OnOk, length, option_map};
+ghost use Rattle.std.specs.Prelude.{if◌then◌else◌};
 ghost use Rattle.std.specs.List.{filter};
 ghost use Rattle.edit_history.specs.declared.history.Edit.{Edit as EditOf};
 ghost use Rattle.edit_history.specs.declared.history.Edit.TheVariants.{Add};

@@ -1,0 +1,5 @@
+pub mod Taken
+pub mod Keys
+pub mod Replied
+pub mod Clouds
+pub mod Moved

@@ -1,0 +1,10 @@
+use Rattle.std.proofs.Common.{List, ℕ, subst}
+use Rattle.point_order.specs.Sets.{AreSamePoints}
+use Rattle.linked_mesh.proofs.Clouds.{set_is}
+use Rattle.linked_mesh.proofs.mesh.set_of.Goals as goal
+
+pub returns-clause-set : goal.returns-clause-set
+returns-clause-set c =
+    set_is c.args.list.now c.points_in_order.result.items c.points_in_order.ensures.order
+    (subst (λ (l : List ℕ). AreSamePoints l c.points_in_order.result.items) c.in_ok-from_slice.ensures.items
+    c.points_in_order.ensures.points)

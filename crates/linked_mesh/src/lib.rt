@@ -1,0 +1,22 @@
+//! The mesh of one owner: the cells of a set of points in one net of slots, the points, and the history of edits.
+//!
+//! A mesh is seen as its history. Its cells stand in no buckets, and no other thread can take part.
+//!
+//! ```
+//! let mut mesh = begin_cloud(alloc, &points, find_four(&points)?)?;
+//! let receipt = apply(alloc, &mut mesh, 4, Edit::Add(p))?;  // its number and its reply; less than 2^32 entries before
+//! let cells = complex(alloc, &mesh)?;                       // sorted
+//! let (entries, cells) = into_parts(alloc, mesh)?;          // both, and the mesh is let go
+//! ```
+#![tactic(auto)]
+
+mod mesh;
+mod set;
+mod shift;
+mod take;
+
+pub use edit_history::{Edit, Receipt, find_four};
+pub use mesh::{LinkedMesh, apply, begin_cloud, complex, history, into_parts, of_history, points};
+pub use set::LinkedSet;
+pub use shift::move_point;
+pub use take::take_point;

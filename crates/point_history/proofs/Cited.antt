@@ -1,0 +1,2 @@
+-- The lemmas that other crates cite.
+pub use Rattle.point_history.proofs.KeySets.{key_put, key_there}
