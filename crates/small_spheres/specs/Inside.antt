@@ -3,17 +3,8 @@
 -- the squared radius: negative strictly inside.
 use Rattle.std.specs.Prelude.{ℕ, Bool, ℤ, pos, ◌+ℤ◌, ◌-ℤ◌, ◌*ℤ◌}
 use Rattle.std.specs.Int.Signed.{lt_z}
-use Rattle.point_order.specs.Orientation.{
-  x_from,
-  y_from,
-  z_from,
-  minor,
-  normal_x,
-  normal_y,
-  normal_z,
-  square_of_step,
-  distance,
-}
+use Rattle.point_order.specs.Orientation.{x_from, y_from, z_from, minor, normal_x, normal_y, normal_z, square_of_step}
+use Rattle.point_order.specs.Orientation.{distance}
 
 -- the scalar product u . v
 unfoldable pub dot : ℤ → ℤ → ℤ → ℤ → ℤ → ℤ → ℤ

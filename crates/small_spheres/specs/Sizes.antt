@@ -28,3 +28,7 @@ greatest_product_of_sides = 522064727411914331800436763
 -- the square of an orientation: 36 16383^6
 abbrev pub greatest_square_of_orientation : ℕ
 greatest_square_of_orientation = 696086303215885775733915684
+
+-- a gap, 2 O times a way of at most 16384 less a scalar product: 2^15 6 16383^3 + 18 16383^4
+abbrev pub greatest_gap : ℕ
+greatest_gap = 2161252870767968274

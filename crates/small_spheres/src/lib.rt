@@ -16,12 +16,14 @@ ghost use Rattle.std.specs.Prelude.{◌≡◌, ◌<◌, ◌^◌, ℕ, nat_le};
 ghost use Rattle.small_spheres.specs.Inside.{is_inside_edge, is_inside_triangle};
 ghost use Rattle.small_spheres.specs.Within.{is_edge_within, is_triangle_within, is_cell_within};
 
+mod boxes;
 pub mod laws;
 mod least;
 mod powers;
 mod products;
 mod radii;
 
+pub use boxes::sphere_inside;
 use least::least_factor;
 use point_order::{Point, Step};
 use powers::{power_of_edge, power_of_triangle};

@@ -4,15 +4,9 @@ ghost use Rattle.std.specs.Prelude.{◌≡◌, ◌<◌, ◌^◌, pos, ◌+ℤ◌
 ghost use Rattle.whole_ring.specs.Bounds.{IsWithin};
 ghost use Rattle.point_order.specs.Sizes.{greatest_minor, greatest_orientation, greatest_square};
 ghost use Rattle.small_spheres.specs.Inside.{dot};
-ghost use Rattle.small_spheres.specs.Sizes.{
-  greatest_power_term,
-  greatest_product_of_sides,
-  greatest_product_of_squares,
-  greatest_scalar,
-  greatest_square_of_centre,
-  greatest_square_of_orientation,
-  greatest_square_of_scalar,
-};
+ghost use Rattle.small_spheres.specs.Sizes.{greatest_power_term, greatest_product_of_sides};
+ghost use Rattle.small_spheres.specs.Sizes.{greatest_product_of_squares, greatest_scalar, greatest_square_of_centre};
+ghost use Rattle.small_spheres.specs.Sizes.{greatest_square_of_orientation, greatest_square_of_scalar};
 
 /// `u . v`, below 2^61.
 pub fn sum_of_products(ux: i64, uy: i64, uz: i64, vx: i64, vy: i64, vz: i64) -> i64
@@ -29,7 +23,7 @@ pub fn sum_of_products(ux: i64, uy: i64, uz: i64, vx: i64, vy: i64, vz: i64) -> 
 }
 
 // `x * y`, for which 128 bits are enough.
-fn product_of(x: i64, y: i64) -> i128
+pub fn product_of(x: i64, y: i64) -> i128
     ensures { result ≡ x *ℤ y }
 {
     x as i128 * y as i128

@@ -6,12 +6,8 @@ ghost use Rattle.point_order.specs.Orientation.{distance};
 ghost use Rattle.point_order.specs.Sizes.{greatest_square};
 ghost use Rattle.small_spheres.specs.Inside.{square_of_normal};
 ghost use Rattle.small_spheres.specs.Within.{square_of_centre};
-ghost use Rattle.small_spheres.specs.Sizes.{
-  greatest_product_of_sides,
-  greatest_product_of_squares,
-  greatest_scalar,
-  greatest_square_of_centre,
-};
+ghost use Rattle.small_spheres.specs.Sizes.{greatest_product_of_sides, greatest_product_of_squares, greatest_scalar};
+ghost use Rattle.small_spheres.specs.Sizes.{greatest_square_of_centre};
 
 use crate::powers::dot_of_normals;
 use crate::products::{product, square, sum, sum_of_products};

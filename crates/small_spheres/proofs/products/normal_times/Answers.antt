@@ -2,17 +2,8 @@ use Rattle.std.proofs.Common.{ℕ, ◌<◌, ◌≡◌, ℤ, pos, ◌*ℤ◌, lit
 use Rattle.std.specs.Int.{w128}
 use Rattle.std.specs.Int.RustNames.{FitsSigned}
 use Rattle.whole_ring.specs.Bounds.{IsWithin}
-use Rattle.whole_ring.proofs.Cited.{
-  fits_128,
-  fits_as,
-  read,
-  read_as,
-  same_product,
-  wide,
-  within_below,
-  within_fits,
-  within_mul,
-}
+use Rattle.whole_ring.proofs.Cited.{fits_128, fits_as, read, read_as, same_product, wide, within_below, within_fits}
+use Rattle.whole_ring.proofs.Cited.{within_mul}
 use Rattle.small_spheres.specs.Sizes.{greatest_scalar}
 use Rattle.small_spheres.proofs.products.normal_times.Goals as goal
 

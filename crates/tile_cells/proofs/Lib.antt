@@ -1,0 +1,4 @@
+mod Walls
+mod Planes
+mod Tiles
+mod Left
