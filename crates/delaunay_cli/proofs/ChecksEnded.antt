@@ -1,28 +1,14 @@
 -- The end of a run that judges a mesh: of what was told of it, or why nothing was.
 use Rattle.std.specs.Prelude.{Option, None, Some, IfSome}
-use Rattle.std.proofs.Common.{
-  ◌≡◌,
-  ◌≢◌,
-  ◌⊎◌,
-  inl,
-  inr,
-  refl,
-  sym,
-  subst,
-  ℕ,
-  ◌≤◌,
-  List,
-  [],
-  arith,
-}
+use Rattle.std.proofs.Common.{◌≡◌, ◌≢◌, ◌⊎◌, inl, inr, refl, sym, subst, ℕ, ◌≤◌, List, [], arith}
 use Rattle.list_laws.proofs.Cited.{if_some}
 use Rattle.edit_history.specs.declared.history.Entry.{Entry}
 use Rattle.mesh_reader.proofs.Cited.{no_fault_of_mesh}
-use Rattle.delaunay_cli.specs.declared.stop.Stop.{Stop}
-use Rattle.delaunay_cli.specs.declared.stop.Stop.TheVariants.{Memory, ReadFault, BadLine, TooLong}
-use Rattle.delaunay_cli.specs.Checked.{CheckEnds, IsChecked, IsMeshVerdict, IsUnchecked, TellsVerdict}
-use Rattle.delaunay_cli.specs.Statuses.{HasText, IsEarly, IsWrittenWhole}
-use Rattle.delaunay_cli.specs.Stops.{status_of}
+use Rattle.command_words.specs.declared.stop.Stop.{Stop}
+use Rattle.command_words.specs.declared.stop.Stop.TheVariants.{Memory, ReadFault, BadLine, TooLong}
+use Rattle.command_pages.specs.Checked.{CheckEnds, IsChecked, IsMeshVerdict, IsUnchecked, TellsVerdict}
+use Rattle.command_pages.specs.Statuses.{HasText, IsEarly, IsWrittenWhole}
+use Rattle.command_words.specs.Stops.{status_of}
 use Rattle.delaunay_cli.proofs.TextStatuses.{early_only, no_other, stopped_only, whole_only}
 
 -- the status of a verdict is that of a whole text

@@ -2,21 +2,7 @@
 use Rattle.std.specs.Prelude.{Option, None, Some, IfSome, String}
 use Rattle.std.specs.declared.alloc.Global.{Global}
 use Rattle.std.specs.Io.KnownBytes.{Appends}
-use Rattle.std.proofs.Common.{
-  ◌≡◌,
-  ◌≢◌,
-  ◌⊎◌,
-  ◌↔◌,
-  inl,
-  inr,
-  subst,
-  ℕ,
-  ◌≤◌,
-  ◌<◌,
-  List,
-  length,
-  arith,
-}
+use Rattle.std.proofs.Common.{◌≡◌, ◌≢◌, ◌⊎◌, ◌↔◌, inl, inr, subst, ℕ, ◌≤◌, ◌<◌, List, length, arith}
 use Rattle.std.proofs.lemmas.Bool.{cases_eq}
 use Rattle.list_laws.proofs.Cited.{if_some}
 use Rattle.byte_ends.specs.Ends.{AppendsFront}
@@ -29,20 +15,13 @@ use Rattle.mesh_check.specs.declared.flaw.Verdict.TheVariants.{Good, Bad}
 use Rattle.mesh_check.specs.Flaws.{IsVerdict, as_cells}
 use Rattle.mesh_check.specs.Text.{verdict_text}
 use Rattle.mesh_check.proofs.Cited.{flaw_is_true, flaw_shows, good_is_complex}
-use Rattle.delaunay_cli.specs.Checked.{
-  HasMeshFault,
-  IsChecked,
-  IsTrueMesh,
-  IsJudged,
-  IsMeshVerdict,
-  IsMeshWithin,
-  status_of_verdict,
-}
+use Rattle.command_pages.specs.Checked.{HasMeshFault, IsChecked, IsTrueMesh, IsJudged, IsMeshVerdict, IsMeshWithin}
+use Rattle.command_pages.specs.Checked.{status_of_verdict}
 use Rattle.delaunay_cli.specs.Ends.{Ends}
-use Rattle.delaunay_cli.specs.Run.{mesh_limit}
-use Rattle.delaunay_cli.specs.Statuses.{IsEarly, IsWrittenWhole}
-use Rattle.delaunay_cli.specs.Words.{ReadsMesh, AreWordsTaken}
-use Rattle.delaunay_cli.proofs.MeshJudged.{cells_of}
+use Rattle.command_pages.specs.Run.{mesh_limit}
+use Rattle.command_pages.specs.Statuses.{IsEarly, IsWrittenWhole}
+use Rattle.command_words.specs.Words.{ReadsMesh, AreWordsTaken}
+use Rattle.command_pages.proofs.Cited.{cells_of}
 use Rattle.delaunay_cli.proofs.Promised.{of_check}
 
 -- the status tells whether the mesh is good

@@ -7,45 +7,22 @@ use Rattle.point_order.specs.Solid.{is_solid}
 use Rattle.edit_history.specs.declared.history.Entry.{Entry}
 use Rattle.edit_history.specs.Histories.{replay}
 use Rattle.edit_files.specs.Content.{Content}
-use Rattle.delaunay_cli.specs.Taken.{file_limits}
+use Rattle.command_pages.specs.Taken.{file_limits}
 use Rattle.edit_files.proofs.Cited.{no_fault_of, one_file_of}
-use Rattle.delaunay_cli.specs.declared.stop.Stop.{Stop}
-use Rattle.delaunay_cli.specs.declared.stop.Stop.TheVariants.{
-  Memory,
-  Usage,
-  ReadFault,
-  WriteFault,
-  BadLine,
-  Flat,
-  TooLong,
-  NoPart,
-  NoAlpha,
-  BadMesh,
-}
+use Rattle.command_words.specs.declared.stop.Stop.{Stop}
+use Rattle.command_words.specs.declared.stop.Stop.TheVariants.{Memory, Usage, ReadFault, WriteFault, BadLine, Flat}
+use Rattle.command_words.specs.declared.stop.Stop.TheVariants.{TooLong, NoPart, NoAlpha, BadMesh}
 use Rattle.delaunay_cli.specs.Commands.{Makes, MakesNone, Promise}
-use Rattle.delaunay_cli.specs.Files.{FileEnds, HasNoMesh, IsOfFile, TellsOfBytes}
+use Rattle.command_pages.specs.Files.{FileEnds, HasNoMesh, IsOfFile, TellsOfBytes}
 use Rattle.delaunay_cli.specs.Parted.{IsParted, IsPartedFile, PartEnds, TellsParts}
 use Rattle.delaunay_cli.specs.Queried.{IsQueried, IsQueriedFile}
 use Rattle.delaunay_cli.specs.Reported.{IsReported}
 use Rattle.delaunay_cli.specs.Stepped.{IsStepped, IsSteppedFile}
-use Rattle.delaunay_cli.specs.Statuses.{HasText, IsEarly, IsFaultFor, IsLineOf, IsWrittenWhole, plain_line}
-use Rattle.delaunay_cli.specs.Stops.{IsLate, line_of_end, status_of, status_of_end}
-use Rattle.delaunay_cli.specs.Words.{
-  Checks,
-  Draws,
-  Kind,
-  Parts,
-  Queries,
-  Reports,
-  Steps,
-  asked_alpha,
-  asked_index,
-  asked_most,
-  asks_order,
-  asks_shape,
-  worker_count,
-}
-use Rattle.delaunay_cli.specs.Report.{text_of_history}
+use Rattle.command_pages.specs.Statuses.{HasText, IsEarly, IsFaultFor, IsLineOf, IsWrittenWhole}
+use Rattle.command_words.specs.Stops.{plain_line, IsLate, line_of_end, status_of, status_of_end}
+use Rattle.command_words.specs.Words.{Checks, Draws, Kind, Parts, Queries, Reports, Steps, asked_alpha, asked_index}
+use Rattle.command_words.specs.Words.{asked_most, asks_order, asks_shape, worker_count}
+use Rattle.command_pages.specs.Report.{text_of_history}
 use Rattle.delaunay_cli.proofs.ChecksEnded.{check_early, check_made, check_unmade, status_unchecked}
 use Rattle.delaunay_cli.proofs.TextStatuses.{early_only, has_text, no_other, stopped_only, whole_only}
 

@@ -1,53 +1,14 @@
 -- The lines that are dealt to workers can be done, and runs of them behind the opening keep the file.
-use Rattle.std.proofs.Common.{
-  ◌≡◌,
-  refl,
-  sym,
-  ◌∙◌,
-  ap,
-  subst,
-  ℕ,
-  suc,
-  ◌+◌,
-  ◌-◌,
-  ◌%◌,
-  ◌<◌,
-  ◌≤◌,
-  ◌==◌,
-  Bool,
-  true,
-  false,
-  cond,
-  List,
-  [],
-  ◌∷◌,
-  ◌++◌,
-  length,
-  map,
-  arith,
-  inl,
-  inr,
-  length-append,
-}
+use Rattle.std.proofs.Common.{◌≡◌, refl, sym, ◌∙◌, ap, subst, ℕ, suc, ◌+◌, ◌-◌, ◌%◌, ◌<◌, ◌≤◌, ◌==◌, Bool, true, false}
+use Rattle.std.proofs.Common.{cond, List, [], ◌∷◌, ◌++◌, length, map, arith, inl, inr, length-append}
 use Rattle.std.specs.Prelude.{not, All, Option, IfSome, slice_index_or, ◌⊎◌}
 use Rattle.std.specs.List.{enumerate_from, filter, flat_map, range_with_len}
 use Rattle.std.proofs.lemmas.Bool.{eqb-true}
 use Rattle.std.proofs.lemmas.List.{length-map}
 use Rattle.std.proofs.lemmas.List.FromFn.{get_or-map-range_with_len, length-range_with_len}
 use Rattle.std.proofs.lemmas.List.Sorted.{length_permutation}
-use Rattle.list_laws.proofs.Cited.{
-  EachLater,
-  all_of_each,
-  each_of_all,
-  from_append,
-  later_filter,
-  later_left,
-  later_pairs,
-  later_right,
-  mapped_from,
-  numbered_lower,
-  passes,
-}
+use Rattle.list_laws.proofs.Cited.{EachLater, all_of_each, each_of_all, from_append, later_filter, later_left}
+use Rattle.list_laws.proofs.Cited.{later_pairs, later_right, mapped_from, numbered_lower, passes}
 use Rattle.point_order.specs.Sets.{IsIn, is_among}
 use Rattle.edit_history.specs.declared.history.Edit.{Edit}
 use Rattle.edit_history.specs.declared.history.Edit.TheVariants.{Add}
@@ -57,30 +18,16 @@ use Rattle.edit_history.specs.Histories.{IsLegal, entries_from}
 use Rattle.edit_history.specs.Opening.{opening_four, FourPlaces}
 use Rattle.edit_history.specs.OneThread.{Keeps, line_of, lines_of_one_thread, one_thread, tagged_lines}
 use Rattle.edit_history.proofs.Cited.{keeps_law}
-use Rattle.plain_laws.specs.Running.{
-  Pair,
-  AreRuns,
-  IsRun,
-  dealt,
-  dealt_lines,
-  dealt_out,
-  dealt_to,
-  edit_lines,
-  other_lines,
-  segments,
-}
-use Rattle.plain_laws.proofs.Cited.{
-  alone_in_any_order,
-  dealt_all,
-  run_behind_alone,
-  run_behind_keeps,
-  segments_apart,
-  segments_keep,
-}
-use Rattle.edit_workers.specs.Dealing.{AreTagsAscending, AreOpening, CanBeDone, all_of, count_all}
+use Rattle.plain_laws.specs.Running.{Pair, AreRuns, IsRun, dealt, dealt_lines, dealt_out, dealt_to, edit_lines}
+use Rattle.plain_laws.specs.Running.{other_lines, segments}
+use Rattle.plain_laws.proofs.Cited.{alone_in_any_order, dealt_all, run_behind_alone, run_behind_keeps, segments_apart}
+use Rattle.plain_laws.proofs.Cited.{segments_keep}
+use Rattle.edit_lists.specs.Dealing.{AreTagsAscending, AreOpening, CanBeDone, all_of, count_all}
 use Rattle.edit_workers.specs.Running.{AreRun, EndsLate}
 use Rattle.edit_workers.proofs.Cited.{done_each, done_runs}
-use Rattle.delaunay_cli.specs.Run.{AreDealt}
+use Rattle.command_pages.specs.Run.{AreDealt}
+use Rattle.edit_lists.proofs.Cited.{dealt_count}
+use Rattle.plain_laws.proofs.Cited.{entry_by as by_none}
 
 -- ---- what workers can do
 
@@ -90,10 +37,6 @@ later_within : {X : Type 0} (R : X → X → Type 0) (lists : List (List X)) (l 
 later_within R [] l i h = absurd i
 later_within {X} R (m ∷ lists) l (inl e) h = subst (EachLater R) e (later_left R m (flat_map (λ l. l) lists) h)
 later_within {X} R (m ∷ lists) l (inr i) h = later_within R lists l i (later_right R m (flat_map (λ l. l) lists) h)
-
--- there is a list for each worker
-dealt_count : (n : ℕ) (lines : List Pair) → length (dealt_out n lines) ≡ n
-dealt_count n lines = length-map (range_with_len 0 n) (dealt_to n lines) ∙ length-range_with_len 0 n
 
 -- the pairs of all segments are their lines
 count_dealt : (n : ℕ) (parts : List (List Pair)) → 0 < n →
@@ -210,12 +153,6 @@ points_many points four found =
     omega (arith, p, n, m, length-append (map Add points) [], length-map points Add)
 
 -- ---- what runs of them leave
-
--- one thread makes entries by 0
-by_none : (n : ℕ) (s : List ℕ) (rest : List Pair) (e : Entry) → IsIn e (entries_from n s rest) → e.by ≡ 0
-by_none n s [] e i = absurd i
-by_none n s (line ∷ rest) e (inl q) = sym (ap (λ (e : Entry). e.by) q)
-by_none n s (line ∷ rest) e (inr i) = by_none (n + 1) (after s line.1) rest e i
 
 -- an entry of a segment is by 0 or by the worker that its point names
 named : (n : ℕ) (parts : List (List Pair)) (lists : List (List Pair)) (made : List Entry) →

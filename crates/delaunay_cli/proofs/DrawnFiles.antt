@@ -1,27 +1,6 @@
 -- What holds of a drawn file.
-use Rattle.std.proofs.Common.{
-  ◌≡◌,
-  inl,
-  inr,
-  ◌∙◌,
-  ap,
-  sym,
-  subst,
-  ℕ,
-  ◌+◌,
-  ◌<◌,
-  ◌≤◌,
-  ◌^◌,
-  Bool,
-  true,
-  false,
-  List,
-  [],
-  ◌∷◌,
-  length,
-  arith,
-  lit<,
-}
+use Rattle.std.proofs.Common.{◌≡◌, inl, inr, ◌∙◌, ap, sym, subst, ℕ, ◌+◌, ◌<◌, ◌≤◌, ◌^◌, Bool, true, false, List, []}
+use Rattle.std.proofs.Common.{◌∷◌, length, arith, lit<}
 use Rattle.std.specs.Prelude.{All, IsErrAnd, IfErr, Result, Ok, Err, String}
 use Rattle.std.specs.declared.alloc.Global.{Global}
 use Rattle.std.proofs.lemmas.List.Elements.{All-cons, All-nil}
@@ -33,16 +12,16 @@ use Rattle.edit_files.proofs.Cited.{generated_solid}
 use Rattle.edit_history.specs.declared.history.Entry.{Entry}
 use Rattle.mesh_files.specs.Summary.{summary_text}
 use Rattle.mesh_files.specs.Text.{ReportParts}
-use Rattle.delaunay_cli.specs.declared.made.Made.{Made}
-use Rattle.delaunay_cli.specs.declared.stop.Stop.{Stop}
-use Rattle.delaunay_cli.specs.declared.stop.Stop.TheVariants.{Memory}
-use Rattle.delaunay_cli.specs.Report.{AreRadii}
+use Rattle.command_pages.specs.declared.made.Made.{Made}
+use Rattle.command_words.specs.declared.stop.Stop.{Stop}
+use Rattle.command_words.specs.declared.stop.Stop.TheVariants.{Memory}
+use Rattle.command_pages.specs.Report.{AreRadii}
 use Rattle.delaunay_cli.specs.Reported.{IsMeshed, IsUnmeshed}
-use Rattle.delaunay_cli.specs.declared.task.Drawn.{Drawn}
-use Rattle.delaunay_cli.specs.declared.task.Making.{Making}
+use Rattle.command_words.specs.declared.task.Drawn.{Drawn}
+use Rattle.command_words.specs.declared.task.Making.{Making}
 use Rattle.delaunay_cli.specs.Drawn.{IsDrawn, IsKeptOfDrawn, drawn_file}
-use Rattle.delaunay_cli.specs.Run.{IsKept}
-use Rattle.delaunay_cli.specs.Words.{DrawsFile, asks_text, drawn_count, drawn_start, worker_count}
+use Rattle.command_pages.specs.Run.{IsKept}
+use Rattle.command_words.specs.Words.{DrawsFile, asks_text, drawn_count, drawn_start, worker_count}
 
 -- a drawn file of at most 262,140 edits has fewer than 2^32 lines
 pub drawn_lines : (f : Content) (count start : ℕ) → count ≤ 262140 → f ≡ generated count start →

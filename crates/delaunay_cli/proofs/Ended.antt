@@ -6,26 +6,20 @@ use Rattle.std.proofs.Common.{◌≡◌, ◌≢◌, ◌⊎◌, ◌↔◌, inl, i
 use Rattle.byte_ends.specs.Ends.{AppendsFront}
 use Rattle.edit_history.specs.declared.history.Entry.{Entry}
 use Rattle.edit_history.specs.Histories.{IsLegal}
-use Rattle.delaunay_cli.specs.declared.made.Made.{Made}
-use Rattle.delaunay_cli.specs.declared.stop.Stop.{Stop}
-use Rattle.delaunay_cli.specs.declared.stop.Stop.TheVariants.{Memory, Usage, WriteFault, BadLine}
+use Rattle.command_pages.specs.declared.made.Made.{Made}
+use Rattle.command_words.specs.declared.stop.Stop.{Stop}
+use Rattle.command_words.specs.declared.stop.Stop.TheVariants.{Memory, Usage, WriteFault, BadLine}
 use Rattle.delaunay_cli.specs.Commands.{Promise}
 use Rattle.delaunay_cli.specs.Ends.{Ends, IsMadeOfWords, IsPutOut, IsUnmade}
-use Rattle.delaunay_cli.specs.Page.{IsFitToWrite, text_of_page}
-use Rattle.delaunay_cli.specs.Run.{ReadsTo, limit_of}
-use Rattle.delaunay_cli.specs.Statuses.{HasText, IsToldLine, IsWrittenWhole, plain_line}
-use Rattle.delaunay_cli.specs.Stops.{line_of_stop, line_of_end, status_of, status_of_end, status_of_made}
-use Rattle.delaunay_cli.specs.Words.{ReadsSource, AreWordsTaken, kind_of_words}
-use Rattle.delaunay_cli.proofs.Judging.{reads_front}
+use Rattle.command_pages.specs.Page.{IsFitToWrite, text_of_page}
+use Rattle.command_pages.specs.Run.{ReadsTo, limit_of}
+use Rattle.command_pages.specs.Statuses.{HasText, IsToldLine, IsWrittenWhole}
+use Rattle.command_words.specs.Stops.{plain_line, line_of_stop, line_of_end, status_of, status_of_end, status_of_made}
+use Rattle.command_words.specs.Words.{ReadsSource, AreWordsTaken, kind_of_words}
+use Rattle.command_pages.proofs.Cited.{reads_front}
 use Rattle.delaunay_cli.proofs.TextStatuses.{no_other, stopped_only, whole_only}
-use Rattle.delaunay_cli.proofs.CommandPromises.{
-  promise_made,
-  promise_unmade,
-  promise_early,
-  status_unmade,
-  fault_told,
-  late_whole,
-}
+use Rattle.delaunay_cli.proofs.CommandPromises.{promise_made, promise_unmade, promise_early, status_unmade, fault_told}
+use Rattle.delaunay_cli.proofs.CommandPromises.{late_whole}
 
 -- where memory is wanting once all is read, nothing changes of that
 reads_stopped : (limit : ℕ) (old new : Option (List ℕ)) → ReadsTo limit old new 0 → ReadsTo limit old new 1

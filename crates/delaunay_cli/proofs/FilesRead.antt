@@ -6,24 +6,13 @@ use Rattle.list_laws.proofs.Cited.{if_some}
 use Rattle.edit_history.specs.declared.history.Entry.{Entry}
 use Rattle.edit_files.specs.declared.file.File.{File}
 use Rattle.edit_files.specs.Content.{Content, content}
-use Rattle.delaunay_cli.specs.declared.made.Parts.{Parts}
-use Rattle.delaunay_cli.specs.declared.stop.Stop.{Stop}
-use Rattle.delaunay_cli.specs.Files.{HasNoMesh, IsFileOf, IsFileWithin, IsFlatFile}
-use Rattle.delaunay_cli.specs.Page.{report_of_parts}
+use Rattle.command_pages.specs.declared.made.Parts.{Parts}
+use Rattle.command_words.specs.declared.stop.Stop.{Stop}
+use Rattle.command_pages.specs.Files.{HasNoMesh, IsFileOf, IsFileWithin, IsFlatFile}
+use Rattle.command_pages.specs.Page.{report_of_parts}
 use Rattle.delaunay_cli.specs.Queried.{IsAnswered, IsQueriedFile}
 use Rattle.delaunay_cli.specs.Reported.{IsMeshed, IsReportOf, IsUnmeshed}
-use Rattle.delaunay_cli.proofs.Judging.{if_told}
-
--- what was read to the end is the file, and so is what the source told
-pub file_told : (left : Option (List ℕ)) (old bytes now : List ℕ) → old ≡ [] → now ≡ bytes →
-    IfSome left (λ told. bytes ≡ old ++ told) → (m : Result File Stop) →
-    IfOk m (λ file. IsFileOf (Some now) (content file)) → IfOk m (λ file. IsFileOf left (content file))
-file_told left old bytes now e f h (Err stop) r = tt
-file_told left old bytes now e f h (Ok file) r = record {
-  lines = r.lines;
-  radii = r.radii;
-  told = if_told (IsFileWithin (content file)) left old bytes now e f h r.told;
-}
+use Rattle.command_pages.proofs.Cited.{if_told}
 
 module _ (left : Option (List ℕ)) (file : Content) (f : IsFileOf left file) where
   -- its lines are few

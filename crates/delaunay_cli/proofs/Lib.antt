@@ -1,7 +1,3 @@
-pub mod Lines
-pub mod Clouds
-pub mod CommandLine
-pub mod Judging
 pub mod FilesRead
 pub mod TextStatuses
 pub mod ChecksEnded
@@ -9,13 +5,8 @@ pub mod CommandPromises
 pub mod Ended
 pub mod MadeAsAsked
 pub mod Promised
-pub mod ShapesOfSet
 pub mod DrawnFiles
 pub mod PlainTexts
-pub mod NumberWords
+pub mod AnchoredRuns
 pub mod DealtLines
-pub mod Unwritten
-pub mod PartsTold
-pub mod MeshJudged
 pub mod ChecksTold
-pub mod PiecesRead

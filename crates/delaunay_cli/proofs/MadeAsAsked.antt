@@ -4,58 +4,33 @@ use Rattle.std.specs.Prelude.{Option, None, IfSome, IfOk, IfErr, Result, Ok, Err
 use Rattle.std.proofs.Common.{◌≡◌, ◌⊎◌, inl, inr, refl, sym, subst, ap, ◌∙◌, ℕ, Bool, List, [], false, true, cond}
 use Rattle.std.proofs.lemmas.Bool.{cases_Bool}
 use Rattle.edit_files.specs.Generator.{generated}
-use Rattle.delaunay_cli.specs.declared.made.Made.{Made}
-use Rattle.delaunay_cli.specs.declared.stop.Stop.{Stop}
-use Rattle.delaunay_cli.specs.declared.stop.Stop.TheVariants.{Memory, Usage}
-use Rattle.delaunay_cli.specs.declared.task.Asked.{Asked}
-use Rattle.delaunay_cli.specs.declared.task.Drawn.{Drawn}
-use Rattle.delaunay_cli.specs.declared.task.Making.{Making}
-use Rattle.delaunay_cli.specs.declared.task.Wanted.{Wanted}
-use Rattle.delaunay_cli.specs.declared.task.Task.TheVariants.{Report, Step, Part, Query, Check, Draw}
-use Rattle.delaunay_cli.specs.Checked.{IsChecked, IsUnchecked, TellsVerdict}
+use Rattle.command_pages.specs.declared.made.Made.{Made}
+use Rattle.command_words.specs.declared.stop.Stop.{Stop}
+use Rattle.command_words.specs.declared.stop.Stop.TheVariants.{Memory, Usage}
+use Rattle.command_words.specs.declared.task.Asked.{Asked}
+use Rattle.command_words.specs.declared.task.Drawn.{Drawn}
+use Rattle.command_words.specs.declared.task.Making.{Making}
+use Rattle.command_words.specs.declared.task.Wanted.{Wanted}
+use Rattle.command_words.specs.declared.task.Task.TheVariants.{Report, Step, Part, Query, Check, Draw}
+use Rattle.command_pages.specs.Checked.{IsChecked, IsUnchecked, TellsVerdict}
 use Rattle.delaunay_cli.specs.Commands.{Makes, MakesNone}
 use Rattle.delaunay_cli.specs.Ends.{IsMadeOfWords, IsUnmade}
-use Rattle.delaunay_cli.specs.Page.{text_of_page}
-use Rattle.delaunay_cli.specs.Files.{HasNoMesh}
+use Rattle.command_pages.specs.Page.{text_of_page}
+use Rattle.command_pages.specs.Files.{HasNoMesh}
 use Rattle.delaunay_cli.specs.Parted.{IsPartedFile, TellsParts}
 use Rattle.delaunay_cli.specs.Queried.{IsQueriedFile}
 use Rattle.delaunay_cli.specs.Reported.{IsReported}
 use Rattle.delaunay_cli.specs.Stepped.{IsSteppedFile}
-use Rattle.delaunay_cli.specs.Run.{Reads, ReadsTo, input_limit, limit_of, mesh_limit}
-use Rattle.delaunay_cli.specs.Stops.{status_of_end}
-use Rattle.delaunay_cli.specs.Words.{
-  Checks,
-  DrawsFile,
-  Draws,
-  Kind,
-  Parts,
-  Queries,
-  ReadsFile,
-  ReadsMesh,
-  ReadsSource,
-  Reports,
-  Steps,
-  WritesNear,
-  WritesParts,
-  WritesReport,
-  WritesSteps,
-  asked_alpha,
-  asked_index,
-  asked_most,
-  asks_check,
-  asks_drawn,
-  asks_near,
-  asks_order,
-  asks_parts,
-  asks_shape,
-  asks_steps,
-  AreWordsTaken,
-  kind_of_words,
-}
+use Rattle.command_pages.specs.Run.{Reads, ReadsTo, input_limit, limit_of, mesh_limit}
+use Rattle.command_words.specs.Stops.{status_of_end}
+use Rattle.command_words.specs.Words.{Checks, DrawsFile, Draws, Kind, Parts, Queries, ReadsFile, ReadsMesh, ReadsSource}
+use Rattle.command_words.specs.Words.{Reports, Steps, WritesNear, WritesParts, WritesReport, WritesSteps, asked_alpha}
+use Rattle.command_words.specs.Words.{asked_index, asked_most, asks_check, asks_drawn, asks_near, asks_order}
+use Rattle.command_words.specs.Words.{asks_parts, asks_shape, asks_steps, AreWordsTaken, kind_of_words}
 use Rattle.delaunay_cli.specs.Drawn.{IsDrawn}
-use Rattle.delaunay_cli.specs.Tasks.{IsTask}
+use Rattle.command_words.specs.Tasks.{IsTask}
 use Rattle.delaunay_cli.proofs.DrawnFiles.{drawn_asked}
-use Rattle.delaunay_cli.proofs.CommandLine.{check_mesh, draws_file, near_file, parts_file, reads_file, steps_file}
+use Rattle.command_words.proofs.Cited.{check_mesh, draws_file, near_file, parts_file, reads_file, steps_file}
 
 -- the kind of words that draw, and of words that read
 abbrev kind_by : Bool → Bool → Bool → Bool → Bool → Kind

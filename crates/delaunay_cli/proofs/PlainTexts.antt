@@ -14,8 +14,8 @@ use Rattle.plain_laws.specs.Plain.{IsAnchored, IsPlain}
 use Rattle.plain_laws.proofs.Cited.{anchored_is_plain}
 use Rattle.delaunay_cli.specs.Drawn.{IsKeptOfDrawn, drawn_file, drawn_text}
 use Rattle.delaunay_cli.specs.PlainText.{plain_drawn, plain_report}
-use Rattle.delaunay_cli.specs.Report.{report_of, shapes_of}
-use Rattle.delaunay_cli.specs.Words.{asks_text, drawn_count, drawn_start}
+use Rattle.command_pages.specs.Report.{report_of, shapes_of}
+use Rattle.command_words.specs.Words.{asks_text, drawn_count, drawn_start}
 
 -- the report of a plain history is that of the lines
 report_is : (shape : Bool) (file : Content) (h : List Entry) → IsPlain file.points file.edits h →

@@ -4,38 +4,14 @@ use Rattle.std.specs.declared.alloc.Global.{Global}
 use Rattle.edit_history.specs.declared.history.Entry.{Entry}
 use Rattle.edit_history.specs.Histories.{replay}
 use Rattle.std.specs.Io.KnownBytes.{Appends, Keeps}
-use Rattle.std.proofs.Common.{
-  ◌≡◌,
-  ◌≢◌,
-  ◌⊎◌,
-  ◌↔◌,
-  inl,
-  inr,
-  refl,
-  sym,
-  subst,
-  ap,
-  ◌∙◌,
-  ℕ,
-  ◌≤◌,
-  Bool,
-  List,
-  [],
-  ◌++◌,
-  append-nil,
-  false,
-  true,
-  arith,
-  ◌<◌,
-  length,
-}
-use Rattle.std.proofs.lemmas.Bool.{cases_eq}
-use Rattle.std.proofs.lemmas.Bool.{cases_lt}
+use Rattle.std.proofs.Common.{◌≡◌, ◌≢◌, ◌⊎◌, ◌↔◌, inl, inr, refl, sym, subst, ap, ◌∙◌, ℕ, ◌≤◌, Bool, List, [], ◌++◌}
+use Rattle.std.proofs.Common.{append-nil, false, true, arith, ◌<◌, length}
+use Rattle.std.proofs.lemmas.Bool.{cases_eq, cases_lt}
 use Rattle.list_laws.proofs.Cited.{if_some}
 use Rattle.byte_ends.specs.Ends.{AppendsFront}
 use Rattle.edit_files.specs.Content.{Content}
 use Rattle.edit_files.specs.Grammar.{IsFile}
-use Rattle.delaunay_cli.specs.Taken.{file_limits}
+use Rattle.command_pages.specs.Taken.{file_limits}
 use Rattle.edit_files.proofs.Cited.{no_fault_of, one_file_of}
 use Rattle.mesh_files.specs.Text.{report_text}
 use Rattle.near_vertex.specs.declared.answers.Near.{Near}
@@ -45,53 +21,24 @@ use Rattle.plain_laws.specs.Plain.{IsAnchored}
 use Rattle.solid_parts.specs.Parts.{AreSolidParts}
 use Rattle.solid_parts.proofs.Cited.{same_count}
 use Rattle.alpha_complex.specs.Shapes.{shape_of}
-use Rattle.delaunay_cli.specs.Checked.{CheckEnds}
+use Rattle.command_pages.specs.Checked.{CheckEnds}
 use Rattle.delaunay_cli.specs.Commands.{Promise}
 use Rattle.delaunay_cli.specs.Drawn.{DrawEnds, IsKeptOfDrawn, drawn_file}
 use Rattle.delaunay_cli.specs.Ends.{Ends}
 use Rattle.delaunay_cli.specs.PlainText.{plain_drawn, plain_text}
-use Rattle.delaunay_cli.specs.Report.{text_of_history}
-use Rattle.delaunay_cli.specs.Files.{IsOfFile, TellsOfBytes}
-use Rattle.delaunay_cli.specs.Parted.{
-  HasNoAlpha,
-  HasNoPart,
-  HasParts,
-  IsAskedAlpha,
-  IsParted,
-  IsPartedFile,
-  PartEnds,
-  TellsAt,
-}
+use Rattle.command_pages.specs.Report.{text_of_history}
+use Rattle.command_pages.specs.Files.{IsOfFile, TellsOfBytes}
+use Rattle.delaunay_cli.specs.Parted.{HasNoAlpha, HasNoPart, HasParts, IsAskedAlpha, IsParted, IsPartedFile, PartEnds}
+use Rattle.delaunay_cli.specs.Parted.{TellsAt}
 use Rattle.delaunay_cli.specs.Queried.{IsQueried, QueryEnds}
 use Rattle.delaunay_cli.specs.Reported.{IsReported, ReportEnds}
-use Rattle.delaunay_cli.specs.Stepped.{IsStepped, StepEnds}
-use Rattle.delaunay_cli.specs.Run.{IsKept, IsSolidFile, Writes, WritesFront, input_limit}
-use Rattle.delaunay_cli.specs.Statuses.{HasText, IsEarly, IsWrittenWhole}
-use Rattle.delaunay_cli.specs.Words.{
-  Checks,
-  Draws,
-  DrawsFile,
-  Kind,
-  Parts,
-  Queries,
-  ReadsFile,
-  ReadsMesh,
-  Reports,
-  Steps,
-  WritesNear,
-  WritesParts,
-  WritesReport,
-  WritesSteps,
-  asked_alpha,
-  asked_index,
-  asked_most,
-  asks_order,
-  asks_shape,
-  asks_text,
-  worker_count,
-  AreWordsTaken,
-  kind_of_words,
-}
+use Rattle.delaunay_cli.specs.Stepped.{IsStepped, IsSteppedFile, StepEnds}
+use Rattle.command_pages.specs.Run.{IsKept, IsSolidFile, Writes, WritesFront, input_limit}
+use Rattle.command_pages.specs.Statuses.{HasText, IsEarly, IsWrittenWhole}
+use Rattle.command_words.specs.Words.{Checks, Draws, DrawsFile, Kind, Parts, Queries, ReadsFile, ReadsMesh, Reports}
+use Rattle.command_words.specs.Words.{Steps, WritesNear, WritesParts, WritesReport, WritesSteps, asked_alpha}
+use Rattle.command_words.specs.Words.{asked_index, asked_most, asks_order, asks_shape, asks_text, worker_count}
+use Rattle.command_words.specs.Words.{AreWordsTaken, kind_of_words}
 use Rattle.delaunay_cli.proofs.MadeAsAsked.{draws, kind_read, reading}
 use Rattle.delaunay_cli.proofs.TextStatuses.{has_text, stopped_only}
 use Rattle.delaunay_cli.proofs.PlainTexts.{drawn_is_plain, kept_is_plain}
@@ -277,8 +224,7 @@ module _ {words : List (String Global)} {left left_after : Option (List ℕ)} {r
   of_bytes P f w late = if_some (TellsOfBytes status) P left f (verdict w late)
 
   -- what is kept of the file
-  of_one : (P : Content → Type 0) (Q : Content → Type 0) → ((file : Content) → IsKept file (worker_count words) kept →
-      Q file → P file)
+  pub of_one : (P Q : Content → Type 0) → ((file : Content) → IsKept file (worker_count words) kept → Q file → P file)
       → IfSome left (IsOfFile (worker_count words) kept Q) → IfSome left
       (λ bytes. (file : Content) → IsFile file_limits bytes file → P file)
   of_one P Q f m =
@@ -459,6 +405,20 @@ module _ {words : List (String Global)} {left left_after : Option (List ℕ)} {r
       (λ bytes. (text : List ℕ) × IsParted (replay kept) (asked_alpha words) (asked_most words) (asked_index words) 0
       text × AppendsFront held holds text) left
       (λ bytes m. (e.text, m.text_is, e.front z)) ((of_parts w).cut z)
+
+  -- what is written of the least alphas
+  pub steps_written : WritesSteps words → status ≡ 0 →
+      IfSome left (λ bytes. (text : List ℕ) × IsStepped (replay kept) text × Appends held holds text)
+  steps_written w z = if_some (IsSteppedFile (worker_count words) kept e.text)
+      (λ bytes. (text : List ℕ) × IsStepped (replay kept) text × Appends held holds text) left
+      (λ bytes m. (e.text, m.text_is, e.whole (inl z))) ((of_steps w).made (inl (inl z)))
+
+  -- or a front of it
+  pub steps_front : WritesSteps words → status ≡ 4 →
+      IfSome left (λ bytes. (text : List ℕ) × IsStepped (replay kept) text × AppendsFront held holds text)
+  steps_front w z = if_some (IsSteppedFile (worker_count words) kept e.text)
+      (λ bytes. (text : List ℕ) × IsStepped (replay kept) text × AppendsFront held holds text) left
+      (λ bytes m. (e.text, m.text_is, e.front z)) ((of_steps w).made (inr z))
 
   -- what is written of the queries of the file that the bytes are
   pub near_written : WritesNear words → status ≡ 0 → IfSome left

@@ -1,6 +1,6 @@
 -- Which statuses are those of a text.
 use Rattle.std.proofs.Common.{◌≡◌, ◌≢◌, ◌⊎◌, inl, inr, sym, ◌∙◌, ℕ, ◌<◌, ◌≤◌, arith}
-use Rattle.delaunay_cli.specs.Statuses.{HasText, IsWrittenWhole}
+use Rattle.command_pages.specs.Statuses.{HasText, IsWrittenWhole}
 
 -- a status with a text is 0, 4 or above 7
 pub no_other : (status : ℕ) → HasText status → (k : ℕ) → 0 < k → k ≤ 7 → 4 ≢ k → status ≡ k → ⊥

@@ -2,30 +2,16 @@
 use Rattle.std.specs.Prelude.{◌≡◌, ℕ, List, [], Option, IfSome, String}
 use Rattle.std.specs.declared.alloc.Global.{Global}
 use Rattle.edit_history.specs.declared.history.Entry.{Entry}
-use Rattle.delaunay_cli.specs.declared.stop.Stop.{Stop}
-use Rattle.delaunay_cli.specs.Checked.{CheckEnds, IsChecked, IsUnchecked, TellsVerdict}
+use Rattle.command_words.specs.declared.stop.Stop.{Stop}
+use Rattle.command_pages.specs.Checked.{CheckEnds, IsChecked, IsUnchecked, TellsVerdict}
 use Rattle.delaunay_cli.specs.Drawn.{DrawEnds, IsDrawn, drawn_file}
-use Rattle.delaunay_cli.specs.Files.{HasNoMesh}
+use Rattle.command_pages.specs.Files.{HasNoMesh}
 use Rattle.delaunay_cli.specs.Parted.{IsPartedFile, PartEnds, TellsParts}
 use Rattle.delaunay_cli.specs.Queried.{IsQueriedFile, QueryEnds}
 use Rattle.delaunay_cli.specs.Reported.{IsReported, ReportEnds}
 use Rattle.delaunay_cli.specs.Stepped.{IsSteppedFile, StepEnds}
-use Rattle.delaunay_cli.specs.Words.{
-  Checks,
-  Draws,
-  Kind,
-  Parts,
-  Queries,
-  Reports,
-  Steps,
-  asked_alpha,
-  asked_index,
-  asked_most,
-  asks_order,
-  asks_shape,
-  asks_text,
-  worker_count,
-}
+use Rattle.command_words.specs.Words.{Checks, Draws, Kind, Parts, Queries, Reports, Steps, asked_alpha, asked_index}
+use Rattle.command_words.specs.Words.{asked_most, asks_order, asks_shape, asks_text, worker_count}
 
 -- what a command makes, where the source had these bytes left: the status with which it ends where the text is written
 -- whole, the history and the text

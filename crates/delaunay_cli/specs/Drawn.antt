@@ -6,10 +6,10 @@ use Rattle.edit_files.specs.Content.{Content}
 use Rattle.edit_files.specs.Generator.{generated}
 use Rattle.edit_files.specs.Writing.{file_text}
 use Rattle.mesh_files.specs.Summary.{summary_text}
-use Rattle.delaunay_cli.specs.Report.{report_of}
-use Rattle.delaunay_cli.specs.Run.{IsKept}
-use Rattle.delaunay_cli.specs.Statuses.{HasText}
-use Rattle.delaunay_cli.specs.Words.{asks_text, drawn_count, drawn_start}
+use Rattle.command_pages.specs.Report.{report_of}
+use Rattle.command_pages.specs.Run.{IsKept}
+use Rattle.command_pages.specs.Statuses.{HasText}
+use Rattle.command_words.specs.Words.{asks_text, drawn_count, drawn_start}
 
 -- the summary of a history of a file's lines, with a shape for each of its radii
 abbrev pub summary_of : Content → List Entry → List ℕ

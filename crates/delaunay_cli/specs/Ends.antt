@@ -5,12 +5,12 @@ use Rattle.std.specs.Io.KnownBytes.{Appends, Keeps, IsAtEnd}
 use Rattle.byte_ends.specs.Ends.{AppendsFront}
 use Rattle.edit_history.specs.declared.history.Entry.{Entry}
 use Rattle.edit_history.specs.Histories.{IsLegal}
-use Rattle.delaunay_cli.specs.declared.stop.Stop.{Stop}
-use Rattle.delaunay_cli.specs.declared.stop.Stop.TheVariants.{Memory, Usage, WriteFault}
+use Rattle.command_words.specs.declared.stop.Stop.{Stop}
+use Rattle.command_words.specs.declared.stop.Stop.TheVariants.{Memory, Usage, WriteFault}
 use Rattle.delaunay_cli.specs.Commands.{Makes, MakesNone, Promise}
-use Rattle.delaunay_cli.specs.Run.{ReadsTo, limit_of}
-use Rattle.delaunay_cli.specs.Statuses.{HasText, IsWrittenWhole}
-use Rattle.delaunay_cli.specs.Words.{ReadsSource, AreWordsTaken, kind_of_words}
+use Rattle.command_pages.specs.Run.{ReadsTo, limit_of}
+use Rattle.command_pages.specs.Statuses.{HasText, IsWrittenWhole}
+use Rattle.command_words.specs.Words.{ReadsSource, AreWordsTaken, kind_of_words}
 
 -- the words are taken, and this is the history and the text that their command makes
 abbrev pub IsMadeOfWords : List (String Global) → Option (List ℕ) → ℕ → List Entry → List ℕ → Type 0
@@ -21,12 +21,6 @@ abbrev pub IsUnmade : List (String Global) → Option (List ℕ) → Type 0 → 
 IsUnmade words left failed Memory = ⊤
 IsUnmade words left failed Usage = AreWordsTaken words → ⊥
 IsUnmade words left failed stop = AreWordsTaken words × MakesNone (kind_of_words words) left failed stop
-
--- why a text is not put whole: for want of memory, before anything of it, or behind a front of it, where the output
--- failed
-abbrev pub IsUnput : Type 0 → Option (List ℕ) → Option (List ℕ) → List ℕ → Stop → Type 0
-IsUnput failed held holds text stop =
-    ((stop ≡ Memory) × Keeps held holds) ⊎ ((stop ≡ WriteFault) × failed × AppendsFront held holds text)
 
 -- The end of what was made, with its history: the output gained the text where the run ends with what is told of it,
 -- and a front of it, which is not empty, where the output failed. Where memory was wanting the output is as before, and

@@ -1,21 +1,6 @@
 -- The command `parts`: what is made of the points that a history leaves, and what a run of it promises of its end.
-use Rattle.std.specs.Prelude.{
-  ◌≡◌,
-  ◌⊎◌,
-  ◌≤◌,
-  ◌<◌,
-  ℕ,
-  zero,
-  suc,
-  List,
-  [],
-  length,
-  Option,
-  None,
-  Some,
-  IfSome,
-  slice_index_or,
-}
+use Rattle.std.specs.Prelude.{◌≡◌, ◌⊎◌, ◌≤◌, ◌<◌, ℕ, zero, suc, List, [], length, Option, None, Some, IfSome}
+use Rattle.std.specs.Prelude.{slice_index_or}
 use Rattle.edit_history.specs.declared.history.Entry.{Entry}
 use Rattle.edit_history.specs.Histories.{replay}
 use Rattle.alpha_complex.specs.Shapes.{shape_of}
@@ -24,8 +9,8 @@ use Rattle.solid_parts.specs.Boundary.{boundary_of}
 use Rattle.solid_parts.specs.LeastAlpha.{IsLeastAlpha}
 use Rattle.solid_parts.specs.Parts.{AreSolidParts}
 use Rattle.solid_parts.specs.Text.{parts_text}
-use Rattle.delaunay_cli.specs.Files.{IsOfFile, TellsOfBytes}
-use Rattle.delaunay_cli.specs.Statuses.{IsEarly, IsWrittenWhole}
+use Rattle.command_pages.specs.Files.{IsOfFile, TellsOfBytes}
+use Rattle.command_pages.specs.Statuses.{IsEarly, IsWrittenWhole}
 
 -- The alpha at which the parts are taken: the one that is given, and where a most of parts above 0 is asked for, the
 -- least at which every point is in an admitted cell and there are at most so many; then there may be none.

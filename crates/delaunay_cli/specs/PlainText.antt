@@ -8,8 +8,8 @@ use Rattle.mesh_files.specs.Summary.{summary_text}
 use Rattle.mesh_files.specs.Text.{ReportParts, report_text}
 use Rattle.plain_laws.specs.Plain.{plain_replies, plain_set, all_edits}
 use Rattle.delaunay_cli.specs.Drawn.{drawn_file}
-use Rattle.delaunay_cli.specs.Report.{shapes_of}
-use Rattle.delaunay_cli.specs.Words.{asks_text}
+use Rattle.command_pages.specs.Report.{shapes_of}
+use Rattle.command_words.specs.Words.{asks_text}
 
 -- the points that a file leaves, as its lines tell them
 abbrev pub plain_points : Content → List ℕ

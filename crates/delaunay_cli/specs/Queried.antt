@@ -7,8 +7,8 @@ use Rattle.edit_files.specs.Content.{Content}
 use Rattle.near_vertex.specs.declared.answers.Near.{Near}
 use Rattle.near_vertex.specs.Answers.{AreNear}
 use Rattle.near_vertex.specs.Text.{near_text}
-use Rattle.delaunay_cli.specs.Files.{FileEnds, IsOfFile}
-use Rattle.delaunay_cli.specs.Run.{IsKept}
+use Rattle.command_pages.specs.Files.{FileEnds, IsOfFile}
+use Rattle.command_pages.specs.Run.{IsKept}
 
 -- The text is that of the answers to the queries, in their order: of each the nearest point of a set, and the square of
 -- its distance.

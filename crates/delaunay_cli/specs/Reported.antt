@@ -5,11 +5,11 @@ use Rattle.edit_history.specs.declared.history.Entry.{Entry}
 use Rattle.edit_history.specs.Histories.{IsLegal}
 use Rattle.edit_files.specs.Content.{Content}
 use Rattle.mesh_files.specs.Text.{ReportParts}
-use Rattle.delaunay_cli.specs.declared.stop.Stop.{Stop}
-use Rattle.delaunay_cli.specs.declared.stop.Stop.TheVariants.{Memory, Flat}
-use Rattle.delaunay_cli.specs.Files.{FileEnds, IsOfFile}
-use Rattle.delaunay_cli.specs.Report.{report_of, text_of_history}
-use Rattle.delaunay_cli.specs.Run.{IsKept}
+use Rattle.command_words.specs.declared.stop.Stop.{Stop}
+use Rattle.command_words.specs.declared.stop.Stop.TheVariants.{Memory, Flat}
+use Rattle.command_pages.specs.Files.{FileEnds, IsOfFile}
+use Rattle.command_pages.specs.Report.{report_of, text_of_history}
+use Rattle.command_pages.specs.Run.{IsKept}
 
 -- The file's points are solid; the history keeps it for a number of workers, and the report is that of the two.
 pub record IsMeshed (workers : ℕ) (shape order : Bool) (file : Content) (h : List Entry)

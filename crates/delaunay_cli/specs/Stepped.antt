@@ -5,7 +5,7 @@ use Rattle.edit_history.specs.Histories.{replay}
 use Rattle.alpha_steps.specs.Seen.{StepSlots}
 use Rattle.alpha_steps.specs.Text.{steps_text}
 use Rattle.alpha_steps.specs.Thresholds.{AreThresholds}
-use Rattle.delaunay_cli.specs.Files.{FileEnds, IsOfFile}
+use Rattle.command_pages.specs.Files.{FileEnds, IsOfFile}
 
 -- The text is that of the thresholds of the complex of a set.
 pub record IsStepped (s : List ℕ) (text : List ℕ) : Type 0 where

@@ -2,14 +2,13 @@
 
 ghost use Rattle.std.specs.Prelude.{◌≡◌, None, IfOk, IfErr};
 ghost use Rattle.edit_files.specs.Generator.{generated};
-ghost use Rattle.delaunay_cli.specs.declared.stop.Stop.TheVariants.{Memory};
+ghost use Rattle.command_words.specs.declared.stop.Stop.TheVariants.{Memory};
 ghost use Rattle.delaunay_cli.specs.Drawn.{IsDrawn};
-ghost use Rattle.delaunay_cli.specs.Page.{IsFitToWrite, text_of_page};
+ghost use Rattle.command_pages.specs.Page.{IsFitToWrite, text_of_page};
 
-use crate::made::{Form, Made, Page};
 use crate::mesh::history_and_parts;
-use crate::stop::Stop;
-use crate::task::{Asked, Drawn, Making};
+use command_pages::{Form, Made, Page};
+use command_words::{Asked, Drawn, Making, Stop};
 use edit_files::{file_text, generate};
 use grid_claims::Gate;
 use std::alloc::Global;
@@ -20,6 +19,7 @@ use std::thread::Threads;
 /// # Errors
 ///
 /// `Memory` alone.
+#[inline(never)]
 pub fn draw<R: Threads + Sync, G: Gate + Sync>(
     rt: &R,
     alloc: Global,

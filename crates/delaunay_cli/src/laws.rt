@@ -1,25 +1,7 @@
 //! The laws of the words and of the end of a run. Each function does nothing, and its contract is a law.
 
-ghost use Rattle.std.specs.Prelude.{
-  ◌≡◌,
-  ◌≢◌,
-  ◌⊎◌,
-  ◌↔◌,
-  ◌≤◌,
-  ◌<◌,
-  ℕ,
-  Option,
-  None,
-  Some,
-  List,
-  [],
-  String,
-  false,
-  true,
-  length,
-  codes,
-  IfSome,
-};
+ghost use Rattle.std.specs.Prelude.{◌≡◌, ◌≢◌, ◌⊎◌, ◌↔◌, ◌≤◌, ◌<◌, ℕ, Option, None, Some, List, [], String, false, true};
+ghost use Rattle.std.specs.Prelude.{length, codes, IfSome};
 ghost use Rattle.std.specs.Io.KnownBytes.{Appends, Keeps, IsAtEnd};
 ghost use Rattle.std.specs.declared.alloc.Global.{Global};
 ghost use Rattle.byte_ends.specs.Ends.{AppendsFront, Rose};
@@ -36,52 +18,23 @@ ghost use Rattle.near_vertex.specs.Text.{near_text};
 ghost use Rattle.mesh_check.specs.declared.flaw.Verdict.{Verdict};
 ghost use Rattle.mesh_check.specs.Flaws.{IsVerdict, as_cells};
 ghost use Rattle.mesh_check.specs.Text.{verdict_text};
-ghost use Rattle.delaunay_cli.specs.Checked.{HasMeshFault, IsTrueMesh, IsMeshWithin};
-ghost use Rattle.delaunay_cli.specs.Taken.{file_limits};
+ghost use Rattle.command_pages.specs.Checked.{HasMeshFault, IsTrueMesh, IsMeshWithin};
+ghost use Rattle.command_pages.specs.Taken.{file_limits};
 ghost use Rattle.delaunay_cli.specs.Drawn.{drawn_file, drawn_text};
 ghost use Rattle.delaunay_cli.specs.Laws.{ARun};
 ghost use Rattle.delaunay_cli.specs.Parted.{HasNoAlpha, HasNoPart, IsParted};
-ghost use Rattle.delaunay_cli.specs.PlainText.{plain_drawn};
-ghost use Rattle.delaunay_cli.specs.Run.{HasFault, IsSolidFile, history_of, input_limit, mesh_limit};
-ghost use Rattle.delaunay_cli.specs.Statuses.{HasText, IsEarly, IsWrittenWhole};
-ghost use Rattle.delaunay_cli.specs.Words.{
-  SayCheck,
-  SayGen,
-  SayGenText,
-  SayMesh,
-  SayMeshOrder,
-  SayMeshing,
-  SayNear,
-  SayParts,
-  SayPartsAt,
-  SayShape,
-  SayShapeOrder,
-  SaySteps,
-  DrawsFile,
-  ReadsFile,
-  ReadsMesh,
-  ReadsSource,
-  WritesNear,
-  WritesParts,
-  WritesReport,
-  WritesSteps,
-  asked_alpha,
-  asked_index,
-  asked_most,
-  asks_order,
-  asks_shape,
-  asks_text,
-  drawn_count,
-  drawn_start,
-  grid_size,
-  most_alpha,
-  most_count,
-  most_index,
-  most_start,
-  most_workers,
-  worker_count,
-  AreWordsTaken,
-};
+ghost use Rattle.delaunay_cli.specs.PlainText.{plain_drawn, plain_points};
+ghost use Rattle.delaunay_cli.specs.Queried.{IsQueried};
+ghost use Rattle.command_pages.specs.Run.{HasFault, IsSolidFile, history_of, input_limit, mesh_limit};
+ghost use Rattle.command_pages.specs.Statuses.{HasText, IsEarly, IsWrittenWhole};
+ghost use Rattle.delaunay_cli.specs.Stepped.{IsStepped};
+ghost use Rattle.plain_laws.specs.Plain.{IsAnchored};
+ghost use Rattle.command_words.specs.Words.{SayCheck, SayGen, SayGenText, SayMesh, SayMeshOrder, SayMeshing, SayNear};
+ghost use Rattle.command_words.specs.Words.{SayParts, SayPartsAt, SayShape, SayShapeOrder, SaySteps, DrawsFile};
+ghost use Rattle.command_words.specs.Words.{ReadsFile, ReadsMesh, ReadsSource, WritesNear, WritesParts, WritesReport};
+ghost use Rattle.command_words.specs.Words.{WritesSteps, asked_alpha, asked_index, asked_most, asks_order, asks_shape};
+ghost use Rattle.command_words.specs.Words.{asks_text, drawn_count, drawn_start, grid_size, most_alpha, most_count};
+ghost use Rattle.command_words.specs.Words.{most_index, most_start, most_workers, worker_count, AreWordsTaken};
 
 /// The words `mesh` and `shape` alone are taken, and ask for no order block; with `--order` they ask for it. Both write
 /// the report of a file, by one worker over a grid of 4, as `steps` writes its least alphas, `parts` its parts at alpha
@@ -165,6 +118,53 @@ pub fn run_that_reads()
     ensures not_solid { (r : ARun) → ReadsFile r.words → (IsEarly r.status → ⊥) → r.status ≢ 7
         → IfSome r.left (λ bytes. (file : Content) → IsFile file_limits bytes file
         → (r.status ≡ 6 ↔ (is_solid file.points ≡ false))) }
+{}
+
+/// A run that is to write the least alphas: on 0 the whole text of those of the points that its history leaves is
+/// written, and on 4 a front of it. Of a solid file within the limit it ends with 0 unless memory is wanting or the
+/// source or the output fails.
+pub fn run_that_steps()
+    ensures statuses { (r : ARun) → WritesSteps r.words → r.status ≤ 7 }
+    ensures written { (r : ARun) → WritesSteps r.words → r.status ≡ 0
+        → IfSome r.left (λ bytes. (text : List ℕ) × IsStepped (replay r.kept) text × Appends r.held r.holds text) }
+    ensures front { (r : ARun) → WritesSteps r.words → r.status ≡ 4
+        → IfSome r.left (λ bytes. (text : List ℕ) × IsStepped (replay r.kept) text
+        × AppendsFront r.held r.holds text) }
+    ensures complete { (r : ARun) → AreWordsTaken r.words → WritesSteps r.words
+        → IfSome r.left (λ bytes. IsSolidFile bytes → (Rose r.read_faults r.read_faults_after → ⊥)
+        → (Rose r.write_faults r.write_faults_after → ⊥) → (r.status ≡ 0) ⊎ (r.status ≡ 1)) }
+{}
+
+/// Where no edit takes one of the opening four, or moves it, what `steps`, `parts` and `near` write goes by the file
+/// and the command alone, whatever the number of workers and the grid: it is the text of the points that the file's
+/// lines tell by themselves.
+pub fn run_of_an_anchored_file()
+    ensures steps { (r : ARun) → WritesSteps r.words → r.status ≡ 0
+        → IfSome r.left (λ bytes. (file : Content) → IsFile file_limits bytes file
+        → IsAnchored file.points file.edits
+        → (text : List ℕ) × IsStepped (plain_points file) text × Appends r.held r.holds text) }
+    ensures steps_front { (r : ARun) → WritesSteps r.words → r.status ≡ 4
+        → IfSome r.left (λ bytes. (file : Content) → IsFile file_limits bytes file
+        → IsAnchored file.points file.edits
+        → (text : List ℕ) × IsStepped (plain_points file) text × AppendsFront r.held r.holds text) }
+    ensures parts { (r : ARun) → WritesParts r.words → r.status ≡ 0
+        → IfSome r.left (λ bytes. (file : Content) → IsFile file_limits bytes file
+        → IsAnchored file.points file.edits
+        → (text : List ℕ) × IsParted (plain_points file) (asked_alpha r.words) (asked_most r.words)
+        (asked_index r.words) 0 text × Appends r.held r.holds text) }
+    ensures parts_front { (r : ARun) → WritesParts r.words → r.status ≡ 4
+        → IfSome r.left (λ bytes. (file : Content) → IsFile file_limits bytes file
+        → IsAnchored file.points file.edits
+        → (text : List ℕ) × IsParted (plain_points file) (asked_alpha r.words) (asked_most r.words)
+        (asked_index r.words) 0 text × AppendsFront r.held r.holds text) }
+    ensures near { (r : ARun) → WritesNear r.words → r.status ≡ 0
+        → IfSome r.left (λ bytes. (file : Content) → IsFile file_limits bytes file
+        → IsAnchored file.points file.edits
+        → (text : List ℕ) × IsQueried (plain_points file) file.queries text × Appends r.held r.holds text) }
+    ensures near_front { (r : ARun) → WritesNear r.words → r.status ≡ 4
+        → IfSome r.left (λ bytes. (file : Content) → IsFile file_limits bytes file
+        → IsAnchored file.points file.edits
+        → (text : List ℕ) × IsQueried (plain_points file) file.queries text × AppendsFront r.held r.holds text) }
 {}
 
 /// A run that is to tell of solid parts. Of the points that its history leaves, status 9 comes exactly where there is

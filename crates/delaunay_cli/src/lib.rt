@@ -8,30 +8,17 @@
 //! ```
 #![tactic(auto)]
 
-mod checked;
-mod cloud;
 mod drawn;
-mod file_of_source;
 pub mod laws;
-mod made;
 mod mesh;
 mod mesh_of_lines;
 mod mesh_of_source;
 mod outcome;
-mod page;
 mod parted;
-mod parts;
 mod queried;
-mod replies;
 mod reported;
-mod shapes;
 mod stepped;
-mod stop;
-mod task;
-mod telling;
-mod text;
 mod top;
-mod words;
 mod work;
 
 pub use outcome::Run;

@@ -2,17 +2,14 @@
 
 ghost use Rattle.std.specs.Prelude.{◌≡◌, ◌<◌, ◌+◌, ◌^◌, false, length, All, IfOk, IfErr};
 ghost use Rattle.edit_files.specs.Content.{content};
-ghost use Rattle.delaunay_cli.specs.Page.{AreReportParts, report_of_parts};
-ghost use Rattle.delaunay_cli.specs.Report.{AreRadii, report_of};
+ghost use Rattle.command_pages.specs.Page.{AreReportParts, report_of_parts};
+ghost use Rattle.command_pages.specs.Report.{AreRadii, report_of};
 ghost use Rattle.delaunay_cli.specs.Reported.{IsMeshed, IsUnmeshed};
 
-use crate::cloud::made_of_points;
-use crate::made::Parts;
 use crate::mesh_of_lines::mesh_of_lines;
-use crate::parts::parts_of;
-use crate::stop::Stop;
-use crate::task::{Asked, Making};
 use cell_store::Mesh;
+use command_pages::{Parts, made_of_points, parts_of};
+use command_words::{Asked, Making, Stop};
 use edit_files::File;
 use edit_history::Entry;
 use grid_claims::Gate;

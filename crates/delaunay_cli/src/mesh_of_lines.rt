@@ -5,10 +5,10 @@ ghost use Rattle.edit_history.specs.OneThread.{places};
 ghost use Rattle.edit_history.specs.Opening.{opening_four};
 ghost use Rattle.edit_history.specs.Histories.{IsLegal};
 ghost use Rattle.edit_files.specs.Content.{content};
-ghost use Rattle.delaunay_cli.specs.Run.{IsKept};
+ghost use Rattle.command_pages.specs.Run.{IsKept};
 
-use crate::task::Making;
 use cell_store::{Grid, Mesh};
+use command_words::Making;
 use edit_files::File;
 use edit_workers::{deal_edits, run_edits};
 use grid_claims::Gate;
@@ -23,7 +23,9 @@ fn line_count(file: &File) -> usize {
 
 // The grid over which so many workers make the mesh of so many lines, where this one is asked for. One worker claims no
 // bucket that another wants.
-fn grid_of(grid: Grid, workers: u32, lines: usize) -> Grid {
+fn grid_of(grid: Grid, workers: u32, lines: usize) -> Grid
+    ensures { 1 < workers → result ≡ grid }
+{
     if workers > 1 { grid } else { grid_for(lines) }
 }
 
@@ -45,6 +47,7 @@ pub fn mesh_of_lines<R: Threads + Sync, G: Gate + Sync>(
     requires small { length file.now.points.items + length file.now.edits.items + 4 < 2 ^ 32 }
     ensures legal { IfOk result (λ mesh. IsLegal mesh.history) }
     ensures kept { IfOk result (λ mesh. IsKept (content file.now) making.workers mesh.history) }
+    ensures grid { IfOk result (λ mesh. 1 < making.workers → mesh.grid ≡ making.grid) }
 {
     let grid = grid_of(making.grid, making.workers, line_count(file));
     let mesh = begin_cloud(alloc, grid, &file.points, four)?;

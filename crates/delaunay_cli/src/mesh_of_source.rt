@@ -4,18 +4,16 @@ ghost use Rattle.std.specs.Prelude.{◌≡◌, ◌≤◌, IfSome, IfOk, IfErr, I
 ghost use Rattle.std.specs.Io.KnownBytes.{IsAtEnd};
 ghost use Rattle.byte_ends.specs.Ends.{Rose};
 ghost use Rattle.edit_history.specs.Histories.{IsLegal};
-ghost use Rattle.delaunay_cli.specs.Files.{HasNoMesh};
-ghost use Rattle.delaunay_cli.specs.Page.{AreReportParts, report_of_parts};
+ghost use Rattle.command_pages.specs.Files.{HasNoMesh};
+ghost use Rattle.command_pages.specs.Page.{AreReportParts, report_of_parts};
 ghost use Rattle.delaunay_cli.specs.Reported.{IsReportOf};
-ghost use Rattle.delaunay_cli.specs.Run.{Reads};
-ghost use Rattle.delaunay_cli.specs.Stops.{status_of_made};
+ghost use Rattle.command_pages.specs.Run.{Reads};
+ghost use Rattle.command_words.specs.Stops.{status_of_made};
 
-use crate::file_of_source::file_of_source;
-use crate::made::Parts;
 use crate::mesh::history_and_parts;
-use crate::stop::Stop;
-use crate::task::{Asked, Making};
 use byte_ends::Source;
+use command_pages::{Parts, file_of_source};
+use command_words::{Asked, Making, Stop};
 use edit_history::Entry;
 use grid_claims::Gate;
 use std::alloc::Global;

@@ -10,17 +10,16 @@ ghost use Rattle.del_laws.specs.Keys.{AreKeys};
 ghost use Rattle.alpha_complex.specs.Condition.{AreFacesOf};
 ghost use Rattle.solid_parts.specs.Seen.{parts_seen};
 ghost use Rattle.solid_parts.specs.Text.{parts_text};
-ghost use Rattle.delaunay_cli.specs.Files.{HasNoMesh};
-ghost use Rattle.delaunay_cli.specs.Page.{IsFitToWrite, text_of_page};
+ghost use Rattle.command_pages.specs.Files.{HasNoMesh};
+ghost use Rattle.command_pages.specs.Page.{IsFitToWrite, text_of_page};
 ghost use Rattle.delaunay_cli.specs.Parted.{HasParts, IsAskedAlpha, IsParted, IsPartedFile, TellsOf, TellsParts};
-ghost use Rattle.delaunay_cli.specs.Run.{Reads};
-ghost use Rattle.delaunay_cli.specs.Stops.{IsLate, status_of_end, status_of_made};
+ghost use Rattle.command_pages.specs.Run.{Reads};
+ghost use Rattle.command_words.specs.Stops.{IsLate, status_of_end, status_of_made};
 
-use crate::made::{Made, Page};
 use crate::mesh_of_source::mesh_of_source;
-use crate::stop::Stop;
-use crate::task::{Asked, Making, Wanted};
 use byte_ends::{Failed, Source};
+use command_pages::{Made, Page};
+use command_words::{Asked, Making, Stop, Wanted};
 use face_list::{Faces, faces};
 use grid_claims::Gate;
 use mesh_files::off_text;
@@ -128,6 +127,7 @@ fn parted<R: Threads + Sync>(
 /// # Errors
 ///
 /// `ReadFault`, `TooLong`, `BadLine`, `Flat` and `Memory`.
+#[inline(never)]
 pub fn part<R: Threads + Sync, S: Source, G: Gate + Sync>(
     rt: &R,
     alloc: Global,

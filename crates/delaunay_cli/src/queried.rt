@@ -5,20 +5,18 @@ ghost use Rattle.std.specs.Io.KnownBytes.{IsAtEnd};
 ghost use Rattle.byte_ends.specs.Ends.{Rose};
 ghost use Rattle.edit_history.specs.Histories.{replay};
 ghost use Rattle.edit_files.specs.Content.{content};
-ghost use Rattle.delaunay_cli.specs.Files.{HasNoMesh};
-ghost use Rattle.delaunay_cli.specs.Page.{IsFitToWrite, text_of_page};
+ghost use Rattle.command_pages.specs.Files.{HasNoMesh};
+ghost use Rattle.command_pages.specs.Page.{IsFitToWrite, text_of_page};
 ghost use Rattle.delaunay_cli.specs.Queried.{IsAnswered, IsQueried, IsQueriedFile};
 ghost use Rattle.delaunay_cli.specs.Reported.{IsUnmeshed};
-ghost use Rattle.delaunay_cli.specs.Run.{Reads};
-ghost use Rattle.delaunay_cli.specs.Stops.{status_of_made};
+ghost use Rattle.command_pages.specs.Run.{Reads};
+ghost use Rattle.command_words.specs.Stops.{status_of_made};
 
-use crate::file_of_source::file_of_source;
-use crate::made::{Made, Page};
 use crate::mesh_of_lines::mesh_of_lines;
-use crate::stop::Stop;
-use crate::task::Making;
 use byte_ends::{Failed, Source};
 use cell_store::Mesh;
+use command_pages::{Made, Page, file_of_source};
+use command_words::{Making, Stop};
 use edit_files::File;
 use edit_history::Entry;
 use grid_claims::Gate;
@@ -68,6 +66,7 @@ fn answered<R: Threads + Sync, G: Gate + Sync>(
 /// # Errors
 ///
 /// `ReadFault`, `TooLong`, `BadLine`, `Flat` and `Memory`.
+#[inline(never)]
 pub fn query<R: Threads + Sync, S: Source, G: Gate + Sync>(
     rt: &R,
     alloc: Global,

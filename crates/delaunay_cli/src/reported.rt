@@ -3,17 +3,16 @@
 ghost use Rattle.std.specs.Prelude.{◌≡◌, ◌≤◌, None, IfSome, IfOk, IfErr, IsOk};
 ghost use Rattle.std.specs.Io.KnownBytes.{IsAtEnd};
 ghost use Rattle.byte_ends.specs.Ends.{Rose};
-ghost use Rattle.delaunay_cli.specs.Files.{HasNoMesh};
-ghost use Rattle.delaunay_cli.specs.Page.{IsFitToWrite, text_of_page};
+ghost use Rattle.command_pages.specs.Files.{HasNoMesh};
+ghost use Rattle.command_pages.specs.Page.{IsFitToWrite, text_of_page};
 ghost use Rattle.delaunay_cli.specs.Reported.{IsReported};
-ghost use Rattle.delaunay_cli.specs.Run.{Reads};
-ghost use Rattle.delaunay_cli.specs.Stops.{status_of_made};
+ghost use Rattle.command_pages.specs.Run.{Reads};
+ghost use Rattle.command_words.specs.Stops.{status_of_made};
 
-use crate::made::{Form, Made, Page};
 use crate::mesh_of_source::mesh_of_source;
-use crate::stop::Stop;
-use crate::task::{Asked, Making};
 use byte_ends::Source;
+use command_pages::{Form, Made, Page};
+use command_words::{Asked, Making, Stop};
 use grid_claims::Gate;
 use std::alloc::Global;
 use std::thread::Threads;
@@ -23,6 +22,7 @@ use std::thread::Threads;
 /// # Errors
 ///
 /// `ReadFault`, `TooLong`, `BadLine`, `Flat` and `Memory`.
+#[inline(never)]
 pub fn report<R: Threads + Sync, S: Source, G: Gate + Sync>(
     rt: &R,
     alloc: Global,

@@ -7,18 +7,17 @@ ghost use Rattle.point_order.specs.Complex.{complex};
 ghost use Rattle.point_order.specs.Sets.{IsAscending};
 ghost use Rattle.point_order.specs.Solid.{is_solid};
 ghost use Rattle.del_laws.specs.Keys.{AreKeys};
-ghost use Rattle.delaunay_cli.specs.Files.{HasNoMesh};
-ghost use Rattle.delaunay_cli.specs.Page.{IsFitToWrite, text_of_page};
-ghost use Rattle.delaunay_cli.specs.Run.{Reads};
+ghost use Rattle.command_pages.specs.Files.{HasNoMesh};
+ghost use Rattle.command_pages.specs.Page.{IsFitToWrite, text_of_page};
+ghost use Rattle.command_pages.specs.Run.{Reads};
 ghost use Rattle.delaunay_cli.specs.Stepped.{IsStepped, IsSteppedFile};
-ghost use Rattle.delaunay_cli.specs.Stops.{status_of_made};
+ghost use Rattle.command_words.specs.Stops.{status_of_made};
 
-use crate::made::{Made, Page};
 use crate::mesh_of_source::mesh_of_source;
-use crate::stop::Stop;
-use crate::task::{Asked, Making};
 use alpha_steps::{put_steps, text_room, thresholds};
 use byte_ends::{Failed, Source};
+use command_pages::{Made, Page};
+use command_words::{Asked, Making, Stop};
 use face_list::faces;
 use grid_claims::Gate;
 use point_order::{Cell, Point};
@@ -53,6 +52,7 @@ fn steps_text<R: Threads + Sync>(
 /// # Errors
 ///
 /// `ReadFault`, `TooLong`, `BadLine`, `Flat` and `Memory`.
+#[inline(never)]
 pub fn step<R: Threads + Sync, S: Source, G: Gate + Sync>(
     rt: &R,
     alloc: Global,

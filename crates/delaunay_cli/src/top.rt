@@ -7,30 +7,20 @@ ghost use Rattle.edit_history.specs.Histories.{IsLegal};
 ghost use Rattle.edit_history.specs.OneThread.{Keeps as FileKeeps};
 ghost use Rattle.edit_files.specs.Content.{Content};
 ghost use Rattle.edit_files.specs.Grammar.{IsFile};
-ghost use Rattle.delaunay_cli.specs.Taken.{file_limits};
+ghost use Rattle.command_pages.specs.Taken.{file_limits};
 ghost use Rattle.plain_laws.specs.Plain.{IsAnchored};
 ghost use Rattle.delaunay_cli.specs.Ends.{Ends};
 ghost use Rattle.delaunay_cli.specs.PlainText.{plain_text};
-ghost use Rattle.delaunay_cli.specs.Run.{AreDealt, IsSolidFile, Writes, WritesFront, history_of};
-ghost use Rattle.delaunay_cli.specs.Statuses.{HasText, Tells};
-ghost use Rattle.delaunay_cli.specs.Stops.{line_of_end};
-ghost use Rattle.delaunay_cli.specs.Words.{
-  DrawsFile,
-  ReadsFile,
-  WritesNear,
-  WritesReport,
-  WritesSteps,
-  asks_order,
-  asks_shape,
-  worker_count,
-  AreWordsTaken,
-  kind_of_words,
-};
+ghost use Rattle.command_pages.specs.Run.{AreDealt, IsSolidFile, Writes, WritesFront, history_of};
+ghost use Rattle.command_pages.specs.Statuses.{HasText, Tells};
+ghost use Rattle.command_words.specs.Stops.{line_of_end};
+ghost use Rattle.command_words.specs.Words.{DrawsFile, ReadsFile, WritesNear, WritesReport, WritesSteps, asks_order};
+ghost use Rattle.command_words.specs.Words.{asks_shape, worker_count, AreWordsTaken, kind_of_words};
 
 use crate::outcome::Run;
-use crate::stop::Stop;
 use crate::work::work;
 use byte_ends::{Sink, Source, write_all};
+use command_words::Stop;
 use grid_claims::Gate;
 use std::alloc::Global;
 use std::thread::Threads;

@@ -1,5 +1,6 @@
 -- Moves, by what arrivals and refills answer.
-use Rattle.std.specs.Prelude.{◌≡◌, ℕ, ◌<◌, true, false, List, length, Option, None, Some, IsSome, Result, Ok, Err, IfOk}
+use Rattle.std.specs.Prelude.{◌≡◌, ◌⊎◌, ℕ, ◌<◌, Bool, true, false, List, length, Option, None, Some, IsSome, Result, Ok}
+use Rattle.std.specs.Prelude.{Err, IfOk, if◌then◌else◌}
 use Rattle.std.specs.Option.{option_map}
 use Rattle.std.proofs.Common.{refl, sym, ◌∙◌, ap, subst, inl, inr}
 use Rattle.list_laws.proofs.Cited.{among_from, among_true, false_if, none_or, none_there, not_among}
@@ -46,21 +47,8 @@ use Rattle.edit_plans.specs.declared.plan.Planner.TheVariants.{Home, Lands as La
 use Rattle.edit_plans.specs.declared.plan.PlanTurn.{PlanTurn}
 use Rattle.edit_plans.specs.declared.plan.PlanTurn.TheVariants.{Done, Need}
 use Rattle.edit_plans.specs.Leaving.{AnswersBeside, AreBoth, CanLeave, IsMovedBy, IsQuiet, RefillAnswers}
-use Rattle.edit_plans.specs.Plans.{
-  HoldsHome,
-  IsAsked,
-  IsLandedFor,
-  IsLandedIn,
-  IsPlanFor,
-  IsPlanIn,
-  IsPlannerIn,
-  LookAnswers,
-  LookGives,
-  PlanAnswers,
-  PlanGives,
-  ShowsPlanner,
-  edit_of,
-}
+use Rattle.edit_plans.specs.Plans.{HoldsHome, IsAsked, IsLandedFor, IsLandedIn, IsPlanFor, IsPlanIn, IsPlannerIn}
+use Rattle.edit_plans.specs.Plans.{LookAnswers, LookGives, PlanAnswers, PlanGives, ShowsPlanner, edit_of}
 use Rattle.insertion.proofs.Cited.{none_lacks}
 use Rattle.edit_plans.proofs.Planned.{here_at, home_begins, new_in, quiet_for, quiet_plan, there_or}
 
@@ -113,6 +101,21 @@ plan_occupied hold s a b plan q key goal home there f g =
       ])
     ])
 
+-- one that is there and goes to a free place is neither missing, nor is its place taken
+not_quiet : (s : List ℕ) (a b : ℕ) → is_among a s ≡ true → is_among b s ≡ false →
+    (reply_to s (Move a b) ≡ Missing) ⊎ (reply_to s (Move a b) ≡ Occupied) → ⊥
+not_quiet s a b there free e = by_solid (is_solid (moved_to a b s)) (rw (there, free) at e)
+  where
+    by_solid : (x : Bool) → ((if x then Moved else Flat) ≡ Missing) ⊎ ((if x then Moved else Flat) ≡ Occupied) → ⊥
+    by_solid true e = elim e [
+      | inl f ↦ (let g : Moved ≡ Missing = f in cc g)
+      | inr f ↦ (let g : Moved ≡ Occupied = f in cc g)
+    ]
+    by_solid false e = elim e [
+      | inl f ↦ (let g : Flat ≡ Missing = f in cc g)
+      | inr f ↦ (let g : Flat ≡ Occupied = f in cc g)
+    ]
+
 -- ---- the new place
 
 -- once the new place's change is known, the look finds it beside the old one
@@ -139,7 +142,13 @@ pub lands_asks : (hold : InHand) (s : List ℕ) (a b x : ℕ) (arrival next : Ar
     IsAsked hold s (Move a b) x (Landing a b next)
 lands_asks hold s a b x arrival next t k is gives =
     let g = subst (λ (y : ArrivalTurn). ArrivalGives hold s b y) is gives in
-    record { lacking = g.0; exact = λ e. absurd e; same = refl; stands = (k.0, k.1, k.2, g.1) }
+    let free = false_if (is_among b s) (λ t. (new_in hold s b arrival k.3).absent (among_from b s t)) in
+    record {
+      lacking = g.0;
+      exact = λ e. absurd (not_quiet s a b (among_true a s k.2) free e);
+      same = refl;
+      stands = (k.0, k.1, k.2, g.1);
+    }
 
 -- ---- what both changes make of the set
 
@@ -289,7 +298,7 @@ module _ (hold : InHand) (s : List ℕ) (l : Landed) (k : IsLandedIn hold s l) w
           absent = subst (λ (x : ℕ). bucket_at hold.places x ≡ None) (sym m.0)
               (lacks_before hold a.mid l.came.gone.items l.came.fresh.items l.to b a.entered g.absent);
         };
-        exact = λ e. absurd e;
+        exact = λ e. absurd (not_quiet s l.from l.to (among_true l.from s k.is.there) (free_of s l k.is) e);
         same = ap edit_of m.1;
         stands = subst (λ (x : Planner). IsPlannerIn hold s x) (sym m.1) k;
       }
@@ -453,23 +462,6 @@ leaves_answers hold l found turn a m s sh k = beside_gives hold s l k found turn
 look_in : (hold : InHand) (planner : Planner) (look look' : Look) → look ≡ look' → LookAnswers hold planner look →
     (s : List ℕ) → Shows hold s → IsPlannerIn hold s planner → LookGives hold s (edit_of planner) look'
 look_in hold planner look look' is f s sh k = subst (λ (x : Look). LookGives hold s (edit_of planner) x) is (f s sh k)
-
--- a look that is a turn
-pub turn_answers : (hold : InHand) (planner : Planner) (look : Look) (turn : PlanTurn) → look ≡ Turn turn →
-    LookAnswers hold planner look → PlanAnswers hold planner turn
-turn_answers hold planner look turn is f s sh k = look_in hold planner look (Turn turn) is f s sh k
-
--- a look that found what has landed
-pub beside_shows : (hold : InHand) (planner : Planner) (look : Look) (l : Landed) → look ≡ Beside l →
-    LookAnswers hold planner look → ShowsPlanner hold planner → ShowsPlanner hold (Leaving l)
-beside_shows hold planner look l is f k = (k.0, k.1, (look_in hold planner look (Beside l) is f k.0 k.1 k.2).1)
-
--- what leaving then answers is what the turn answers
-pub beside_answers : (hold : InHand) (planner : Planner) (look : Look) (l : Landed) (turn : PlanTurn) →
-    look ≡ Beside l → LookAnswers hold planner look → PlanAnswers hold (Leaving l) turn → PlanAnswers hold planner turn
-beside_answers hold planner look l turn is f g s sh k =
-    let r = look_in hold planner look (Beside l) is f s sh k in
-    subst (λ (e : Edit). PlanGives hold s e turn) (sym r.0) (g s sh r.1)
 
 -- ---- in a mesh
 

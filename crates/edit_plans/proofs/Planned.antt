@@ -35,13 +35,8 @@ use Rattle.vertex_removal.specs.declared.refill.RefillTurn.{RefillTurn}
 use Rattle.vertex_removal.specs.declared.refill.RefillTurn.TheVariants as turn
 use Rattle.edit_plans.specs.declared.plan.Plan.{Plan}
 use Rattle.edit_plans.specs.declared.plan.Planner.{Planner}
-use Rattle.edit_plans.specs.declared.plan.Planner.TheVariants.{
-  Home,
-  Comes as Coming,
-  Goes as Going,
-  Lands as Landing,
-  Leaves as Leaving,
-}
+use Rattle.edit_plans.specs.declared.plan.Planner.TheVariants.{Home, Comes as Coming, Goes as Going, Lands as Landing}
+use Rattle.edit_plans.specs.declared.plan.Planner.TheVariants.{Leaves as Leaving}
 use Rattle.edit_plans.specs.Leaving.{IsQuiet}
 use Rattle.edit_plans.specs.Plans.{IsPlanFor, IsPlanIn, IsPlannerIn, IsAsked, HoldsHome, PlannerStays}
 
@@ -55,12 +50,6 @@ pub here_at : (hold : InHand) (p e b : ℕ) → HoldsHome hold p → e ≡ p →
     IsSome (bucket_at hold.places b)
 here_at hold p e b home same number = subst (λ (x : ℕ). IsSome (bucket_at hold.places x))
     (sym (number ∙ ap (bucket_of hold.grid) same)) home
-
--- the edit touches the bucket of its own point
-pub own_touched : (g : ℕ) (s : List ℕ) (edit : Edit) → IsTouched g s edit (bucket_of g (point_of edit))
-own_touched g s (Add p) = record { point = p; reached = inl refl; number = refl }
-own_touched g s (Move a b) = record { point = a; reached = inl refl; number = refl }
-own_touched g s (Take p) = record { point = p; reached = inl refl; number = refl }
 
 -- ---- an edit that changes no point
 
@@ -187,15 +176,6 @@ goes_touched hold s p home none b t = elim t.reached [
   })
 ]
 
--- a bucket that is needed is touched
-needed_touched : (hold : InHand) (s : List ℕ) (p b : ℕ) → IsIn p s → refill.IsNeededAround hold s p b →
-    IsTouched hold.grid s (Take p) b
-needed_touched hold s p b i n = record {
-  point = n.point;
-  reached = inr (i, record { q = n.cell; listed = n.listed; has_p = n.has_v; has_e = n.has });
-  number = n.number;
-}
-
 -- once the refill's change is known it is the plan of the take
 pub plan_removed : (hold : InHand) (s : List ℕ) (p v : ℕ) (t : RefillTurn) (f : Fresh) → Shows hold s →
     IsPlannerIn hold s (Going p) → v ≡ p → t ≡ turn.Done f → refill.RefillGives hold s v t →
@@ -223,23 +203,6 @@ plan_flat hold s p v t plan sh k same q is gives =
     let g = subst (λ (x : ℕ × RefillTurn). refill.RefillGives hold s x.0 x.1) (λ i. (same i, is i)) gives in
     quiet_plan hold s (Take p) plan Flat q (sh.keys.below p k.1) (flat s p (among_true p s k.1) g.1)
     (ap (changed s p) (flat s p (among_true p s k.1) g.1)) (goes_touched hold s p k.0 g.0)
-
--- a bucket that the refill needs is asked for
-pub goes_asks : (hold : InHand) (s : List ℕ) (p v b : ℕ) (t : RefillTurn) → IsPlannerIn hold s (Going p) → v ≡ p →
-    t ≡ turn.Need b → refill.RefillGives hold s v t → refill.RefillAsksBelow (length hold.places) t →
-    IsAsked hold s (Take p) b (Going p)
-goes_asks hold s p v b t k same is gives below =
-    let g = subst (λ (x : ℕ × RefillTurn). refill.RefillGives hold s x.0 x.1) (λ i. (same i, is i)) gives in
-    record {
-      lacking = record {
-        below = subst (λ (x : RefillTurn). refill.RefillAsksBelow (length hold.places) x) is below;
-        absent =
-            g.absent;
-      };
-      exact = λ x. needed_touched hold s p b k.1 g;
-      same = refl;
-      stands = k;
-    }
 
 -- ---- with more buckets in hand
 

@@ -1,11 +1,11 @@
 -- What an edit changes, found by turns over a hold of buckets.
-use Rattle.std.specs.Prelude.{◌≡◌, ℕ, List, IsSome}
+use Rattle.std.specs.Prelude.{◌≡◌, ◌⊎◌, ℕ, List, IsSome}
 use Rattle.point_order.specs.Complex.{complex}
 use Rattle.point_order.specs.Sets.{IsIn, with_point}
 use Rattle.edit_history.specs.declared.history.Edit.{Edit}
 use Rattle.edit_history.specs.declared.history.Edit.TheVariants.{Add, Move, Take}
 use Rattle.edit_history.specs.declared.history.Reply.{Reply}
-use Rattle.edit_history.specs.declared.history.Reply.TheVariants.{Duplicate}
+use Rattle.edit_history.specs.declared.history.Reply.TheVariants.{Duplicate, Missing, Occupied}
 use Rattle.edit_history.specs.Edits.{HasKeys, after, reply_to}
 use Rattle.hole_laws.specs.Edits.{IsNew}
 use Rattle.cell_store.specs.Grids.{bucket_of}
@@ -27,11 +27,12 @@ use Rattle.edit_plans.specs.declared.plan.Planner.TheVariants.{Home, Comes, Goes
 use Rattle.edit_plans.specs.declared.plan.PlanTurn.{PlanTurn}
 use Rattle.edit_plans.specs.declared.plan.PlanTurn.TheVariants.{Done, Need}
 
--- The edit claims no more than it touches: it takes a point, or adds one that is there.
+-- The edit claims no more than it touches: it takes a point, adds one that is there, or moves one that is not there or
+-- whose new place is taken.
 abbrev pub IsExact : Edit → Reply → Type 0
 IsExact (Take p) reply = Unit {0}
 IsExact (Add p) reply = reply ≡ Duplicate
-IsExact (Move a b) reply = ⊥
+IsExact (Move a b) reply = (reply ≡ Missing) ⊎ (reply ≡ Occupied)
 
 -- The plan is what the edit changes in the set s: its reply, and exactly the cells that go and those that come.
 pub record IsPlanFor (s : List ℕ) (edit : Edit) (plan : Plan) : Type 0 where

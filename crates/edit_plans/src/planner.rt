@@ -3,11 +3,8 @@
 ghost use Rattle.std.specs.Prelude.{◌≡◌, IfOk};
 ghost use Rattle.edit_history.specs.declared.history.Edit.TheVariants.{Add, Take};
 ghost use Rattle.cell_store.specs.Shares.{ShowsSome};
-ghost use Rattle.edit_plans.specs.declared.plan.Planner.TheVariants.{
-  Home as IsHome,
-  Comes as IsComing,
-  Goes as IsGoing,
-};
+ghost use Rattle.edit_plans.specs.declared.plan.Planner.TheVariants.{Home as IsHome, Comes as IsComing};
+ghost use Rattle.edit_plans.specs.declared.plan.Planner.TheVariants.{Goes as IsGoing};
 ghost use Rattle.edit_plans.specs.Plans.{HoldsHome, ShowsPlanner, PlanAnswers, LookAnswers};
 
 use crate::leaving::leave_on;

@@ -6,7 +6,7 @@ use Rattle.std.proofs.lemmas.Bool.Decides.{nat_tests}
 use Rattle.std.proofs.lemmas.Map.Keys.{IsDistinct-from_apart, IsDistinct-IsPermutation, apart_from_distinct}
 use Rattle.edit_history.specs.Edits.{point_of}
 use Rattle.plain_laws.specs.Running.{Pair}
-use Rattle.edit_workers.specs.Dealing.{AreTagsAscending}
+use Rattle.edit_lists.specs.Dealing.{AreTagsAscending}
 use Rattle.edit_workers.specs.Arranging.{key_of_place, place_count, place_of, stretch_of, tag_count, IsArranged}
 use Rattle.edit_workers.proofs.Partly.{is_same, same_flips}
 

@@ -1,3 +1,2 @@
 -- The lemmas that other crates cite.
-pub use Rattle.edit_workers.proofs.Deals.{are_opening}
 pub use Rattle.edit_workers.proofs.Segments.{done_each, done_runs}

@@ -2,8 +2,8 @@
 use Rattle.std.specs.Prelude.{◌≡◌, ℕ, zero, suc, ◌+◌, ◌<◌, ◌≤◌, List, [], ◌∷◌, length, take}
 use Rattle.std.specs.List.{flat_map}
 use Rattle.std.proofs.Common.{ap, arith, get_or, length-append}
-use Rattle.edit_workers.specs.declared.lists.List as lists
-use Rattle.edit_workers.specs.Dealing.{count_in_all, pairs_in}
+use Rattle.edit_lists.specs.declared.lists.List as lists
+use Rattle.edit_lists.specs.Dealing.{count_in_all, pairs_in}
 
 -- the lists before one, and that one, have no more pairs than all
 pub count_within : (ls : List lists.List) (i : ℕ) (x : lists.List) → i < length ls → x ≡ get_or ls i x →

@@ -1,38 +1,13 @@
 -- Lists of pairs with one pair more.
-use Rattle.std.specs.Prelude.{
-  ◌≡◌,
-  ◌⊎◌,
-  ℕ,
-  ◌+◌,
-  ◌≤◌,
-  Bool,
-  true,
-  false,
-  not,
-  List,
-  [],
-  ◌∷◌,
-  ◌++◌,
-  map,
-  length,
-  if◌then◌else◌,
-}
+use Rattle.std.specs.Prelude.{◌≡◌, ◌⊎◌, ℕ, ◌+◌, ◌≤◌, Bool, true, false, not, List, [], ◌∷◌, ◌++◌, map, length}
+use Rattle.std.specs.Prelude.{if◌then◌else◌}
 use Rattle.std.specs.List.{filter}
 use Rattle.std.proofs.Common.{refl, sym, ◌∙◌, ap, inl, inr, arith}
 use Rattle.std.proofs.lemmas.Bool.{false≢true}
 use Rattle.std.proofs.lemmas.List.{append-nil, map-append}
 use Rattle.std.proofs.lemmas.List.Elements.{filter-append}
-use Rattle.list_laws.proofs.Cited.{
-  any_true,
-  filtered_true,
-  later_append,
-  later_pairs,
-  left_true,
-  mapped_true,
-  one_true,
-  pairs_later,
-  right_true,
-}
+use Rattle.list_laws.proofs.Cited.{any_true, filtered_true, later_append, later_pairs, left_true, mapped_true, one_true}
+use Rattle.list_laws.proofs.Cited.{pairs_later, right_true}
 use Rattle.point_order.specs.Sets.{IsIn}
 use Rattle.edit_history.specs.Edits.{share_point}
 use Rattle.plain_laws.specs.Running.{Pair}

@@ -1,47 +1,12 @@
 -- Lists that the parts of a pass do, and a pass that is split, worked with and joined.
-use Rattle.std.specs.Prelude.{
-  ◌≡◌,
-  ℕ,
-  zero,
-  suc,
-  slice_index_or,
-  ◌+◌,
-  ◌-◌,
-  ◌<◌,
-  ◌≤◌,
-  Result,
-  Ok,
-  Err,
-  IfOk,
-  List,
-  [],
-  ◌∷◌,
-  ◌++◌,
-  map,
-  length,
-  All,
-  IsPermutation,
-}
+use Rattle.std.specs.Prelude.{◌≡◌, ℕ, zero, suc, slice_index_or, ◌+◌, ◌-◌, ◌<◌, ◌≤◌, Result, Ok, Err, IfOk, List, []}
+use Rattle.std.specs.Prelude.{◌∷◌, ◌++◌, map, length, All, IsPermutation}
 use Rattle.std.proofs.Common.{refl, sym, ◌∙◌, ap, ap₂, subst, inl, inr, arith, get_or, length-append}
 use Rattle.std.proofs.lemmas.List.{append-nil, map-append, length-map}
 use Rattle.std.proofs.lemmas.List.Sorted.{IsPermutation-sym, IsPermutation-trans}
-use Rattle.list_laws.proofs.Cited.{
-  EachLater,
-  all_of_each,
-  both_later,
-  each_of_all,
-  from_append,
-  in_left,
-  in_permutation,
-  later_across,
-  later_left,
-  later_pairs,
-  later_right,
-  later_unmap,
-  mapped_true,
-  pairs_later,
-  related,
-}
+use Rattle.list_laws.proofs.Cited.{EachLater, all_of_each, both_later, each_of_all, from_append, in_left}
+use Rattle.list_laws.proofs.Cited.{in_permutation, later_across, later_left, later_pairs, later_right, later_unmap}
+use Rattle.list_laws.proofs.Cited.{mapped_true, pairs_later, related}
 use Rattle.point_order.specs.Sets.{IsIn}
 use Rattle.edit_history.specs.declared.history.Entry.{Entry}
 use Rattle.edit_history.specs.OneThread.{line_of}
@@ -51,19 +16,11 @@ use Rattle.grid_claims.specs.Passes.{Opened, Standing}
 use Rattle.grid_claims.specs.Lists.{entries_by}
 use Rattle.grid_claims.specs.Tries.{opening_pass, IsSplit, joined}
 use Rattle.plain_laws.specs.Running.{Pair, AreApart}
-use Rattle.edit_workers.specs.Dealing.{AreTagsAscending, count_in_all, pairs_in}
-use Rattle.edit_workers.specs.declared.lists.List as lists
+use Rattle.edit_lists.specs.Dealing.{AreTagsAscending, count_in_all, pairs_in}
+use Rattle.edit_lists.specs.declared.lists.List as lists
 use Rattle.edit_workers.specs.declared.lists.Left.{Left}
-use Rattle.edit_workers.specs.Running.{
-  CanRun,
-  AscendAtPoint,
-  AreHalves,
-  ArePartly,
-  AreRunBut,
-  AreWorked,
-  IsOfWorker,
-  ArePassesJoined,
-}
+use Rattle.edit_workers.specs.Running.{CanRun, AscendAtPoint, AreHalves, ArePartly, AreRunBut, AreWorked, IsOfWorker}
+use Rattle.edit_workers.specs.Running.{ArePassesJoined}
 use Rattle.edit_workers.specs.Arranging.{IsArranged, IsInPlace}
 use Rattle.edit_workers.specs.Rounds.{IsWorkedInRounds}
 use Rattle.edit_workers.proofs.Partly.{count_both, all_low, all_high, apart_low, apart_high, partly_both}

@@ -1,7 +1,5 @@
 pub mod ByKeys
 pub mod Counts
-pub mod Cuts
-pub mod Deals
 pub mod FirstOnes
 pub mod Halves
 pub mod Partly

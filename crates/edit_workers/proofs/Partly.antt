@@ -1,64 +1,19 @@
 -- Lists that were done in parts.
-use Rattle.std.specs.Prelude.{
-  ◌≡◌,
-  ◌≢◌,
-  ℕ,
-  ◌+◌,
-  ◌<◌,
-  ◌≤◌,
-  Bool,
-  true,
-  false,
-  ◌&&◌,
-  ◌==◌,
-  List,
-  [],
-  ◌∷◌,
-  ◌++◌,
-  map,
-  length,
-  All,
-  AllPairs,
-  IsPermutation,
-}
+use Rattle.std.specs.Prelude.{◌≡◌, ◌≢◌, ℕ, ◌+◌, ◌<◌, ◌≤◌, Bool, true, false, ◌&&◌, ◌==◌, List, [], ◌∷◌, ◌++◌, map}
+use Rattle.std.specs.Prelude.{length, All, AllPairs, IsPermutation}
 use Rattle.std.specs.List.{flat_map}
 use Rattle.std.specs.List.Sorted.{IsNonDecreasingBy}
 use Rattle.std.proofs.Common.{refl, sym, ◌∙◌, ap, subst, inl, inr, arith, get_or, length-append}
 use Rattle.std.proofs.lemmas.Bool.Decides.{nat_tests}
 use Rattle.std.proofs.lemmas.Grind.{flat_map-append}
 use Rattle.std.proofs.lemmas.List.{map-append, append_assoc, append-nil, length-map}
-use Rattle.std.proofs.lemmas.List.Sorted.{
-  IsPermutation-sym,
-  IsPermutation-trans,
-  IsPermutation-map,
-  IsPermutation-append,
-  IsPermutation-append_left,
-  IsPermutation-append_right,
-  IsPermutation-append_comm,
-  length_permutation,
-}
+use Rattle.std.proofs.lemmas.List.Sorted.{IsPermutation-sym, IsPermutation-trans, IsPermutation-map}
+use Rattle.std.proofs.lemmas.List.Sorted.{IsPermutation-append, IsPermutation-append_left, IsPermutation-append_right}
+use Rattle.std.proofs.lemmas.List.Sorted.{IsPermutation-append_comm, length_permutation}
 use Rattle.std.proofs.lemmas.Map.Keys.{IsDistinct-from_apart, IsDistinct-IsPermutation, apart_from_distinct}
-use Rattle.list_laws.proofs.Cited.{
-  EachLater,
-  all_of_each,
-  both_later,
-  each_of_all,
-  flat_from,
-  from_append,
-  in_left,
-  in_permutation,
-  in_right,
-  later_across,
-  later_append,
-  later_left,
-  later_pairs,
-  later_right,
-  later_unmap,
-  later_weaken,
-  mapped_true,
-  not_both,
-  pairs_later,
-}
+use Rattle.list_laws.proofs.Cited.{EachLater, all_of_each, both_later, each_of_all, flat_from, from_append, in_left}
+use Rattle.list_laws.proofs.Cited.{in_permutation, in_right, later_across, later_append, later_left, later_pairs}
+use Rattle.list_laws.proofs.Cited.{later_right, later_unmap, later_weaken, mapped_true, not_both, pairs_later}
 use Rattle.point_order.specs.Sets.{IsIn}
 use Rattle.edit_history.specs.declared.history.Entry.{Entry}
 use Rattle.edit_history.specs.Edits.{share_point, point_of, after}
@@ -66,7 +21,7 @@ use Rattle.edit_history.specs.Histories.{IsLegalFrom, IsLegal}
 use Rattle.edit_history.specs.OneThread.{line_of}
 use Rattle.plain_laws.specs.Running.{Pair, HaveNoPoint, AreApart, MovesAlone, clash}
 use Rattle.plain_laws.proofs.Cited.{alone_in_any_order, one_point}
-use Rattle.edit_workers.specs.Dealing.{all_of, count_in_all}
+use Rattle.edit_lists.specs.Dealing.{all_of, count_in_all}
 use Rattle.edit_workers.specs.Running.{IsSegmentRun, AscendAtPoint, ArePartly, AreRunBut, AreApplied, AreByTag}
 use Rattle.edit_workers.proofs.Sharing.{same_shares}
 

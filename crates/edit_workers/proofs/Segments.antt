@@ -14,9 +14,9 @@ use Rattle.edit_history.specs.OneThread.{line_of}
 use Rattle.cell_store.specs.Meshes.{MeshView}
 use Rattle.one_mesh.specs.Applied.{edited, next_entry}
 use Rattle.plain_laws.specs.Running.{Pair, IsRun, AreRuns}
-use Rattle.edit_workers.specs.declared.lists.List as lists
-use Rattle.edit_workers.specs.declared.lists.Segment.{Segment}
-use Rattle.edit_workers.specs.Dealing.{all_of, count_in_all, count_all, lists_of, pairs_in}
+use Rattle.edit_lists.specs.declared.lists.List as lists
+use Rattle.edit_lists.specs.declared.lists.Segment.{Segment}
+use Rattle.edit_lists.specs.Dealing.{all_of, count_in_all, count_all, lists_of, pairs_in}
 use Rattle.edit_workers.specs.Running.{AreApplied, AreDone, AreRun, EndsLate, IsSegmentRun}
 use Rattle.edit_workers.proofs.Counts.{count_within as counted}
 
@@ -162,15 +162,6 @@ of_segment P segments n x b e all =
 
 -- ---- pairs that are made one by one
 
--- of no pair no entry is made
-pub applied_nothing : (h : List Entry) → AreApplied [] h h
-applied_nothing h = record {
-  more = [];
-  history = sym (append-nil h);
-  pairs_are = refl;
-  by_none = all_of_each (λ (e : Entry). e.by ≡ 0) [] (λ e i. absurd i);
-}
-
 -- more of them
 applied_both : (p q : List Pair) (h k m : List Entry) → AreApplied p h k → AreApplied q k m → AreApplied (p ++ q) h m
 applied_both p q h k m a b = record {
@@ -193,29 +184,6 @@ applied_one pairs n x h old new b e a f =
       by_none = all_of_each (λ (e : Entry). e.by ≡ 0) (next_entry old.history x.0 x.1 ∷ [])
           (λ d i. elim i [ inl q ↦ sym (ap (λ (e : Entry). e.by) q) | inr j ↦ absurd j ]);
     }))
-
--- so all of them are made
-pub applied_pairs : (pairs : List Pair) (n : ℕ) (h k : List Entry) → length pairs ≤ n →
-    AreApplied (take n pairs) h k → AreApplied pairs h k
-applied_pairs pairs n h k b a = subst (λ (l : List Pair). AreApplied l h k) (take_all n pairs b) a
-
--- those of the next list
-pub applied_next : (ls : List lists.List) (n : ℕ) (x : lists.List) (h k m : List Entry) →
-    n < length ls → x ≡ get_or ls n x → AreApplied (all_of (pairs_in (take n ls))) h k → AreApplied x.pairs.items k m →
-    AreApplied (all_of (pairs_in (take (n + 1) ls))) h m
-applied_next ls n x h k m b e a f =
-    let next : pairs_in (take (n + 1) ls) ≡ pairs_in (take n ls) ++ x.pairs.items ∷ [] =
-    ap pairs_in (take_next ls n x b e) ∙ map-append (λ (l : lists.List). l.pairs.items) (take n ls) (x ∷ []) in
-    let all : all_of (pairs_in (take (n + 1) ls)) ≡ all_of (pairs_in (take n ls)) ++ x.pairs.items =
-    ap all_of next ∙ flat_map-append (λ (l : List Pair). l) (pairs_in (take n ls)) (x.pairs.items ∷ [])
-    ∙ ap (λ (l : List Pair). all_of (pairs_in (take n ls)) ++ l) (append-nil x.pairs.items) in
-    subst (λ (l : List Pair). AreApplied l h m) (sym all)
-    (applied_both (all_of (pairs_in (take n ls))) x.pairs.items h k m a f)
-
--- and so the pairs of all lists
-pub applied_all : (ls : List lists.List) (n : ℕ) (h k : List Entry) → length ls ≤ n →
-    AreApplied (all_of (pairs_in (take n ls))) h k → AreApplied (all_of (pairs_in ls)) h k
-applied_all ls n h k b a = subst (λ (l : List lists.List). AreApplied (all_of (pairs_in l)) h k) (take_all n ls b) a
 
 -- there is room for the next list
 pub room_for : (ls : List lists.List) (n : ℕ) (x : lists.List) (h k : List Entry) (most : ℕ) →

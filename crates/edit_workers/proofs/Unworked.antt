@@ -2,23 +2,15 @@
 use Rattle.std.specs.Prelude.{◌≡◌, ◌≢◌, ◌<◌, ◌≤◌, true, List, [], ◌∷◌, ◌++◌, length, All, IsPermutation}
 use Rattle.std.proofs.Common.{refl, sym, ◌∙◌, ap, subst, inl, arith, append-nil}
 use Rattle.std.proofs.lemmas.List.Sorted.{IsPermutation-refl}
-use Rattle.list_laws.proofs.Cited.{
-  EachLater,
-  all_of_each,
-  each_of_all,
-  later_append,
-  later_pairs,
-  later_unmap,
-  later_weaken,
-  pairs_later,
-}
+use Rattle.list_laws.proofs.Cited.{EachLater, all_of_each, each_of_all, later_append, later_pairs, later_unmap}
+use Rattle.list_laws.proofs.Cited.{later_weaken, pairs_later}
 use Rattle.point_order.specs.Sets.{IsIn}
 use Rattle.edit_history.specs.declared.history.Entry.{Entry}
 use Rattle.edit_history.specs.Edits.{share_point}
 use Rattle.edit_history.specs.Histories.{IsLegal}
 use Rattle.edit_history.specs.OneThread.{line_of}
 use Rattle.plain_laws.specs.Running.{Pair, AreApart}
-use Rattle.edit_workers.specs.Dealing.{AreTagsAscending, CanBeDone, all_of}
+use Rattle.edit_lists.specs.Dealing.{AreTagsAscending, CanBeDone, all_of}
 use Rattle.edit_workers.specs.Running.{AreApplied, AreByTag, AreRunBut, AscendAtPoint, IsSegmentRun}
 use Rattle.edit_workers.proofs.Halves.{only_list}
 use Rattle.edit_workers.proofs.Partly.{all_high, apart_across, apart_high, whole_run}

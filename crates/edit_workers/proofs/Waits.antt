@@ -1,57 +1,16 @@
 -- Pairs that are made or wait.
-use Rattle.std.specs.Prelude.{
-  ◌≡◌,
-  ◌⊎◌,
-  ℕ,
-  ◌+◌,
-  ◌*◌,
-  ◌-◌,
-  ◌<◌,
-  ◌≤◌,
-  true,
-  false,
-  List,
-  [],
-  ◌∷◌,
-  ◌++◌,
-  map,
-  length,
-  take,
-  All,
-  AllPairs,
-  IsPermutation,
-}
+use Rattle.std.specs.Prelude.{◌≡◌, ◌⊎◌, ℕ, ◌+◌, ◌*◌, ◌-◌, ◌<◌, ◌≤◌, true, false, List, [], ◌∷◌, ◌++◌, map, length, take}
+use Rattle.std.specs.Prelude.{All, AllPairs, IsPermutation}
 use Rattle.std.proofs.Common.{refl, sym, ◌∙◌, ap, subst, inl, inr, arith, get_or, length-append, append-nil}
 use Rattle.std.proofs.lemmas.Bool.{false≢true}
 use Rattle.std.proofs.lemmas.List.{append_assoc, length-map, length-take, map-append, take_all}
 use Rattle.std.proofs.lemmas.List.Elements.{All-append}
-use Rattle.std.proofs.lemmas.List.Sorted.{
-  IsPermutation-append_comm,
-  IsPermutation-append_left,
-  IsPermutation-append_right,
-  IsPermutation-refl,
-  IsPermutation-sym,
-  IsPermutation-trans,
-  length_permutation,
-}
-use Rattle.list_laws.proofs.Cited.{
-  EachLater,
-  all_of_each,
-  any_true,
-  each_of_all,
-  from_append,
-  in_left,
-  in_permutation,
-  in_right,
-  later_across,
-  later_append,
-  later_left,
-  later_pairs,
-  later_right,
-  mapped_from,
-  pairs_later,
-  take_next,
-}
+use Rattle.std.proofs.lemmas.List.Sorted.{IsPermutation-append_comm, IsPermutation-append_left}
+use Rattle.std.proofs.lemmas.List.Sorted.{IsPermutation-append_right, IsPermutation-refl, IsPermutation-sym}
+use Rattle.std.proofs.lemmas.List.Sorted.{IsPermutation-trans, length_permutation}
+use Rattle.list_laws.proofs.Cited.{EachLater, all_of_each, any_true, each_of_all, from_append, in_left, in_permutation}
+use Rattle.list_laws.proofs.Cited.{in_right, later_across, later_append, later_left, later_pairs, later_right}
+use Rattle.list_laws.proofs.Cited.{mapped_from, pairs_later, take_next}
 use Rattle.point_order.specs.Sets.{IsIn}
 use Rattle.edit_history.specs.declared.history.Entry.{Entry}
 use Rattle.edit_history.specs.Edits.{point_of, share_point}
@@ -62,33 +21,13 @@ use Rattle.grid_claims.specs.Plays.{entry_of}
 use Rattle.plain_laws.specs.Running.{Pair}
 use Rattle.edit_workers.specs.declared.rounds.Waiting.{Waiting}
 use Rattle.edit_workers.specs.Running.{AscendAtPoint}
-use Rattle.edit_workers.specs.Rounds.{
-  AllFew,
-  AllFresh,
-  AreMadeOrWait,
-  IsBusy,
-  IsMadeInRound,
-  IsTriedOrWaits,
-  IsWorkedInRounds,
-  Waits,
-  fresh,
-  pairs_of,
-  tries_of,
-  waits_with,
-}
+use Rattle.edit_workers.specs.Rounds.{AllFew, AllFresh, AreMadeOrWait, IsBusy, IsMadeInRound, IsTriedOrWaits}
+use Rattle.edit_workers.specs.Rounds.{IsWorkedInRounds, Waits, fresh, pairs_of, tries_of, waits_with}
 use Rattle.edit_workers.specs.Trying.{OwnsAll}
 use Rattle.edit_workers.specs.Working.{AreEntriesOf, HasMade}
 use Rattle.edit_workers.proofs.Sharing.{same_shares}
-use Rattle.edit_workers.proofs.Worked.{
-  entries_more,
-  made_as_before,
-  made_more,
-  misses_both,
-  no_entries,
-  nothing_made,
-  standing_is,
-  still_all,
-}
+use Rattle.edit_workers.proofs.Worked.{entries_more, made_as_before, made_more, misses_both, no_entries, nothing_made}
+use Rattle.edit_workers.proofs.Worked.{standing_is, still_all}
 
 -- ---- lists of pairs, some of which come first
 

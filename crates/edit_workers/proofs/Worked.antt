@@ -1,27 +1,6 @@
 -- The work on a list, pair by pair.
-use Rattle.std.specs.Prelude.{
-  ◌≡◌,
-  ◌⊎◌,
-  ℕ,
-  zero,
-  suc,
-  ◌+◌,
-  ◌-◌,
-  ◌<◌,
-  ◌≤◌,
-  Bool,
-  true,
-  false,
-  List,
-  [],
-  ◌∷◌,
-  ◌++◌,
-  map,
-  length,
-  take,
-  drop,
-  slice_index_or,
-}
+use Rattle.std.specs.Prelude.{◌≡◌, ◌⊎◌, ℕ, zero, suc, ◌+◌, ◌-◌, ◌<◌, ◌≤◌, Bool, true, false, List, [], ◌∷◌, ◌++◌, map}
+use Rattle.std.specs.Prelude.{length, take, drop, slice_index_or}
 use Rattle.std.proofs.Common.{refl, sym, ◌∙◌, ap, subst, inl, inr, arith, length-append, append-nil}
 use Rattle.std.specs.List.{flat_map}
 use Rattle.std.proofs.lemmas.Bool.{false≢true}
@@ -41,42 +20,13 @@ use Rattle.grid_claims.specs.Plays.{entry_of}
 use Rattle.grid_claims.specs.Trails.{misses}
 use Rattle.grid_claims.specs.Tries.{AreClaimsAround, IsAsBefore, IsOthersWord, IsEdited}
 use Rattle.plain_laws.specs.Running.{Pair}
-use Rattle.edit_workers.specs.Working.{
-  Marked,
-  Stretch,
-  left_over,
-  first_ones,
-  AreEntriesOf,
-  HasMade,
-  IsWorked,
-  IsBroken,
-  pairs_done,
-}
-use Rattle.edit_workers.specs.Trying.{
-  OwnsAll,
-  HasMadeOne,
-  HasMissed,
-  HasMissedSome,
-  FollowsLeft,
-  IsLeftOver,
-  IsTriedAndMade,
-  IsWorkedOn,
-  shares_with,
-}
+use Rattle.edit_workers.specs.Working.{Marked, Stretch, left_over, first_ones, AreEntriesOf, HasMade, IsWorked}
+use Rattle.edit_workers.specs.Working.{IsBroken, pairs_done}
+use Rattle.edit_workers.specs.Trying.{OwnsAll, HasMadeOne, HasMissed, HasMissedSome, FollowsLeft, IsLeftOver}
+use Rattle.edit_workers.specs.Trying.{IsTriedAndMade, IsWorkedOn, shares_with}
 use Rattle.edit_workers.proofs.Stretches.{flat_more, tried_more}
-use Rattle.edit_workers.proofs.FirstOnes.{
-  first_same,
-  first_more,
-  left_more,
-  left_same,
-  done_more,
-  done_same,
-  all_left,
-  all_parted,
-  none_done,
-  done_few,
-  later_more,
-}
+use Rattle.edit_workers.proofs.FirstOnes.{first_same, first_more, left_more, left_same, done_more, done_same, all_left}
+use Rattle.edit_workers.proofs.FirstOnes.{all_parted, none_done, done_few, later_more}
 
 -- ---- trails
 

@@ -1,23 +1,6 @@
 -- What all workers together make of a mesh.
-use Rattle.std.specs.Prelude.{
-  ◌≡◌,
-  ℕ,
-  ◌+◌,
-  ◌-◌,
-  ◌^◌,
-  ◌<◌,
-  ◌≤◌,
-  List,
-  [],
-  ◌∷◌,
-  ◌++◌,
-  map,
-  length,
-  All,
-  AllPairs,
-  IsPermutation,
-  slice_index_or,
-}
+use Rattle.std.specs.Prelude.{◌≡◌, ℕ, ◌+◌, ◌-◌, ◌^◌, ◌<◌, ◌≤◌, List, [], ◌∷◌, ◌++◌, map, length, All, AllPairs}
+use Rattle.std.specs.Prelude.{IsPermutation, slice_index_or}
 use Rattle.point_order.specs.Sets.{IsIn}
 use Rattle.edit_history.specs.declared.history.Entry.{Entry}
 use Rattle.edit_history.specs.Edits.{point_of}
@@ -25,7 +8,7 @@ use Rattle.edit_history.specs.OneThread.{line_of}
 use Rattle.grid_claims.specs.Passes.{Opened, Standing}
 use Rattle.grid_claims.specs.Tries.{IsStill, joined}
 use Rattle.plain_laws.specs.Running.{Pair, AreApart, IsRun}
-use Rattle.edit_workers.specs.Dealing.{AreTagsAscending, all_of, count_in_all}
+use Rattle.edit_lists.specs.Dealing.{AreTagsAscending, all_of, count_in_all}
 
 -- the entry is of a pair in the list of its worker, where the first of the workers has this number
 abbrev pub IsOfWorker : ℕ → List (List Pair) → Entry → Type 0

@@ -2,19 +2,12 @@
 //! others. So what it needs is still near its processor, and buckets are seldom in another's hands.
 
 ghost use Rattle.std.specs.Prelude.{◌≡◌, ◌<◌, IfOk, length};
-ghost use Rattle.edit_workers.specs.Dealing.{AreTagsAscending};
-ghost use Rattle.edit_workers.specs.Arranging.{
-  spread_of,
-  stretch_of as stretch_of_tag,
-  place_of as place_of_point,
-  key_of_place as key_of_pair,
-  place_count,
-  IsArranged,
-  IsInPlace,
-};
+ghost use Rattle.edit_lists.specs.Dealing.{AreTagsAscending};
+ghost use Rattle.edit_workers.specs.Arranging.{spread_of, stretch_of as stretch_of_tag, place_of as place_of_point};
+ghost use Rattle.edit_workers.specs.Arranging.{key_of_place as key_of_pair, place_count, IsArranged, IsInPlace};
 
-use crate::lists::List;
 use edit_history::Edit;
+use edit_lists::List;
 use point_order::Point;
 use std::alloc::{AllocError, Global};
 

@@ -9,14 +9,12 @@
 #![tactic(auto)]
 
 mod arranging;
-mod cutting;
-mod dealing;
 mod lists;
 mod rounds;
 mod running;
 mod working;
 
-pub use dealing::{deal, deal_edits};
-pub use lists::{Left, List, Lists, Segment};
+pub use edit_lists::{List, Lists, Segment, deal, deal_edits};
+pub use lists::Left;
 pub use running::run_edits;
 pub use working::{share_a_point, work};

@@ -1,21 +1,14 @@
 //! Work on a list in rounds: what is busy is set aside, and tried again behind others.
 
 ghost use Rattle.std.specs.Prelude.{◌≡◌, ◌+◌, ◌<◌, ◌≤◌, ◌++◌, ◌∷◌, [], IfOk, OnOk, length};
-ghost use Rattle.edit_workers.specs.Rounds.{
-  IsWorkedInRounds,
-  AreMadeOrWait,
-  IsTriedOrWaits,
-  AllFew,
-  AllFresh,
-  fresh,
-  pairs_of,
-  waits_with,
-};
+ghost use Rattle.edit_workers.specs.Rounds.{IsWorkedInRounds, AreMadeOrWait, IsTriedOrWaits, AllFew, AllFresh, fresh};
+ghost use Rattle.edit_workers.specs.Rounds.{pairs_of, waits_with};
 ghost use Rattle.edit_workers.specs.Trying.{OwnsAll};
 
-use crate::lists::{Left, List};
+use crate::lists::Left;
 use crate::working::{Tried, pause, share_a_point, try_once};
 use edit_history::Edit;
+use edit_lists::List;
 use grid_claims::{Gate, MeshTable, Pass};
 use std::alloc::{AllocError, Global};
 

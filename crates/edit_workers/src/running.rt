@@ -1,25 +1,18 @@
 //! Segment after segment, the lists of each at once, each by a worker of its own.
 
-ghost use Rattle.std.specs.Prelude.{◌≡◌, ◌+◌, ◌^◌, ◌<◌, ◌≤◌, ◌++◌, IfOk, OnOk, length, All};
+ghost use Rattle.std.specs.Prelude.{◌≡◌, ◌⊎◌, ◌+◌, ◌^◌, ◌<◌, ◌≤◌, ◌++◌, IfOk, OnOk, length, All, true, false};
 ghost use Rattle.std.specs.Thread.{IsSync};
 ghost use Rattle.grid_claims.specs.Tries.{joined};
-ghost use Rattle.edit_workers.specs.Dealing.{segments_of, pairs_in, CanBeDone, all_of, count_in_all, count_all};
-ghost use Rattle.edit_workers.specs.Running.{
-  AreRun,
-  IsSegmentRun,
-  CanRun,
-  AreWorked,
-  AreHalves,
-  AreRunBut,
-  AreApplied,
-  AreByTag,
-};
+ghost use Rattle.edit_lists.specs.Dealing.{segments_of, pairs_in, CanBeDone, all_of, count_in_all, count_all};
+ghost use Rattle.edit_workers.specs.Running.{AreRun, IsSegmentRun, CanRun, AreWorked, AreHalves, AreRunBut, AreApplied};
+ghost use Rattle.edit_workers.specs.Running.{AreByTag};
 
 use crate::arranging::in_place;
-use crate::lists::{Left, List, Lists};
+use crate::lists::Left;
 use crate::rounds::work_in_rounds;
 use cell_store::Mesh;
 use edit_history::Edit;
+use edit_lists::{List, Lists};
 use grid_claims::{Gate, MeshTable, Pass};
 use one_mesh::apply;
 use std::alloc::{AllocError, Global};
@@ -168,7 +161,9 @@ fn work_all<G: Gate + Sync, R: Threads + Sync>(
 }
 
 // How many threads do lists at once: as many as there are processors, but two at least, so that workers can meet.
-fn thread_count<R: Threads>(rt: &R) -> usize {
+fn thread_count<R: Threads>(rt: &R) -> usize
+    ensures { 2 ≤ result }
+{
     match available_parallelism(rt) {
         Ok(count) => count.get().max(2),
         Err(_) => 2,
@@ -290,6 +285,8 @@ fn run_alone(alloc: Global, mesh: &mut Mesh, lists: &[List]) -> Result<(), Alloc
 // one list.
 fn needs_none(lists: &[List], is_of_several: bool) -> bool
     requires { count_in_all (pairs_in lists.now) ≤ 2 ^ 32 }
+    ensures several { result ≡ true → (length lists.now ≡ 1) ⊎ (count_in_all (pairs_in lists.now) < 8) }
+    ensures one { is_of_several ≡ false → result ≡ true → count_in_all (pairs_in lists.now) < 2 }
 {
     let few = if is_of_several { FEW } else { 2 };
     pair_count(lists) < few || is_of_several && lists.len() == 1

@@ -3,17 +3,13 @@
 ghost use Rattle.std.specs.Prelude.{◌≡◌, ◌<◌, ◌≤◌, IfOk, OnOk, OnErr, length};
 ghost use Rattle.point_order.specs.Sets.{is_among};
 ghost use Rattle.edit_history.specs.Edits.{edit_points, share_point};
-ghost use Rattle.edit_workers.specs.Trying.{
-  IsTried,
-  HasMissed,
-  HasMissedSome,
-  IsWorkedOn,
-  shares_with as shares_with_any,
-};
+ghost use Rattle.edit_workers.specs.Trying.{IsTried, HasMissed, HasMissedSome, IsWorkedOn};
+ghost use Rattle.edit_workers.specs.Trying.{shares_with as shares_with_any};
 ghost use Rattle.edit_workers.specs.Working.{IsWorked, IsBroken};
 
-use crate::lists::{Left, List};
+use crate::lists::Left;
 use edit_history::Edit;
+use edit_lists::List;
 use grid_claims::{Gate, MeshTable, Pass, Refused};
 use point_order::Point;
 use std::alloc::{AllocError, Global};

@@ -1,24 +1,6 @@
 -- A spent seat, and what is at home when one pass owns all parts.
-use Rattle.std.specs.Prelude.{
-  ◌≡◌,
-  ℕ,
-  zero,
-  suc,
-  ◌+◌,
-  ◌<◌,
-  ◌≤◌,
-  cond,
-  List,
-  [],
-  ◌∷◌,
-  ◌++◌,
-  drop,
-  None,
-  Some,
-  IsSome,
-  length,
-  slice_index_or,
-}
+use Rattle.std.specs.Prelude.{◌≡◌, ℕ, zero, suc, ◌+◌, ◌<◌, ◌≤◌, cond, List, [], ◌∷◌, ◌++◌, drop, None, Some, IsSome}
+use Rattle.std.specs.Prelude.{length, slice_index_or}
 use Rattle.std.specs.List.{filter}
 use Rattle.std.proofs.Common.{refl, sym, ◌∙◌, ap, subst, arith}
 use Rattle.list_laws.proofs.Cited.{none_there, some_of}

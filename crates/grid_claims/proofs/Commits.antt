@@ -1,34 +1,7 @@
 -- A commit keeps the rule: at the ticket step the pass's view has the shares of the new history, and its trail the
 -- buckets that the edit touched.
-use Rattle.std.specs.Prelude.{
-  ◌≡◌,
-  ◌≢◌,
-  ℕ,
-  zero,
-  suc,
-  ◌+◌,
-  ◌-◌,
-  ◌^◌,
-  ◌%◌,
-  ◌<◌,
-  ◌≤◌,
-  Bool,
-  true,
-  false,
-  cond,
-  List,
-  [],
-  ◌∷◌,
-  ◌++◌,
-  drop,
-  take,
-  Some,
-  length,
-  slice_index,
-  slice_index_or,
-  slice_set,
-  ltb,
-}
+use Rattle.std.specs.Prelude.{◌≡◌, ◌≢◌, ℕ, zero, suc, ◌+◌, ◌-◌, ◌^◌, ◌%◌, ◌<◌, ◌≤◌, Bool, true, false, cond, List, []}
+use Rattle.std.specs.Prelude.{◌∷◌, ◌++◌, drop, take, Some, length, slice_index, slice_index_or, slice_set, ltb}
 use Rattle.std.specs.List.{filter}
 use Rattle.std.specs.Option.{option_map, option_map_or}
 use Rattle.std.proofs.Common.{refl, sym, ◌∙◌, ap, subst, inl, inr, arith, length-set}
@@ -53,17 +26,8 @@ use Rattle.claim_rule.specs.Events.{committed, entry_after, renewed_from}
 use Rattle.cell_store.specs.Touches.{HoldTouched}
 use Rattle.cell_store.proofs.Cited.{stands_shows}
 use Rattle.claim_rule.specs.Boards.{in_hand_of}
-use Rattle.claim_rule.proofs.Cited.{
-  by_parts,
-  commit_keeps,
-  left_one,
-  length_more,
-  parts_by,
-  renewed_back,
-  renewed_length,
-  renewed_there,
-  starts_more,
-}
+use Rattle.claim_rule.proofs.Cited.{by_parts, commit_keeps, left_one, length_more, parts_by, renewed_back}
+use Rattle.claim_rule.proofs.Cited.{renewed_length, renewed_there, starts_more}
 use Rattle.grid_claims.specs.declared.view.Key.{Key}
 use Rattle.grid_claims.specs.declared.view.View.{View}
 use Rattle.grid_claims.specs.declared.view.Act.{Act as Deed}
@@ -72,18 +36,8 @@ use Rattle.grid_claims.specs.Faces.{buckets_of, opening_of, plain, plain_child, 
 use Rattle.grid_claims.specs.Trails.{in_hand, in_hand_after, AreStepsFrom, IsStepOf, IsCommitOf, IsExact, AreAllTouched}
 use Rattle.grid_claims.specs.Rule.{IsSeatInOrder, IsRule}
 use Rattle.grid_claims.specs.Plays.{Seated, commits, Committed, IsReady, HandStands, HandShows, entry_of}
-use Rattle.grid_claims.proofs.Boarded.{
-  Table,
-  Live,
-  firsts,
-  alone,
-  shown,
-  same_firsts,
-  others_from,
-  views_set,
-  seats_differ,
-  own_pass,
-}
+use Rattle.grid_claims.proofs.Boarded.{Table, Live, firsts, alone, shown, same_firsts, others_from, views_set}
+use Rattle.grid_claims.proofs.Boarded.{seats_differ, own_pass}
 use Rattle.grid_claims.proofs.LivePasses.{passes_to}
 use Rattle.grid_claims.specs.declared.view.Child.{Child}
 use Rattle.list_laws.proofs.Cited.{all_of_each, each_of_all}

@@ -1,22 +1,6 @@
 -- The end of a try.
-use Rattle.std.specs.Prelude.{
-  ◌≡◌,
-  ℕ,
-  ◌+◌,
-  ◌-◌,
-  ◌≤◌,
-  List,
-  [],
-  ◌∷◌,
-  ◌++◌,
-  length,
-  vec_capacity,
-  Option,
-  None,
-  Some,
-  IsSome,
-  IfSome,
-}
+use Rattle.std.specs.Prelude.{◌≡◌, ℕ, ◌+◌, ◌-◌, ◌≤◌, List, [], ◌∷◌, ◌++◌, length, vec_capacity, Option, None, Some}
+use Rattle.std.specs.Prelude.{IsSome, IfSome}
 use Rattle.std.proofs.Common.{refl, sym, ◌∙◌, ap, subst, inl, inr, arith}
 use Rattle.std.specs.Option.{option_map}
 use Rattle.std.proofs.lemmas.List.{append_assoc}
@@ -50,15 +34,8 @@ use Rattle.grid_claims.specs.declared.view.View.{View}
 use Rattle.grid_claims.specs.Trails.{in_hand}
 use Rattle.grid_claims.specs.Passes.{Carries, emptied}
 use Rattle.grid_claims.specs.Plays.{Seated, Committed, entry_of}
-use Rattle.grid_claims.specs.Claiming.{
-  AreHands,
-  IsReadyPlan,
-  IsFinished,
-  HasGivenBack,
-  IsRightIn,
-  empty_places,
-  releases_of,
-}
+use Rattle.grid_claims.specs.Claiming.{AreHands, IsReadyPlan, IsFinished, HasGivenBack, IsRightIn, empty_places}
+use Rattle.grid_claims.specs.Claiming.{releases_of}
 use Rattle.grid_claims.proofs.MoreHands.{all_empty, stands_in}
 use Rattle.grid_claims.proofs.Trailed.{in_hand_snoc}
 

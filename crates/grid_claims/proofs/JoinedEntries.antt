@@ -1,25 +1,6 @@
 -- The entries of two passes, by number, are those of the parts of both.
-use Rattle.std.specs.Prelude.{
-  ◌≡◌,
-  ◌⊎◌,
-  ℕ,
-  zero,
-  suc,
-  ◌+◌,
-  ◌<◌,
-  ◌≤◌,
-  Bool,
-  true,
-  false,
-  cond,
-  ◌||◌,
-  ltb,
-  List,
-  [],
-  ◌∷◌,
-  ◌++◌,
-  drop,
-}
+use Rattle.std.specs.Prelude.{◌≡◌, ◌⊎◌, ℕ, zero, suc, ◌+◌, ◌<◌, ◌≤◌, Bool, true, false, cond, ◌||◌, ltb, List, [], ◌∷◌}
+use Rattle.std.specs.Prelude.{◌++◌, drop}
 use Rattle.std.specs.List.{filter}
 use Rattle.std.proofs.Common.{refl, ◌∙◌, ap, inl, inr, arith}
 use Rattle.std.proofs.lemmas.Bool.Decides.{nat_tests}

@@ -1,45 +1,10 @@
 -- A join keeps the rule.
-use Rattle.std.specs.Prelude.{
-  ◌≡◌,
-  ◌≢◌,
-  ℕ,
-  zero,
-  suc,
-  ◌+◌,
-  ◌<◌,
-  Bool,
-  true,
-  false,
-  cond,
-  leb,
-  List,
-  [],
-  ◌∷◌,
-  ◌++◌,
-  map,
-  Option,
-  None,
-  Some,
-  length,
-  slice_index_or,
-  slice_set,
-}
+use Rattle.std.specs.Prelude.{◌≡◌, ◌≢◌, ℕ, zero, suc, ◌+◌, ◌<◌, Bool, true, false, cond, leb, List, [], ◌∷◌, ◌++◌, map}
+use Rattle.std.specs.Prelude.{Option, None, Some, length, slice_index_or, slice_set}
 use Rattle.std.specs.List.{range_with_len}
 use Rattle.std.specs.Option.{option_map_or}
-use Rattle.std.proofs.Common.{
-  refl,
-  sym,
-  ◌∙◌,
-  ap,
-  subst,
-  inl,
-  inr,
-  arith,
-  get_or-set_other,
-  get_or-set_same,
-  length-set,
-  ext_get_or,
-}
+use Rattle.std.proofs.Common.{refl, sym, ◌∙◌, ap, subst, inl, inr, arith, get_or-set_other, get_or-set_same, length-set}
+use Rattle.std.proofs.Common.{ext_get_or}
 use Rattle.std.proofs.lemmas.List.{append_assoc}
 use mathlib.Core.Logic.{dite}
 use mathlib.Core.Option.{some, some-injective, some-ne-none}
@@ -64,17 +29,8 @@ use Rattle.grid_claims.specs.Lists.{longer}
 use Rattle.grid_claims.specs.Rule.{IsSeatInOrder, IsRule, Rule}
 use Rattle.grid_claims.specs.Plays.{joins, no_pass}
 use Rattle.grid_claims.proofs.LivePasses.{numbered_from, same_numbered, at_place, places_count, in_firsts}
-use Rattle.grid_claims.proofs.Boarded.{
-  Table,
-  Live,
-  firsts,
-  firsts_append,
-  alone,
-  others_to,
-  others_from,
-  same_firsts,
-  views_set,
-}
+use Rattle.grid_claims.proofs.Boarded.{Table, Live, firsts, firsts_append, alone, others_to, others_from, same_firsts}
+use Rattle.grid_claims.proofs.Boarded.{views_set}
 use Rattle.grid_claims.proofs.SplitEvents.{Between}
 use Rattle.grid_claims.proofs.Claims.{IsAlone, below, on_board}
 use Rattle.grid_claims.proofs.Closing.{spent_in_order}

@@ -1,26 +1,6 @@
 -- Hands with one more bucket, and with a claim that failed.
-use Rattle.std.specs.Prelude.{
-  ◌≡◌,
-  ◌⊎◌,
-  ℕ,
-  zero,
-  suc,
-  ◌+◌,
-  ◌<◌,
-  ◌≤◌,
-  List,
-  [],
-  ◌∷◌,
-  ◌++◌,
-  map,
-  length,
-  vec_capacity,
-  Option,
-  None,
-  Some,
-  IsSome,
-  slice_set,
-}
+use Rattle.std.specs.Prelude.{◌≡◌, ◌⊎◌, ℕ, zero, suc, ◌+◌, ◌<◌, ◌≤◌, List, [], ◌∷◌, ◌++◌, map, length, vec_capacity}
+use Rattle.std.specs.Prelude.{Option, None, Some, IsSome, slice_set}
 use Rattle.std.proofs.Common.{refl, sym, ◌∙◌, ap, subst, arith, length-set, get_or-set_other}
 use Rattle.std.proofs.lemmas.List.{append_assoc, append-nil, map-append, length-append}
 use mathlib.Core.Logic.{dite}
@@ -39,15 +19,8 @@ use Rattle.grid_claims.specs.declared.view.View.{View}
 use Rattle.grid_claims.specs.Trails.{in_hand}
 use Rattle.grid_claims.specs.Passes.{Carries}
 use Rattle.grid_claims.specs.Plays.{Seated, claims, fails, HandStands}
-use Rattle.grid_claims.specs.Claiming.{
-  empty_places,
-  AreHands,
-  HasClaimed,
-  HasStopped,
-  HasOthersWord,
-  last_step,
-  ShowsOne,
-}
+use Rattle.grid_claims.specs.Claiming.{empty_places, AreHands, HasClaimed, HasStopped, HasOthersWord, last_step}
+use Rattle.grid_claims.specs.Claiming.{ShowsOne}
 use Rattle.edit_plans.specs.Plans.{HoldsHome}
 use Rattle.grid_claims.specs.Looking.{HasClaimedMore}
 use Rattle.grid_claims.specs.declared.refused.Refused.{Refused}
@@ -267,26 +240,6 @@ more_none id n w a one = record {
   among = record { grid = refl; buckets = λ b c e. e };
   one = one;
 }
-
--- with one bucket more in the order, and as many places, fewer places are empty
-fewer_by : (o o' e e' l l' n : ℕ) → o + e ≡ l → o' + e' ≡ l' → l ≡ n → l' ≡ n → o' ≡ o + 1 → e' < e
-fewer_by o o' e e' l l' n x y p q r = omega arith
-
--- after a claim there are fewer empty places
-pub fewer_left :
-    (id : TableId) (n b : ℕ) (w w' : Hands) → AreHands id n w → AreHands id n w' →
-    w'.order.items ≡ w.order.items ++ b ∷ [] → empty_places w'.hold.places < empty_places w.hold.places
-fewer_left id n b w w' a a' order =
-    fewer_by (length w.order.items) (length w'.order.items) (empty_places w.hold.places) (empty_places w'.hold.places)
-    (length w.hold.places) (length w'.hold.places) n a.count a'.count a.places a'.places
-    (ap length order ∙ length_snoc w.order.items b)
-
--- the bucket of a point, by its number
-pub home_held :
-    (hold : InHand) (p g b : ℕ) → HoldsHome hold p → g ≡ hold.grid → b ≡ bucket_of g p →
-    IsSome (bucket_at hold.places b)
-home_held hold p g b mine same e =
-    subst (λ (x : ℕ). IsSome (bucket_at hold.places x)) (sym (e ∙ ap (λ (x : ℕ). bucket_of x p) same)) mine
 
 -- no word of the pass's own
 pub others_still : (w w' : Hands) (steps : List Act) (why : Refused) → HasClaimed w w' steps →

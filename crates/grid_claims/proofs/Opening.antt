@@ -1,30 +1,6 @@
 -- A new table meets the rule.
-use Rattle.std.specs.Prelude.{
-  ◌≡◌,
-  ℕ,
-  zero,
-  suc,
-  ◌+◌,
-  ◌-◌,
-  ◌^◌,
-  ◌<◌,
-  ◌≤◌,
-  ◌==◌,
-  true,
-  false,
-  cond,
-  List,
-  [],
-  ◌∷◌,
-  map,
-  replicate,
-  Option,
-  None,
-  Some,
-  All,
-  length,
-  slice_index_or,
-}
+use Rattle.std.specs.Prelude.{◌≡◌, ℕ, zero, suc, ◌+◌, ◌-◌, ◌^◌, ◌<◌, ◌≤◌, ◌==◌, true, false, cond, List, [], ◌∷◌, map}
+use Rattle.std.specs.Prelude.{replicate, Option, None, Some, All, length, slice_index_or}
 use Rattle.std.specs.List.{filter, range_with_len}
 use Rattle.std.proofs.Common.{refl, sym, ◌∙◌, ap, subst, inl, inr, arith, ext_get_or, ne_eqb}
 use Rattle.std.proofs.lemmas.List.{length-replicate, append-nil}
@@ -45,16 +21,8 @@ use Rattle.claim_rule.specs.Opening.{shares_from, opening_board}
 use Rattle.claim_rule.proofs.Cited.{dropped_all, opening_is_good}
 use Rattle.grid_claims.specs.declared.view.Key.{Key}
 use Rattle.grid_claims.specs.declared.view.View.{View}
-use Rattle.grid_claims.specs.Faces.{
-  buckets_of,
-  opening_of,
-  plain,
-  passes_of,
-  passes_in,
-  at_home,
-  board_of,
-  view_numbered,
-}
+use Rattle.grid_claims.specs.Faces.{buckets_of, opening_of, plain, passes_of, passes_in, at_home, board_of}
+use Rattle.grid_claims.specs.Faces.{view_numbered}
 use Rattle.grid_claims.specs.Rule.{IsSeatInOrder, IsRule, opening_view}
 use Rattle.grid_claims.proofs.LivePasses.{at_place, places_count}
 use Rattle.grid_claims.proofs.Boarded.{Table, Live, firsts, alone}

@@ -1,27 +1,6 @@
 -- Words and slots of a new table, as they are laid out.
-use Rattle.std.specs.Prelude.{
-  ◌≡◌,
-  ◌≢◌,
-  ℕ,
-  zero,
-  suc,
-  ◌+◌,
-  ◌*◌,
-  ◌<◌,
-  ◌≤◌,
-  List,
-  [],
-  ◌∷◌,
-  ◌++◌,
-  Option,
-  None,
-  Some,
-  IsSome,
-  length,
-  replicate,
-  take,
-  slice_set,
-}
+use Rattle.std.specs.Prelude.{◌≡◌, ◌≢◌, ℕ, zero, suc, ◌+◌, ◌*◌, ◌<◌, ◌≤◌, List, [], ◌∷◌, ◌++◌, Option, None, Some}
+use Rattle.std.specs.Prelude.{IsSome, length, replicate, take, slice_set}
 use Rattle.std.proofs.Common.{refl, sym, ◌∙◌, ap, subst, arith, add-one, length-set, get_or-set_other, length-take}
 use Rattle.list_laws.proofs.Cited.{same_there}
 use Rattle.cell_store.specs.Buckets.{BucketContent, InHand, bucket_at}
@@ -38,10 +17,6 @@ zero_behind (suc n) = ap (λ (l : List ℕ). 0 ∷ l) (zero_behind n)
 -- are one more of them
 pub one_more_zero : (n : ℕ) → ◌++◌ {A = ℕ} (replicate n 0) (0 ∷ []) ≡ replicate (n + 1) 0
 one_more_zero n = zero_behind n ∙ ap (λ (k : ℕ). replicate k 0) (sym (add-one n))
-
--- two numbers neither of which is greater are one
-pub same_end : (a b : ℕ) → a ≤ b → b ≤ a → a ≡ b
-same_end a b l m = omega arith
 
 -- ---- slots
 

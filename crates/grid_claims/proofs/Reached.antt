@@ -1,26 +1,6 @@
 -- One more event leads one board further.
-use Rattle.std.specs.Prelude.{
-  cond,
-  ◌==◌,
-  slice_set,
-  ◌≡◌,
-  ◌≢◌,
-  ℕ,
-  ◌+◌,
-  ◌<◌,
-  ◌≤◌,
-  List,
-  [],
-  ◌∷◌,
-  ◌++◌,
-  length,
-  map,
-  Option,
-  None,
-  Some,
-  IsSome,
-  IsSomeAnd,
-}
+use Rattle.std.specs.Prelude.{cond, ◌==◌, slice_set, ◌≡◌, ◌≢◌, ℕ, ◌+◌, ◌<◌, ◌≤◌, List, [], ◌∷◌, ◌++◌, length, map}
+use Rattle.std.specs.Prelude.{Option, None, Some, IsSome, IsSomeAnd}
 use Rattle.std.proofs.Common.{refl, sym, ◌∙◌, ap, subst, inl, inr, arith, eq-eqb, ne_eqb}
 use Rattle.std.proofs.lemmas.List.{append-nil, append_assoc}
 use mathlib.Core.Option.{some}
@@ -37,19 +17,8 @@ use Rattle.cell_store.specs.Touches.{HoldTouched}
 use Rattle.claim_rule.specs.Boards.{BoardState, word_of, view_at}
 use Rattle.claim_rule.specs.Boards as board
 use Rattle.claim_rule.specs.Good.{IsGood}
-use Rattle.claim_rule.specs.Events.{
-  Next,
-  HoldsNothing,
-  history_after,
-  entry_after,
-  HasKey,
-  claimed,
-  committed,
-  released,
-  looked,
-  split,
-  after_join,
-}
+use Rattle.claim_rule.specs.Events.{Next, HoldsNothing, history_after, entry_after, HasKey, claimed, committed}
+use Rattle.claim_rule.specs.Events.{released, looked, split, after_join}
 use Rattle.claim_rule.specs.declared.event.Event.{Event}
 use Rattle.claim_rule.specs.declared.event.Event.TheVariants.{Claim, Commit, Release, Look, Split, Join}
 use Rattle.claim_rule.specs.declared.event.Played.{Played}
@@ -57,13 +26,8 @@ use Rattle.claim_rule.specs.declared.event.Played.TheVariants.{Done, Taken}
 use Rattle.grid_claims.specs.declared.view.Key.{Key}
 use Rattle.grid_claims.specs.declared.view.View.{View}
 use Rattle.grid_claims.specs.declared.view.Act.{Act}
-use Rattle.grid_claims.specs.declared.view.Act.TheVariants.{
-  Claim as DidClaim,
-  Miss as DidMiss,
-  Commit as DidCommit,
-  Release as DidRelease,
-  Look as DidLook,
-}
+use Rattle.grid_claims.specs.declared.view.Act.TheVariants.{Claim as DidClaim, Miss as DidMiss, Commit as DidCommit}
+use Rattle.grid_claims.specs.declared.view.Act.TheVariants.{Release as DidRelease, Look as DidLook}
 use Rattle.grid_claims.specs.Plays.{no_pass}
 use Rattle.grid_claims.specs.Faces.{buckets_of, opening_of, plain, passes_in, board_of}
 use Rattle.claim_rule.specs.Laws.{Runs}

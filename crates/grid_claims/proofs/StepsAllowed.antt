@@ -19,18 +19,8 @@ use Rattle.std.specs.Prelude.{slice_index}
 use Rattle.grid_claims.specs.declared.view.Key.{Key}
 use Rattle.grid_claims.specs.Faces.{buckets_of, plain, board_of}
 use Rattle.grid_claims.specs.Rule.{Rule, IsRule}
-use Rattle.grid_claims.specs.Plays.{
-  Seated,
-  Committed,
-  IsReady,
-  Released,
-  Claimed,
-  Looked,
-  SplitTold,
-  splits,
-  without_child,
-  child_of,
-}
+use Rattle.grid_claims.specs.Plays.{Seated, Committed, IsReady, Released, Claimed, Looked, SplitTold, splits}
+use Rattle.grid_claims.specs.Plays.{without_child, child_of}
 use Rattle.grid_claims.proofs.Claims.{IsAlone, hits, on_board, Taken}
 use Rattle.grid_claims.proofs.Divides.{split_keeps_rule, seating_keeps_rule}
 use Rattle.grid_claims.proofs.Looks.{looks_keep, misses_keep}

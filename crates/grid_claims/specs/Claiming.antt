@@ -1,24 +1,6 @@
 -- What a pass has done so far in a try.
-use Rattle.std.specs.Prelude.{
-  ◌≡◌,
-  ℕ,
-  ◌+◌,
-  ◌-◌,
-  ◌^◌,
-  ◌<◌,
-  ◌≤◌,
-  List,
-  [],
-  ◌∷◌,
-  ◌++◌,
-  map,
-  reverse,
-  length,
-  vec_capacity,
-  Option,
-  None,
-  Some,
-}
+use Rattle.std.specs.Prelude.{◌≡◌, ℕ, ◌+◌, ◌-◌, ◌^◌, ◌<◌, ◌≤◌, List, [], ◌∷◌, ◌++◌, map, reverse, length, vec_capacity}
+use Rattle.std.specs.Prelude.{Option, None, Some}
 use Rattle.atomic_table.specs.Seated.{TableId}
 use Rattle.edit_history.specs.declared.history.Edit.{Edit}
 use Rattle.edit_history.specs.declared.history.Entry.{Entry}

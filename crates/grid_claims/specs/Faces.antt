@@ -1,22 +1,6 @@
 -- The running table seen as a board.
-use Rattle.std.specs.Prelude.{
-  ℕ,
-  ◌*◌,
-  ◌==◌,
-  ltb,
-  List,
-  [],
-  ◌∷◌,
-  ◌++◌,
-  map,
-  replicate,
-  drop,
-  slice_index_or,
-  Option,
-  None,
-  Some,
-  if◌then◌else◌,
-}
+use Rattle.std.specs.Prelude.{ℕ, ◌*◌, ◌==◌, ltb, List, [], ◌∷◌, ◌++◌, map, replicate, drop, slice_index_or, Option}
+use Rattle.std.specs.Prelude.{None, Some, if◌then◌else◌}
 use Rattle.std.specs.List.{range_with_len}
 use Rattle.std.specs.Option.{option_map_or}
 use mathlib.Core.Option as maybe

@@ -1,26 +1,6 @@
 -- What each step of the table makes of the pass that takes it, and what it tells.
-use Rattle.std.specs.Prelude.{
-  ◌≡◌,
-  ◌≢◌,
-  ◌⊎◌,
-  ℕ,
-  ◌+◌,
-  ◌-◌,
-  ◌^◌,
-  ◌<◌,
-  ◌≤◌,
-  List,
-  [],
-  ◌∷◌,
-  ◌++◌,
-  length,
-  max,
-  replicate,
-  slice_set,
-  Option,
-  None,
-  Some,
-}
+use Rattle.std.specs.Prelude.{◌≡◌, ◌≢◌, ◌⊎◌, ℕ, ◌+◌, ◌-◌, ◌^◌, ◌<◌, ◌≤◌, List, [], ◌∷◌, ◌++◌, length, max, replicate}
+use Rattle.std.specs.Prelude.{slice_set, Option, None, Some}
 use Rattle.std.specs.Option.{option_map_or}
 use Rattle.atomic_table.specs.Table.{Me, Step, rest}
 use Rattle.edit_history.specs.declared.history.Edit.{Edit}

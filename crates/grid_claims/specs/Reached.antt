@@ -16,13 +16,8 @@ use Rattle.claim_rule.specs.declared.event.Played.TheVariants.{Done, Taken, Shor
 use Rattle.grid_claims.specs.declared.view.Key.{Key}
 use Rattle.grid_claims.specs.declared.view.View.{View}
 use Rattle.grid_claims.specs.declared.view.Act.{Act}
-use Rattle.grid_claims.specs.declared.view.Act.TheVariants.{
-  Claim as DidClaim,
-  Miss as DidMiss,
-  Commit as DidCommit,
-  Release as DidRelease,
-  Look as DidLook,
-}
+use Rattle.grid_claims.specs.declared.view.Act.TheVariants.{Claim as DidClaim, Miss as DidMiss, Commit as DidCommit}
+use Rattle.grid_claims.specs.declared.view.Act.TheVariants.{Release as DidRelease, Look as DidLook}
 use Rattle.grid_claims.specs.Faces.{opening_of, board_of}
 
 -- An event that came about: which one, what it answered, and the ticket that it found.

@@ -1,22 +1,6 @@
 -- The rule of the running table.
-use Rattle.std.specs.Prelude.{
-  ◌≡◌,
-  ℕ,
-  ◌+◌,
-  ◌-◌,
-  ◌<◌,
-  ◌↔◌,
-  List,
-  [],
-  length,
-  map,
-  replicate,
-  Option,
-  None,
-  Some,
-  IsSome,
-  All,
-}
+use Rattle.std.specs.Prelude.{◌≡◌, ℕ, ◌+◌, ◌-◌, ◌<◌, ◌↔◌, List, [], length, map, replicate, Option, None, Some, IsSome}
+use Rattle.std.specs.Prelude.{All}
 use mathlib.Core.Option.{some}
 use lib.ListN.{get_elem?}
 use Rattle.atomic_table.specs.Table.{State}

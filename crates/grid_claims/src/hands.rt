@@ -1,21 +1,7 @@
 //! What a pass has in its hands: its seat's slots, its hold, and the order of its claims.
 
-ghost use Rattle.std.specs.Prelude.{
-  ◌≡◌,
-  ℕ,
-  ◌+◌,
-  ◌<◌,
-  ◌++◌,
-  ◌∷◌,
-  [],
-  None,
-  List,
-  length,
-  OnOk,
-  OnErr,
-  IfErr,
-  vec_capacity,
-};
+ghost use Rattle.std.specs.Prelude.{◌≡◌, ℕ, ◌+◌, ◌<◌, ◌++◌, ◌∷◌, [], None, List, length, OnOk, OnErr, IfErr};
+ghost use Rattle.std.specs.Prelude.{vec_capacity};
 ghost use Rattle.edit_history.specs.declared.history.Entry.{Entry};
 ghost use Rattle.cell_store.specs.Buckets.{BucketContent, bucket_at};
 ghost use Rattle.grid_claims.specs.Faces.{buckets_of};

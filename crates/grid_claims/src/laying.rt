@@ -1,19 +1,6 @@
 //! What a new table is laid out of: its words, its slots, and empty hands.
 
-ghost use Rattle.std.specs.Prelude.{
-  ◌≡◌,
-  ◌+◌,
-  ◌*◌,
-  ◌^◌,
-  ◌<◌,
-  ◌≤◌,
-  ◌∷◌,
-  [],
-  IfOk,
-  length,
-  replicate,
-  vec_capacity,
-};
+ghost use Rattle.std.specs.Prelude.{◌≡◌, ◌+◌, ◌*◌, ◌^◌, ◌<◌, ◌≤◌, ◌∷◌, [], IfOk, length, replicate, vec_capacity};
 ghost use Rattle.cell_store.specs.Buckets.{empty_hold};
 ghost use Rattle.cell_store.specs.Meshes.{AllInHand};
 ghost use Rattle.grid_claims.specs.Faces.{opening_of, buckets_of};

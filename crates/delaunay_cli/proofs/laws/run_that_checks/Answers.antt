@@ -1,14 +1,8 @@
 use Rattle.std.proofs.Common.{◌≡◌, ◌↔◌, ◌<◌, length}
-use Rattle.delaunay_cli.specs.Checked.{HasMeshFault}
-use Rattle.delaunay_cli.specs.Run.{mesh_limit}
-use Rattle.delaunay_cli.proofs.ChecksTold.{
-  bad_mesh,
-  check_completes,
-  check_front,
-  check_written,
-  good_mesh,
-  of_mesh_bytes,
-}
+use Rattle.command_pages.specs.Checked.{HasMeshFault}
+use Rattle.command_pages.specs.Run.{mesh_limit}
+use Rattle.delaunay_cli.proofs.ChecksTold.{bad_mesh, check_completes, check_front, check_written, good_mesh}
+use Rattle.delaunay_cli.proofs.ChecksTold.{of_mesh_bytes}
 use Rattle.delaunay_cli.proofs.Promised.{of_check}
 use Rattle.delaunay_cli.proofs.laws.run_that_checks.Goals as goal
 

@@ -2,7 +2,7 @@ use Rattle.std.proofs.Common.{inl, inr, subst}
 use Rattle.std.specs.Io.KnownBytes.{Appends}
 use Rattle.byte_ends.specs.Ends.{AppendsFront}
 use Rattle.delaunay_cli.specs.Drawn.{drawn_file}
-use Rattle.delaunay_cli.specs.Words.{asks_text, worker_count}
+use Rattle.command_words.specs.Words.{asks_text, worker_count}
 use Rattle.delaunay_cli.proofs.DrawnFiles.{kept_meshed}
 use Rattle.delaunay_cli.proofs.TextStatuses.{has_text}
 use Rattle.delaunay_cli.proofs.Promised.{drawn_completes, drawn_none, of_drawn, plain_of_drawn}

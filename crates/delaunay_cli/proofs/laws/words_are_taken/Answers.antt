@@ -1,27 +1,9 @@
 use Rattle.std.proofs.Common.{true, false}
-use Rattle.delaunay_cli.proofs.CommandLine.{
-  check_words,
-  default_words,
-  mesh_words,
-  mesh_order_words,
-  near_words,
-  shape_words,
-  shape_order_words,
-  steps_words,
-  parts_asked,
-  parts_words,
-}
+use Rattle.command_words.proofs.Cited.{check_words, default_words, mesh_words, mesh_order_words, near_words}
+use Rattle.command_words.proofs.Cited.{shape_words, shape_order_words, steps_words, parts_asked, parts_words}
 use Rattle.delaunay_cli.proofs.MadeAsAsked.{checks_kind, mesh_reading, parts_kind, read_kind, reading, steps_kind}
-use Rattle.delaunay_cli.proofs.NumberWords.{
-  gen_words,
-  gen_text_words,
-  mesh_workers_words,
-  near_workers_words,
-  shape_workers_words,
-  steps_workers_words,
-  parts_at_words,
-  parts_workers_words,
-}
+use Rattle.command_words.proofs.Cited.{gen_words, gen_text_words, mesh_workers_words, near_workers_words}
+use Rattle.command_words.proofs.Cited.{shape_workers_words, steps_workers_words, parts_at_words, parts_workers_words}
 use Rattle.delaunay_cli.proofs.laws.words_are_taken.Goals as goal
 
 pub returns-clause-mesh : goal.returns-clause-mesh

@@ -2,8 +2,8 @@ use Rattle.std.proofs.Common.{◌∙◌, sym, ap, subst, arith, [], List, ℕ, l
 use Rattle.std.specs.Prelude.{All}
 use Rattle.edit_history.specs.OneThread.{one_thread}
 use Rattle.cell_store.specs.Meshes.{MeshView}
-use Rattle.edit_workers.specs.Dealing.{CanBeDone, count_all}
-use Rattle.edit_workers.proofs.Cited.{are_opening}
+use Rattle.edit_lists.specs.Dealing.{CanBeDone, count_all}
+use Rattle.edit_lists.proofs.Cited.{are_opening}
 use Rattle.delaunay_cli.proofs.DealtLines.{edits_done, edits_many, points_many, run_dealt, run_kept, run_of_one}
 use Rattle.delaunay_cli.proofs.mesh_of_lines.mesh_of_lines.Goals as goal
 
@@ -45,3 +45,7 @@ returns-clause-kept g c =
       alone = λ e. run_of_one points edits workers four found some _ deals _ _ opens run e c.hold.ensures.stands.legal;
       dealt = run_dealt points edits workers four found some _ deals _ _ opens run;
     }
+
+pub returns-clause-grid : goal.returns-clause-grid
+returns-clause-grid g c = λ several. c.in_ok-mesh-2.ensures.grid ∙ ap (λ (m : MeshView). m.grid) c.in_ok-mesh.ensures
+    ∙ c.grid_of-grid.ensures several

@@ -1,9 +1,9 @@
 use Rattle.byte_ends.specs.Ends.{Rose}
 use Rattle.edit_files.specs.Content.{content}
-use Rattle.delaunay_cli.specs.Run.{input_limit}
-use Rattle.delaunay_cli.specs.Stops.{status_of_made}
+use Rattle.command_pages.specs.Run.{input_limit}
+use Rattle.command_words.specs.Stops.{status_of_made}
 use Rattle.delaunay_cli.proofs.FilesRead.{few_lines, no_mesh, report_told}
-use Rattle.delaunay_cli.proofs.Judging.{reads_front}
+use Rattle.command_pages.proofs.Cited.{reads_front}
 use Rattle.delaunay_cli.proofs.mesh_of_source.mesh_of_source.Goals as goal
 
 pub history_and_parts-requires-clause-lines : goal.history_and_parts-requires-clause-lines

@@ -4,9 +4,9 @@ use Rattle.byte_ends.specs.Ends.{AppendsFront}
 use Rattle.edit_history.specs.OneThread.{Keeps}
 use Rattle.plain_laws.specs.Plain.{IsAnchored}
 use Rattle.delaunay_cli.specs.PlainText.{plain_text}
-use Rattle.delaunay_cli.specs.Run.{AreDealt, history_of}
-use Rattle.delaunay_cli.specs.Stops.{line_of_end}
-use Rattle.delaunay_cli.specs.Words.{asks_shape, worker_count}
+use Rattle.command_pages.specs.Run.{AreDealt, history_of}
+use Rattle.command_words.specs.Stops.{line_of_end}
+use Rattle.command_words.specs.Words.{asks_shape, worker_count}
 use Rattle.delaunay_cli.proofs.Promised.{anchored_text, completes_plainly, of_file, of_kept, written, written_front}
 use Rattle.delaunay_cli.proofs.top.run.Goals as goal
 

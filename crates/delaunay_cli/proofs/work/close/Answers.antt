@@ -1,5 +1,5 @@
 use Rattle.std.proofs.Common.{refl, sym, ap, ◌∙◌}
-use Rattle.delaunay_cli.specs.Stops.{status_of_end}
+use Rattle.command_words.specs.Stops.{status_of_end}
 use Rattle.delaunay_cli.proofs.work.close.Goals as goal
 use Rattle.delaunay_cli.proofs.work.close.Goals.{in-Some, in-None}
 

@@ -1,26 +1,13 @@
 use Rattle.std.proofs.Common.{refl, subst}
 use Rattle.std.proofs.lemmas.Bool.{both_ways}
 use Rattle.byte_ends.specs.Ends.{Rose}
-use Rattle.delaunay_cli.specs.declared.task.Task.{Task}
-use Rattle.delaunay_cli.specs.Tasks.{IsTask}
-use Rattle.delaunay_cli.specs.Words.{asks_drawn}
-use Rattle.delaunay_cli.proofs.CommandLine.{check_mesh, draws_file, near_file, parts_file, reads_file, steps_file}
-use Rattle.delaunay_cli.proofs.MadeAsAsked.{
-  checked_made,
-  checked_unmade,
-  checks_kind,
-  drawn_made,
-  mesh_within,
-  parted_made,
-  parted_unmade,
-  queried_made,
-  queried_unmade,
-  reported_made,
-  reads_within,
-  reported_unmade,
-  stepped_made,
-  stepped_unmade,
-}
+use Rattle.command_words.specs.declared.task.Task.{Task}
+use Rattle.command_words.specs.Tasks.{IsTask}
+use Rattle.command_words.specs.Words.{asks_drawn}
+use Rattle.command_words.proofs.Cited.{check_mesh, draws_file, near_file, parts_file, reads_file, steps_file}
+use Rattle.delaunay_cli.proofs.MadeAsAsked.{checked_made, checked_unmade, checks_kind, drawn_made, mesh_within}
+use Rattle.delaunay_cli.proofs.MadeAsAsked.{parted_made, parted_unmade, queried_made, queried_unmade, reported_made}
+use Rattle.delaunay_cli.proofs.MadeAsAsked.{reads_within, reported_unmade, stepped_made, stepped_unmade}
 use Rattle.delaunay_cli.proofs.work.make.Goals as goal
 
 pub returns-in-Report-clause-made : goal.returns-in-Report-clause-made

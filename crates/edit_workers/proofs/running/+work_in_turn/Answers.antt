@@ -1,7 +1,7 @@
 use Rattle.std.proofs.Common.{rules, arith, length}
 use Rattle.std.proofs.lemmas.List.{length-map}
-use Rattle.edit_workers.specs.declared.lists.List as lists
-use Rattle.edit_workers.specs.Dealing.{pairs_in}
+use Rattle.edit_lists.specs.declared.lists.List as lists
+use Rattle.edit_lists.specs.Dealing.{pairs_in}
 use Rattle.edit_workers.specs.Running.{AreWorked}
 use Rattle.edit_workers.proofs.Halves.{of_answer}
 use Rattle.edit_workers.proofs.running.+work_in_turn.Goals as goal

@@ -1,5 +1,5 @@
 use Rattle.std.proofs.Common.{◌≡◌, take}
-use Rattle.edit_workers.specs.Dealing.{all_of, pairs_in}
+use Rattle.edit_lists.specs.Dealing.{all_of, pairs_in}
 use Rattle.edit_workers.specs.Running.{AreApplied}
 use Rattle.edit_workers.proofs.running.apply_lists.Given as goal
 

@@ -2,8 +2,8 @@ use Rattle.std.proofs.Common.{◌∙◌, ap, arith, length, subst, sym, List}
 use Rattle.std.proofs.lemmas.List.{length-map}
 use Rattle.std.proofs.lemmas.List.Sorted.{length_permutation}
 use Rattle.plain_laws.specs.Running.{Pair}
-use Rattle.edit_workers.specs.declared.lists.List as lists
-use Rattle.edit_workers.specs.Dealing.{pairs_in}
+use Rattle.edit_lists.specs.declared.lists.List as lists
+use Rattle.edit_lists.specs.Dealing.{pairs_in}
 use Rattle.edit_workers.specs.Running.{AreApplied, AreByTag}
 use Rattle.edit_workers.proofs.Unworked.{run_by_tags, run_of_one_list}
 use Rattle.edit_workers.proofs.running.run_alone.Goals as goal

@@ -1,6 +1,6 @@
 use Rattle.std.proofs.Common.{length, arith, ap, subst, List}
 use Rattle.plain_laws.specs.Running.{Pair}
-use Rattle.edit_workers.specs.Dealing.{pairs_in}
+use Rattle.edit_lists.specs.Dealing.{pairs_in}
 use Rattle.edit_workers.specs.Running.{AreApplied}
 use Rattle.edit_workers.proofs.Partly.{room_left, whole_run}
 use Rattle.edit_workers.proofs.running.run_beside.Goals as goal

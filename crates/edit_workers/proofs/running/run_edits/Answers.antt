@@ -1,7 +1,7 @@
 use Rattle.std.proofs.Common.{rules, ◌≡◌, ◌<◌, ◌∙◌, arith, ap, get_or, length, subst, sym, List}
-use Rattle.edit_workers.specs.declared.lists.List as lists
-use Rattle.edit_workers.specs.declared.lists.Segment.{Segment}
-use Rattle.edit_workers.specs.Dealing.{CanBeDone, count_in_all, pairs_in}
+use Rattle.edit_lists.specs.declared.lists.List as lists
+use Rattle.edit_lists.specs.declared.lists.Segment.{Segment}
+use Rattle.edit_lists.specs.Dealing.{CanBeDone, count_in_all, pairs_in}
 use Rattle.edit_workers.specs.Running.{IsSegmentRun}
 use Rattle.edit_workers.proofs.Segments.{of_segment, room_next, run_all, run_next, run_nothing}
 use Rattle.edit_workers.proofs.running.run_edits.Goals as goal

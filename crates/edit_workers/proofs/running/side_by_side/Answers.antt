@@ -1,8 +1,8 @@
 use Rattle.std.proofs.Common.{ap, sym, ◌∙◌}
 use Rattle.std.proofs.lemmas.List.{length-map}
 use Rattle.cell_store.specs.Meshes.{MeshView}
-use Rattle.edit_workers.specs.declared.lists.List as lists
-use Rattle.edit_workers.specs.Dealing.{pairs_in}
+use Rattle.edit_lists.specs.declared.lists.List as lists
+use Rattle.edit_lists.specs.Dealing.{pairs_in}
 use Rattle.edit_workers.proofs.Halves.{mesh_run}
 use Rattle.edit_workers.proofs.running.side_by_side.Goals as goal
 

@@ -1,6 +1,7 @@
 use borrow.Author.Count.{falls}
 use Rattle.std.proofs.Common.{ℕ, List, ◌∷◌, [], ◌++◌, replicate, ◌∙◌, ap}
-use Rattle.grid_claims.proofs.OpeningSlots.{one_more_zero, same_end}
+use Rattle.grid_claims.proofs.OpeningSlots.{one_more_zero}
+use Rattle.claim_rule.proofs.Cited.{same_end}
 use Rattle.grid_claims.proofs.laying.first_words.Goals as goal
 
 pub loop-init : goal.loop-init

@@ -1,22 +1,5 @@
-use Rattle.std.proofs.Common.{
-  ◌≡◌,
-  ◌<◌,
-  ◌≤◌,
-  ◌-◌,
-  ◌*◌,
-  ℕ,
-  None,
-  [],
-  List,
-  length,
-  replicate,
-  refl,
-  sym,
-  ◌∙◌,
-  ap,
-  subst,
-  vec_capacity,
-}
+use Rattle.std.proofs.Common.{◌≡◌, ◌<◌, ◌≤◌, ◌-◌, ◌*◌, ℕ, None, [], List, length, replicate, refl, sym, ◌∙◌, ap, subst}
+use Rattle.std.proofs.Common.{vec_capacity}
 use Rattle.edit_history.specs.declared.history.Entry.{Entry}
 use Rattle.cell_store.specs.Buckets.{InHand, empty_hold}
 use Rattle.claim_rule.proofs.Cited.{as_counted}

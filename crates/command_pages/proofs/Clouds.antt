@@ -1,0 +1,47 @@
+-- The history of one thread of a file keeps it for every number of workers.
+use Rattle.std.specs.Prelude.{◌≡◌, ◌⊎◌, ℕ, ◌%◌, ◌<◌, List, [], Option, None, Some, IfSome}
+use Rattle.std.specs.Option.{option_map}
+use Rattle.std.proofs.Common.{sym, ◌∙◌, ap, subst, inl, arith}
+use Rattle.list_laws.proofs.Cited.{all_of_each, each_of_all}
+use Rattle.point_order.specs.Sets.{AreSamePoints, IsAscending, ascending}
+use Rattle.point_order.proofs.Cited.{ascending_is}
+use Rattle.edit_history.specs.declared.history.Edit.{Edit}
+use Rattle.edit_history.specs.declared.history.Entry.{Entry}
+use Rattle.edit_history.specs.Edits.{point_of}
+use Rattle.edit_history.specs.Histories.{replay}
+use Rattle.edit_history.specs.Laws.{KeepsLaw, ReplayLaw}
+use Rattle.edit_history.specs.Opening.{opening_four, FourPlaces}
+use Rattle.edit_history.specs.OneThread.{Keeps, one_thread, places}
+use Rattle.one_mesh.proofs.Cited.{found}
+pub use Rattle.one_mesh.proofs.Cited.{leaves_points, set_is}
+use Rattle.edit_files.specs.Content.{Content}
+use Rattle.command_pages.specs.Run.{AreDealt, IsKept}
+
+-- entries by 0 are entries by one of some workers
+any_workers : (points : List ℕ) (edits : List Edit) (workers : ℕ) (h : List Entry) → 0 < workers →
+    Keeps points edits 1 h → Keeps points edits workers h
+any_workers points edits workers h some k =
+    record {
+      opening = k.opening;
+      lines = k.lines;
+      order = k.order;
+      workers = all_of_each (λ (e : Entry). e.by < workers) h (λ e i. let b =
+          each_of_all (λ (e : Entry). e.by < 1) h k.workers e i in omega (arith, b, some));
+    }
+
+-- without edits it is the history of the points alone
+pub kept_by_any : (file : Content) (four : List ℕ) (h : List Entry) → KeepsLaw →
+    option_map places (opening_four file.points) ≡ Some four → file.edits ≡ []
+    → h ≡ one_thread file.points [] → (workers : ℕ) → 0 < workers → IsKept file workers h
+kept_by_any file four h law e none is workers some =
+    let same : h ≡ one_thread file.points file.edits = is ∙ ap (one_thread file.points) (sym none) in
+    let one = found (opening_four file.points) four e (law file.points file.edits) in
+    record {
+      keeps = subst (Keeps file.points file.edits workers) (sym same)
+          (any_workers file.points file.edits workers (one_thread file.points file.edits) some one);
+      alone = λ one. same;
+      dealt = subst (AreDealt workers) (sym same) (all_of_each
+          (λ (e : Entry). (e.by ≡ 0) ⊎ (e.by ≡ point_of e.edit % workers)) (one_thread file.points file.edits) (λ e i.
+          let b = each_of_all (λ (e : Entry). e.by < 1) (one_thread file.points file.edits) one.workers e i in
+          inl (omega (arith, b))));
+    }

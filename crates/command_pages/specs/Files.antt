@@ -1,0 +1,61 @@
+-- A file that is read: what is made of it, why no mesh is, and what a run that reads one promises of its end.
+use Rattle.std.specs.Prelude.{◌≡◌, ◌≢◌, ◌+◌, ◌≤◌, ◌<◌, ◌↔◌, ℕ, List, length, true, false, Option, IfSome, ⊤}
+use Rattle.point_order.specs.Solid.{is_solid}
+use Rattle.edit_history.specs.declared.history.Entry.{Entry}
+use Rattle.edit_files.specs.Content.{Content}
+use Rattle.edit_files.specs.Grammar.{IsFile}
+use Rattle.command_pages.specs.Taken.{file_limits}
+use Rattle.command_words.specs.declared.stop.Stop.{Stop}
+use Rattle.command_words.specs.declared.stop.Stop.TheVariants.{Memory, ReadFault, BadLine, Flat, TooLong}
+use Rattle.command_pages.specs.Report.{AreRadii}
+use Rattle.command_pages.specs.Run.{HasFault, IsKept, input_limit}
+use Rattle.command_pages.specs.Statuses.{HasText, IsEarly, IsFaultLine}
+
+-- the bytes, within the limit, are the file
+abbrev pub IsFileWithin : Content → List ℕ → Type 0
+IsFileWithin file bytes = (length bytes ≤ input_limit) × IsFile file_limits bytes file
+
+-- A file that was read: it has no more lines than are taken, its radii are in the range of its version, and it is what
+-- the source had left.
+pub record IsFileOf (left : Option (List ℕ)) (file : Content) : Type 0 where
+  pub lines : length file.points + length file.edits ≤ file_limits.lines
+  pub radii : AreRadii file.version file.radii
+  pub told : IfSome left (IsFileWithin file)
+
+-- The bytes, within the limit, are a solid file, which the history keeps for a number of workers, and of this file
+-- `P` holds.
+pub record IsOfFile (workers : ℕ) (h : List Entry) (P : Content → Type 0) (bytes : List ℕ) : Type 0 where
+  pub within : length bytes ≤ input_limit
+  pub file : Content
+  pub is_file : IsFile file_limits bytes file
+  pub solid : is_solid file.points ≡ true
+  pub kept : IsKept file workers h
+  pub text_is : P file
+
+-- the bytes are within the limit, and a file whose points lie in one plane
+abbrev pub IsFlatFile : List ℕ → Type 0
+IsFlatFile bytes =
+    (length bytes ≤ input_limit) × ((file : Content) × IsFile file_limits bytes file × (is_solid file.points ≡ false))
+
+-- why there is no mesh of a file, where the source had these bytes left, and by whether it failed
+abbrev pub HasNoMesh : Option (List ℕ) → Type 0 → Stop → Type 0
+HasNoMesh left failed Memory = ⊤
+HasNoMesh left failed ReadFault = failed
+HasNoMesh left failed (BadLine line) = IsFaultLine left line.items × IfSome left (λ bytes. length bytes ≤ input_limit)
+HasNoMesh left failed Flat = IfSome left IsFlatFile
+HasNoMesh left failed TooLong = IfSome left (λ bytes. input_limit < length bytes)
+HasNoMesh left failed stop = ⊥
+
+-- The statuses 7, 5 and 6 tell of these bytes.
+pub record TellsOfBytes (status : ℕ) (bytes : List ℕ) : Type 0 where
+  pub too_long : status ≡ 7 ↔ (input_limit < length bytes)
+  pub bad_line : status ≢ 7 → (status ≡ 5 ↔ HasFault bytes)
+  pub not_solid : status ≢ 7 → (file : Content) → IsFile file_limits bytes file →
+      (status ≡ 6 ↔ (is_solid file.points ≡ false))
+
+-- What a run that makes something of a file promises of its end, where `P` says of what bytes it is made: by what the
+-- source had left, and the status.
+pub record FileEnds (P : List ℕ → Type 0) (left : Option (List ℕ)) (status : ℕ) : Type 0 where
+  pub statuses : status ≤ 7
+  pub verdict : (IsEarly status → ⊥) → IfSome left (TellsOfBytes status)
+  pub made : HasText status → IfSome left P

@@ -1,0 +1,9 @@
+pub mod Taken
+pub mod Statuses
+pub mod Run
+pub mod Report
+pub mod Page
+pub mod Reading
+pub mod Files
+pub mod Checked
+pub mod Puts

@@ -1,0 +1,72 @@
+-- Why a run stops: the status and the line of each stop.
+use Rattle.std.specs.Prelude.{◌≡◌, ◌⊎◌, ◌==◌, ℕ, List, [], Option, None, Some, Result, Ok, Err, String, ⊤, codes}
+use Rattle.std.specs.Prelude.{if◌then◌else◌}
+use Rattle.std.specs.declared.alloc.Global.{Global}
+use Rattle.byte_ends.specs.declared.loops.ReadError.{ReadError}
+use Rattle.byte_ends.specs.declared.loops.ReadError.TheVariants.{Fault as SourceFault, Memory as NoRoom}
+use Rattle.command_words.specs.declared.stop.Stop.{Stop}
+use Rattle.command_words.specs.declared.stop.Stop.TheVariants.{Memory, Usage, ReadFault, WriteFault, BadLine, Flat}
+use Rattle.command_words.specs.declared.stop.Stop.TheVariants.{TooLong, NoPart, NoAlpha, BadMesh}
+use Rattle.command_words.specs.Words.{AreWordsTaken}
+
+abbrev pub status_of : Stop → ℕ
+status_of Memory = 1
+status_of Usage = 2
+status_of ReadFault = 3
+status_of WriteFault = 4
+status_of (BadLine line) = 5
+status_of Flat = 6
+status_of TooLong = 7
+status_of NoPart = 8
+status_of NoAlpha = 9
+status_of BadMesh = 10
+
+-- the line of a status other than 5
+abbrev pub plain_line : ℕ → List ℕ
+plain_line status =
+    if status == 1 then codes "delaunay: out of memory\n"
+    else (if status == 2 then codes "delaunay: usage\n"
+    else (if status == 3 then codes "delaunay: read fault\n"
+    else (if status == 4 then codes "delaunay: write fault\n"
+    else (if status == 6 then codes "delaunay: no four independent points\n"
+    else (if status == 7 then codes "delaunay: input too long\n"
+    else (if status == 8 then codes "delaunay: no such part\n"
+    else (if status == 9 then codes "delaunay: no such alpha\n"
+    else (if status == 10 then codes "delaunay: bad mesh\n"
+    else []))))))))
+
+-- the line of a fault if there is one, and else that of the status
+abbrev pub line_of_stop : Stop → List ℕ
+line_of_stop (BadLine line) = line.items
+line_of_stop stop = plain_line (status_of stop)
+
+-- the status of an end, 0 where nothing stopped the run, and its line
+abbrev pub status_of_end : Option Stop → ℕ
+status_of_end None = 0
+status_of_end (Some stop) = status_of stop
+
+abbrev pub line_of_end : Option Stop → List ℕ
+line_of_end None = []
+line_of_end (Some stop) = line_of_stop stop
+
+-- what a command may tell of what it made: the run ends so where the text is written whole
+abbrev pub IsLate : Option Stop → Type 0
+IsLate None = ⊤
+IsLate (Some NoPart) = ⊤
+IsLate (Some NoAlpha) = ⊤
+IsLate (Some BadMesh) = ⊤
+IsLate (Some stop) = ⊥
+
+-- the status where a command has made something or has stopped
+abbrev pub status_of_made : {A : Type 0} → Result A Stop → ℕ
+status_of_made (Ok made) = 0
+status_of_made (Err stop) = status_of stop
+
+-- why a reading stopped
+abbrev pub stop_of_read : ReadError → Stop
+stop_of_read SourceFault = ReadFault
+stop_of_read NoRoom = Memory
+
+-- why words are not read
+abbrev pub AreRefused : List (String Global) → Stop → Type 0
+AreRefused words stop = (stop ≡ Memory) ⊎ ((stop ≡ Usage) × (AreWordsTaken words → ⊥))
