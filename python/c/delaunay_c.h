@@ -6,7 +6,7 @@
  * What each call answers is proved of the places that it reads and the rows that it writes; docs/BINDINGS.md says it
  * whole. What the caller owes, no one checks:
  *
- * - No pointer is null, also where its length is 0, and each is aligned for what it points to.
+ * - Each pointer is aligned for what it points to, and none is null, but that of an array whose length is 0 may be.
  * - Each length is true: so many rows may be read of what is const, and read and written of the rest.
  * - Rooms overlap neither one another nor the places that are read, and nobody else reads or writes any of them during
  *   the call. Calls from several threads, each with rooms of its own, may run at once.
@@ -25,14 +25,17 @@ extern "C" {
 #endif
 
 /* What a call answers. Where it is not DELAUNAY_C_OK, all that the call would write is as before, but for the sizes at
- * DELAUNAY_C_ROOM, and the mesh of a handle is as before: that is proved. */
+ * DELAUNAY_C_ROOM, and the mesh of a handle is as before; the calls for many say below what they leave. What is behind
+ * the rows that a call writes into a room is always as before. All this is proved. */
 enum delaunay_c_status {
     DELAUNAY_C_OK = 0,      /* all is written, and the sizes tell how many rows */
-    DELAUNAY_C_MEMORY = 1,  /* malloc or realloc failed, or there are more cells or edits than 32 bits count */
-    DELAUNAY_C_OUTSIDE = 2, /* a coordinate is not 0 to 16383 */
+    DELAUNAY_C_MEMORY = 1,  /* malloc or realloc failed, or a count inside of the library needs more than 32 bits */
+    DELAUNAY_C_OUTSIDE = 2, /* a coordinate is not 0 to 16383; of an edit and of a look, told before all else */
     DELAUNAY_C_FLAT = 3,    /* no four of the points are independent: all lie in one plane */
     DELAUNAY_C_ROOM = 4,    /* a room has too few rows; the sizes tell how many rows are wanted of each */
-    DELAUNAY_C_EMPTY = 5    /* the handle has no mesh */
+    DELAUNAY_C_EMPTY = 5,   /* the handle has no mesh */
+    DELAUNAY_C_FULL = 6,    /* of rows: 2^32 points or cells; of an edit: 2^32 points and edits were put in before */
+    DELAUNAY_C_KIND = 7     /* an edit has none of the three kinds */
 };
 
 /* In the place of a neighbour where a triangle of the hull is. */
@@ -82,7 +85,8 @@ struct delaunay_c_face_sizes {
  * hull        the triangles of the hull, in lexicographic order
  *
  * Each length counts rows. Ties are broken by one fixed rule, so that the answer does not go by the order of the
- * places. For n points drawn alike some 7 n cells come; there may be n * n. */
+ * places. For n points drawn alike some 7 n cells come; there may be n * n. OK, MEMORY, OUTSIDE, FLAT,
+ * ROOM or FULL. */
 uint8_t delaunay_c_mesh(const struct delaunay_c_place *given, size_t given_len, struct delaunay_c_place *points,
                         size_t points_len, struct delaunay_c_cell *cells, size_t cells_len,
                         struct delaunay_c_cell *neighbours, size_t neighbours_len, struct delaunay_c_triangle *hull,
@@ -128,25 +132,26 @@ enum delaunay_c_reply {
 };
 
 /* Puts the mesh of the points at the given places, in any order, of which some may be equal, into the handle. A mesh
- * that was there is freed. OK, MEMORY, OUTSIDE or FLAT. */
+ * that was there is freed. OK, MEMORY, OUTSIDE, FLAT or FULL. */
 uint8_t delaunay_c_open(struct delaunay_c_handle *handle, const struct delaunay_c_place *given, size_t given_len);
 
 /* Frees the mesh, if there is one, and leaves the handle with none. */
 void delaunay_c_close(struct delaunay_c_handle *handle);
 
 /* Edits, each with its reply. The mesh is then that of the points that all edits since delaunay_c_open leave; it does
- * not go by their order otherwise. OK, MEMORY, OUTSIDE or EMPTY. A move takes the point away and adds it at the other
- * place in one step: no one sees the mesh without it. */
+ * not go by their order otherwise. OK, MEMORY, OUTSIDE, EMPTY or FULL; OUTSIDE before EMPTY, where both hold. A move
+ * takes the point away and adds it at the other place in one step: no one sees the mesh without it. */
 uint8_t delaunay_c_add(struct delaunay_c_handle *handle, const struct delaunay_c_place *place, uint8_t *reply);
 uint8_t delaunay_c_take(struct delaunay_c_handle *handle, const struct delaunay_c_place *place, uint8_t *reply);
 uint8_t delaunay_c_move(struct delaunay_c_handle *handle, const struct delaunay_c_place *from,
                         const struct delaunay_c_place *to, uint8_t *reply);
 
-/* How many points, cells and triangles of the hull the mesh has, in the time of delaunay_c_complex. OK, MEMORY or
- * EMPTY. */
+/* How many points, cells and triangles of the hull the mesh has, in the time of delaunay_c_complex. OK, MEMORY, EMPTY
+ * or FULL. */
 uint8_t delaunay_c_counts(struct delaunay_c_handle *handle, struct delaunay_c_mesh_sizes *sizes);
 
-/* The points, cells, neighbours and hull of the mesh, as delaunay_c_mesh writes them. OK, MEMORY, ROOM or EMPTY. */
+/* The points, cells, neighbours and hull of the mesh, as delaunay_c_mesh writes them. OK, MEMORY, ROOM, EMPTY or
+ * FULL. */
 uint8_t delaunay_c_complex(struct delaunay_c_handle *handle, struct delaunay_c_place *points, size_t points_len,
                            struct delaunay_c_cell *cells, size_t cells_len, struct delaunay_c_cell *neighbours,
                            size_t neighbours_len, struct delaunay_c_triangle *hull, size_t hull_len,
@@ -163,15 +168,49 @@ struct delaunay_c_located {
     struct delaunay_c_place a, b, c, d;
 };
 
-/* OK, OUTSIDE or EMPTY; it takes no memory. A point that were added there would take this cell away. On the sphere, or
- * in the plane of a triangle, the one rule by which ties are broken decides. */
+/* OK, OUTSIDE or else EMPTY; it takes no memory. A point that were added there would take this cell away. On the
+ * sphere, or in the plane of a triangle, the one rule by which ties are broken decides. */
 uint8_t delaunay_c_locate(struct delaunay_c_handle *handle, const struct delaunay_c_place *place,
                           struct delaunay_c_located *located);
 
 /* The point of the mesh that is nearest to a place, among those as near the one that comes first by x, then y, then z.
- * OK, OUTSIDE or EMPTY; it takes no memory. */
+ * OK, OUTSIDE or else EMPTY; it takes no memory. */
 uint8_t delaunay_c_nearest(struct delaunay_c_handle *handle, const struct delaunay_c_place *place,
                            struct delaunay_c_place *nearest);
+
+/* ---- many at once
+ *
+ * Each of these does what so many single calls in a row do, in their order, up to the first that would not answer OK.
+ * `count` then tells how many were done, from the first on, each with its row in the room. The status is that of the
+ * first that was not, whose index is `count`, and OK where there is none: what was done before it stands, and the
+ * others were not begun.
+ *
+ * ROOM comes before all that: the room has fewer rows than there are edits or places. Then nothing was begun, and
+ * `count` tells how many rows are wanted. */
+
+enum delaunay_c_edit_kind {
+    DELAUNAY_C_ADD = 0,  /* as delaunay_c_add of `place` */
+    DELAUNAY_C_TAKE = 1, /* as delaunay_c_take of `place` */
+    DELAUNAY_C_MOVE = 2  /* as delaunay_c_move of `place` to `to` */
+};
+struct delaunay_c_edit {
+    uint32_t kind;
+    struct delaunay_c_place place, to; /* `to` of a move alone */
+};
+
+/* Edits, each with its reply. OK, ROOM, or MEMORY, OUTSIDE, EMPTY, FULL or KIND of the first that was not made. */
+uint8_t delaunay_c_edit_many(struct delaunay_c_handle *handle, const struct delaunay_c_edit *edits, size_t edits_len,
+                             uint8_t *replies, size_t replies_len, uint64_t *count);
+
+/* Where places lie. OK, ROOM, or OUTSIDE or EMPTY of the first that was not located; it takes no memory. */
+uint8_t delaunay_c_locate_many(struct delaunay_c_handle *handle, const struct delaunay_c_place *places,
+                               size_t places_len, struct delaunay_c_located *located, size_t located_len,
+                               uint64_t *count);
+
+/* The nearest points. OK, ROOM, or OUTSIDE or EMPTY of the first that was not found; it takes no memory. */
+uint8_t delaunay_c_nearest_many(struct delaunay_c_handle *handle, const struct delaunay_c_place *places,
+                                size_t places_len, struct delaunay_c_place *nearest, size_t nearest_len,
+                                uint64_t *count);
 
 #ifdef __cplusplus
 }

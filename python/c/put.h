@@ -14,8 +14,8 @@ static void *room(uint64_t rows, size_t size) {
     return block;
 }
 
-static void put_mesh(const struct delaunay_c_place *points, const struct delaunay_c_cell *cells,
-                     const struct delaunay_c_triangle *hull, const struct delaunay_c_mesh_sizes *n) {
+static inline void put_mesh(const struct delaunay_c_place *points, const struct delaunay_c_cell *cells,
+                            const struct delaunay_c_triangle *hull, const struct delaunay_c_mesh_sizes *n) {
     printf("points %" PRIu64 "\n", n->points);
     for (uint64_t i = 0; i < n->points; i++) {
         printf("%" PRId64 " %" PRId64 " %" PRId64 "\n", points[i].x, points[i].y, points[i].z);

@@ -130,6 +130,58 @@ static long refused_edit(int (*call)(void), int wanted) {
     }
 }
 
+enum { MANY = 6 };
+
+/* The same of edits by one call: at a refusal those before it stand, and the others, made then, come to the same. */
+static long refused_many(void) {
+    struct delaunay_c_edit many[MANY];
+    uint8_t replies[MANY + 1], wanted[MANY] = {DELAUNAY_C_INSERTED, DELAUNAY_C_DUPLICATE, DELAUNAY_C_REMOVED,
+                                               DELAUNAY_C_MISSING, DELAUNAY_C_MOVED, DELAUNAY_C_INSERTED};
+    memset(many, 0, sizeof many);
+    for (int i = 0; i < MANY; i++) {
+        static const uint32_t kinds[MANY] = {DELAUNAY_C_ADD, DELAUNAY_C_ADD, DELAUNAY_C_TAKE,
+                                             DELAUNAY_C_TAKE, DELAUNAY_C_MOVE, DELAUNAY_C_ADD};
+        static const int64_t drop[MANY] = {0, 0, 3, 3, 4, 1};
+        many[i].kind = kinds[i];
+        many[i].place = kinds[i] == DELAUNAY_C_ADD ? (struct delaunay_c_place){31, 32, 33 + drop[i]} : given[drop[i]];
+        many[i].to = (struct delaunay_c_place){51, 52, 53};
+    }
+    for (long n = -1;; n++) {
+        uint64_t count = 99, rest = 0;
+        struct rooms now;
+        memset(replies, 0x5a, sizeof replies);
+        if (delaunay_c_open(&handle, given, COUNT - 5) != DELAUNAY_C_OK) {
+            return -1;
+        }
+        refuse_at = n;
+        int status = delaunay_c_edit_many(&handle, many, MANY, replies, MANY + 1, &count);
+        int was_refused = n >= 0 && refuse_at < 0;
+        refuse_at = -1;
+        if (status == DELAUNAY_C_MEMORY ? count >= MANY : status != DELAUNAY_C_OK || count != MANY) {
+            return -1;
+        }
+        for (uint64_t i = count; i <= MANY; i++) {
+            if (replies[i] != 0x5a) {
+                return -1;
+            }
+        }
+        if (delaunay_c_edit_many(&handle, many + count, MANY - count, replies + count, MANY - count, &rest) !=
+                DELAUNAY_C_OK ||
+            rest != MANY - count || memcmp(replies, wanted, MANY) != 0 || look(&now) != DELAUNAY_C_OK) {
+            return -1;
+        }
+        if (n < 0) {
+            memcpy(&want, &now, sizeof now);
+        }
+        if (memcmp(&want, &now, sizeof now) != 0) {
+            return -1;
+        }
+        if (n >= 0 && !was_refused) {
+            return status == DELAUNAY_C_OK ? n : -1;
+        }
+    }
+}
+
 int main(void) {
     uint32_t drawn = 1;
     for (int i = 0; i < COUNT; i++) {
@@ -148,13 +200,15 @@ int main(void) {
     printf("refusals: %ld of a mesh, %ld of alphas\n", of_mesh, of_alphas);
     long of_open = refused_edit(opens, 99), of_add = refused_edit(adds, DELAUNAY_C_INSERTED);
     long of_take = refused_edit(takes, DELAUNAY_C_REMOVED), of_move = refused_edit(moves, DELAUNAY_C_MOVED);
-    long of_complex = refused(edited);
+    long of_complex = refused(edited), of_many = refused_many();
     delaunay_c_close(&handle);
-    if (of_open <= 0 || of_add <= 0 || of_take <= 0 || of_move <= 0 || of_complex <= 0) {
-        printf("a wrong answer after a refusal: %ld %ld %ld %ld %ld\n", of_open, of_add, of_take, of_move, of_complex);
+    if (of_open <= 0 || of_add <= 0 || of_take <= 0 || of_move <= 0 || of_complex <= 0 || of_many <= 0) {
+        printf("a wrong answer after a refusal: %ld %ld %ld %ld %ld %ld\n", of_open, of_add, of_take, of_move,
+               of_complex, of_many);
         return 1;
     }
-    printf("refusals: %ld of opening, %ld of an add, %ld of a take, %ld of a move, %ld of a complex\n", of_open, of_add,
+    printf("refusals: %ld of opening, %ld of an add, %ld of a take, %ld of a move, %ld of a complex, ", of_open, of_add,
            of_take, of_move, of_complex);
+    printf("%ld of many edits\n", of_many);
     return 0;
 }

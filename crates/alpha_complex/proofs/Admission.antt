@@ -1,44 +1,10 @@
 -- What the judging by lists comes to: which faces are admitted, and of which kind.
-use Rattle.std.proofs.Common.{
-  ◌≡◌,
-  refl,
-  sym,
-  subst,
-  ap,
-  ◌∙◌,
-  ℕ,
-  ◌<◌,
-  inl,
-  inr,
-  Bool,
-  true,
-  false,
-  List,
-  [],
-  ◌∷◌,
-  ◌++◌,
-  map,
-  length,
-  arith,
-}
+use Rattle.std.proofs.Common.{◌≡◌, refl, sym, subst, ap, ◌∙◌, ℕ, ◌<◌, inl, inr, Bool, true, false, List, [], ◌∷◌, ◌++◌}
+use Rattle.std.proofs.Common.{map, length, arith}
 use Rattle.std.specs.Prelude.{◌&&◌, ◌||◌}
 use Rattle.std.specs.List.{filter, list_all, list_any}
-use Rattle.list_laws.proofs.Cited.{
-  any_from,
-  any_true,
-  both_true,
-  filtered_from,
-  filtered_true,
-  first_true,
-  from_append,
-  in_left,
-  in_right,
-  left_true,
-  one_true,
-  right_true,
-  same_test,
-  second_true,
-}
+use Rattle.list_laws.proofs.Cited.{any_from, any_true, both_true, filtered_from, filtered_true, first_true, from_append}
+use Rattle.list_laws.proofs.Cited.{in_left, in_right, left_true, one_true, right_true, same_test, second_true}
 use Rattle.point_order.specs.declared.cell.Cell.{Cell}
 use Rattle.point_order.specs.declared.cell.Cell.TheVariants.{Full, Open}
 use Rattle.point_order.specs.declared.cell.Facet.{Facet}
@@ -51,44 +17,16 @@ use Rattle.point_order.specs.Subsets.{subsets}
 use Rattle.del_laws.specs.Keys.{AreKeys}
 use Rattle.del_laws.proofs.Cited.{listed_every_point, listed_is_cell, part_ascending, part_inside, part_true}
 use Rattle.face_list.specs.Faces.{full_cells, parts_in, cells_with, points_with_cells, with_cells_around}
-use Rattle.face_list.proofs.Cited.{
-  full_cell_is_listed,
-  listed_is_full_cell,
-  listed_is_part,
-  part_is_listed,
-  part_length,
-}
+use Rattle.face_list.proofs.Cited.{full_cell_is_listed, listed_is_full_cell, listed_is_part, part_is_listed}
+use Rattle.face_list.proofs.Cited.{part_length}
 use Rattle.gabriel_faces.specs.Gabriel.{is_gabriel}
-use Rattle.alpha_complex.specs.Admitted.{
-  is_within,
-  faces_inside,
-  contains,
-  is_small,
-  is_admitted,
-  is_admitted_cell,
-  kind_by,
-  kind,
-}
-use Rattle.alpha_complex.specs.Judged.{
-  is_listed,
-  is_small_cell,
-  is_listed_around,
-  covers,
-  is_small_by,
-  admitted_triples,
-  is_admitted_triple,
-  is_admitted_pair,
-  kinds_by,
-}
+use Rattle.alpha_complex.specs.Admitted.{is_within, faces_inside, contains, is_small, is_admitted, is_admitted_cell}
+use Rattle.alpha_complex.specs.Admitted.{kind_by, kind}
+use Rattle.alpha_complex.specs.Judged.{is_listed, is_small_cell, is_listed_around, covers, is_small_by}
+use Rattle.alpha_complex.specs.Judged.{admitted_triples, is_admitted_triple, is_admitted_pair, kinds_by}
 use Rattle.alpha_complex.specs.Shapes.{admitted_among}
-use Rattle.alpha_complex.proofs.Parts.{
-  contained_true,
-  contains_itself,
-  contains_through,
-  not_in_shorter,
-  whole_only,
-  same_face,
-}
+use Rattle.alpha_complex.proofs.Parts.{contained_true, contains_itself, contains_through, not_in_shorter, whole_only}
+use Rattle.alpha_complex.proofs.Parts.{same_face}
 use Rattle.alpha_complex.proofs.SmallFaces.{listed_from, listed_true, all_same, any_same, admitted_are}
 
 -- ---- Full cells of a complex
@@ -360,7 +298,7 @@ admitted_triple_is s alpha p l i = same_test (is_admitted_triple alpha (p, cells
 -- ---- pairs
 
 -- a triple of a Full cell is one of its facets
-triple_facet : (q t : List ℕ) → length q ≡ 4 → IsIn t (subsets 3 q) → IsIn (Three t) (facets_of (Full q))
+pub triple_facet : (q t : List ℕ) → length q ≡ 4 → IsIn t (subsets 3 q) → IsIn (Three t) (facets_of (Full q))
 triple_facet [] t e i = absurd (omega arith)
 triple_facet (a ∷ []) t e i = absurd (omega arith)
 triple_facet (a ∷ b ∷ []) t e i = absurd (omega arith)
@@ -509,20 +447,27 @@ pub small_cell_is : (s : List ℕ) (alpha : ℕ) (c : Cell) → IsAscending s �
 small_cell_is s alpha (Open t) a i = refl
 small_cell_is s alpha (Full q) a i = admitted_cell_is s alpha q a i
 
+-- so some of those around a face are within alpha exactly where some are admitted
+pub some_cell_is : (s : List ℕ) (alpha : ℕ) (p : List ℕ) → IsAscending s →
+    list_any (is_small_cell alpha) (cells_with p (complex s)) ≡ list_any (is_admitted_cell s alpha)
+    (cells_with p (complex s))
+some_cell_is s alpha p a =
+    any_same (is_small_cell alpha) (is_admitted_cell s alpha) (cells_with p (complex s))
+    (λ c i. small_cell_is s alpha c a (filtered_from (λ c. contains (points_of c) p) (complex s) c i).0)
+
+-- and all of them exactly where all are
+pub all_cells_are : (s : List ℕ) (alpha : ℕ) (p : List ℕ) → IsAscending s →
+    list_all (is_small_cell alpha) (cells_with p (complex s)) ≡ list_all (is_admitted_cell s alpha)
+    (cells_with p (complex s))
+all_cells_are s alpha p a =
+    all_same (is_small_cell alpha) (is_admitted_cell s alpha) (cells_with p (complex s))
+    (λ c i. small_cell_is s alpha c a (filtered_from (λ c. contains (points_of c) p) (complex s) c i).0)
+
 -- they tell the kind of a face
 pub kind_is : (s : List ℕ) (alpha : ℕ) (p : List ℕ) → IsAscending s →
     kind_by (is_small_cell alpha) (cells_with p (complex s)) ≡ kind s alpha p
 unfolding kind
-kind_is s alpha p a = (
-    let same = λ (c : Cell) (i : IsIn c (cells_with p (complex s))). small_cell_is s alpha c a
-    (filtered_from (λ c. contains (points_of c) p) (complex s) c i).0 in
-    let f : list_all (is_small_cell alpha) (cells_with p (complex s)) ≡ list_all (is_admitted_cell s alpha)
-    (cells_with p (complex s)) = all_same (is_small_cell alpha) (is_admitted_cell s alpha) (cells_with p (complex s))
-    same in
-    let g : list_any (is_small_cell alpha) (cells_with p (complex s)) ≡ list_any (is_admitted_cell s alpha)
-    (cells_with p (complex s)) = any_same (is_small_cell alpha) (is_admitted_cell s alpha) (cells_with p (complex s))
-    same in
-    rw (f, g) refl)
+kind_is s alpha p a = rw (all_cells_are s alpha p a, some_cell_is s alpha p a) refl
 
 -- ---- the shape
 

@@ -1,25 +1,6 @@
 -- The kinds that numbers of faces tell, and what slots of these kinds hold.
-use Rattle.std.proofs.Common.{
-  ◌≡◌,
-  refl,
-  ap,
-  ◌∙◌,
-  ℕ,
-  ◌<◌,
-  ◌≤◌,
-  ◌^◌,
-  arith,
-  inl,
-  inr,
-  Bool,
-  true,
-  false,
-  List,
-  [],
-  ◌∷◌,
-  map,
-  nat_le,
-}
+use Rattle.std.proofs.Common.{◌≡◌, refl, ap, ◌∙◌, ℕ, ◌<◌, ◌≤◌, ◌^◌, arith, inl, inr, Bool, true, false, List, [], ◌∷◌}
+use Rattle.std.proofs.Common.{map, nat_le}
 use Rattle.std.specs.Prelude.{zip}
 use Rattle.std.specs.List.{filter, list_all, list_any}
 use Rattle.std.proofs.lemmas.Bool.Decides.{nat_tests}

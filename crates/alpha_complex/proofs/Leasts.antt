@@ -1,35 +1,6 @@
 -- The least alphas of tests that are put together.
-use Rattle.std.proofs.Common.{
-  ◌≡◌,
-  refl,
-  sym,
-  subst,
-  ap,
-  ◌∙◌,
-  ℕ,
-  zero,
-  suc,
-  ◌<◌,
-  ◌+◌,
-  ◌^◌,
-  min,
-  max,
-  Bool,
-  true,
-  false,
-  List,
-  [],
-  ◌∷◌,
-  ◌++◌,
-  map,
-  drop,
-  length,
-  get_or,
-  arith,
-  nat_le,
-  take,
-  append-nil,
-}
+use Rattle.std.proofs.Common.{◌≡◌, refl, sym, subst, ap, ◌∙◌, ℕ, zero, suc, ◌<◌, ◌+◌, ◌^◌, min, max, Bool, true, false}
+use Rattle.std.proofs.Common.{List, [], ◌∷◌, ◌++◌, map, drop, length, get_or, arith, nat_le, take, append-nil}
 use Rattle.std.specs.Prelude.{map, not, ◌&&◌, ◌||◌}
 use Rattle.std.specs.List.{AllZip, filter, flat_map, list_all, list_any}
 use Rattle.std.proofs.lemmas.Bool.Decides.{nat_tests}
@@ -111,10 +82,6 @@ abbrev pub AllLeft : {N X : Type 0} → (ℕ → X → Bool) → (N → X) → L
 AllLeft t f ns i most = (a : ℕ) → a < 2 ^ 34 →
     (nat_le most a && list_all (t a) (map f (drop i ns))) ≡ list_all (t a) (map f ns)
 
--- before the first element the number is 2^34
-pub any_start : {N X : Type 0} (t : ℕ → X → Bool) (f : N → X) (ns : List N) → AnyLeft t f ns 0 17179869184
-any_start t f ns a l = ap (λ b. b || list_any (t a) (map f ns)) (beyond a l)
-
 -- the lesser with the number of the next
 pub any_step :
     {N X : Type 0} (t : ℕ → X → Bool) (f : N → X) (ns : List N) (i : ℕ) (d : N) (least m r : ℕ) → i < length ns →
@@ -128,13 +95,6 @@ any_step {N} {X} t f ns i d least m r h e q left a l =
     ∙ ap (λ (v : List N). nat_le least a || list_any (t a) (map f v)) (sym (drop_more ns i d h))
     ∙ left a l
 
--- at the end it is the least alpha of one of them passing
-pub any_end : {N X : Type 0} (t : ℕ → X → Bool) (f : N → X) (ns : List N) (i least : ℕ) → length ns ≡ i →
-    AnyLeft t f ns i least → IsLeastOf (λ a. list_any (t a) (map f ns)) least
-any_end {N} {X} t f ns i least e left a l =
-    sym (left a l) ∙ ap (λ (v : List N). nat_le least a || list_any (t a) (map f v)) (drop_all i ns (omega (arith, e)))
-    ∙ or-false (nat_le least a)
-
 -- the greater with the number of the next
 pub all_step :
     {N X : Type 0} (t : ℕ → X → Bool) (f : N → X) (ns : List N) (i : ℕ) (d : N) (most m r : ℕ) → i < length ns →
@@ -147,13 +107,6 @@ all_step {N} {X} t f ns i d most m r h e q left a l =
     ∙ ap (λ b. nat_le most a && (b && rest)) (sym (e a l))
     ∙ ap (λ (v : List N). nat_le most a && list_all (t a) (map f v)) (sym (drop_more ns i d h))
     ∙ left a l
-
--- at the end it is the least alpha of all passing
-pub all_end : {N X : Type 0} (t : ℕ → X → Bool) (f : N → X) (ns : List N) (i most : ℕ) → length ns ≡ i →
-    AllLeft t f ns i most → IsLeastOf (λ a. list_all (t a) (map f ns)) most
-all_end {N} {X} t f ns i most e left a l =
-    sym (left a l) ∙ ap (λ (v : List N). nat_le most a && list_all (t a) (map f v)) (drop_all i ns (omega (arith, e)))
-    ∙ and-true (nat_le most a)
 
 -- ---- lists of numbers
 
@@ -203,24 +156,3 @@ written_is_map {X} {Y} f d e xs n slice before ys v k m a h =
     ∙ sym (get_or-map f xs i d e (subst (λ (j : ℕ). i < j) count l)))
 
 -- ---- Gabriel faces, point by point
-
--- a face is Gabriel in two lists where it is in both
-pub gabriel_append : (l m face : List ℕ) → is_gabriel (l ++ m) face ≡ (is_gabriel l face && is_gabriel m face)
-gabriel_append l m [] = refl
-gabriel_append l m (a ∷ []) = refl
-gabriel_append l m (a ∷ b ∷ []) = list_all-append (λ e. not (is_inside_edge a b e)) l m
-gabriel_append l m (a ∷ b ∷ c ∷ []) = list_all-append (λ e. not (is_inside_triangle a b c e)) l m
-gabriel_append l m (a ∷ b ∷ c ∷ d ∷ face) = refl
-
--- and in none
-pub gabriel_none : (face : List ℕ) → is_gabriel [] face ≡ true
-gabriel_none [] = refl
-gabriel_none (a ∷ []) = refl
-gabriel_none (a ∷ b ∷ []) = refl
-gabriel_none (a ∷ b ∷ c ∷ []) = refl
-gabriel_none (a ∷ b ∷ c ∷ d ∷ face) = refl
-
--- the points of one cell more
-pub link_more : (face : List ℕ) (c : Cell) (cells : List Cell) →
-    link_of face (c ∷ cells) ≡ filter (λ p. not (is_among p face)) (points_of c) ++ link_of face cells
-link_more face c cells = filter-append (λ p. not (is_among p face)) (points_of c) (flat_map points_of cells)

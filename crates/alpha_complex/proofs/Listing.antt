@@ -1,24 +1,6 @@
 -- The triple that a search finds among faces in order.
-use Rattle.std.proofs.Common.{
-  ◌≡◌,
-  sym,
-  subst,
-  ap,
-  ◌∙◌,
-  ℕ,
-  ◌<◌,
-  inl,
-  inr,
-  true,
-  false,
-  List,
-  [],
-  ◌∷◌,
-  map,
-  length,
-  get_or,
-  arith,
-}
+use Rattle.std.proofs.Common.{◌≡◌, sym, subst, ap, ◌∙◌, ℕ, ◌<◌, inl, inr, true, false, List, [], ◌∷◌, map, length}
+use Rattle.std.proofs.Common.{get_or, arith}
 use Rattle.std.specs.List.{filter, list_any}
 use Rattle.std.specs.List.Sorted.{IsStrictlySortedBy}
 use Rattle.std.specs.Ordering.{nat_cmp, is_eq}
@@ -32,19 +14,8 @@ use Rattle.point_order.specs.Sets.{IsIn}
 use Rattle.alpha_complex.specs.Judged.{admitted_triples, is_admitted_triple, is_listed}
 use Rattle.alpha_complex.specs.Leasts.{AreOrdered}
 use Rattle.std.proofs.lemmas.List.{get_or-map, length-map}
-use Rattle.list_laws.proofs.Cited.{
-  any_true,
-  at_in,
-  each_by,
-  filtered_from,
-  filtered_true,
-  itself,
-  mapped_from,
-  mapped_true,
-  same_list,
-  same_test,
-  true_or_false,
-}
+use Rattle.list_laws.proofs.Cited.{any_true, at_in, each_by, filtered_from, filtered_true, itself, mapped_from}
+use Rattle.list_laws.proofs.Cited.{mapped_true, same_list, same_test, true_or_false}
 use Rattle.alpha_complex.proofs.SmallFaces.{listed_from, listed_true}
 
 -- of faces in order no two have the same points

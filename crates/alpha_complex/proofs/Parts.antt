@@ -1,24 +1,6 @@
 -- Parts of ascending lists of points: how long they are, and which parts contain which.
-use Rattle.std.proofs.Common.{
-  ◌≡◌,
-  sym,
-  subst,
-  ap,
-  ◌∙◌,
-  ℕ,
-  zero,
-  suc,
-  ◌<◌,
-  inl,
-  inr,
-  true,
-  List,
-  [],
-  ◌∷◌,
-  map,
-  length,
-  arith,
-}
+use Rattle.std.proofs.Common.{◌≡◌, sym, subst, ap, ◌∙◌, ℕ, zero, suc, ◌<◌, inl, inr, true, List, [], ◌∷◌, map, length}
+use Rattle.std.proofs.Common.{arith}
 use Rattle.list_laws.proofs.Cited.{all_from, all_true, among_from, among_true, from_append, mapped_from}
 use Rattle.point_order.specs.Sets.{IsIn, IsAscending, is_among}
 use Rattle.point_order.specs.Subsets.{subsets}
@@ -26,7 +8,7 @@ use Rattle.del_laws.proofs.Cited.{part_true}
 use Rattle.alpha_complex.specs.Admitted.{contains}
 
 -- a list has no part that is longer
-no_longer : (k : ℕ) (t p : List ℕ) → length t < k → IsIn p (subsets k t) → ⊥
+pub no_longer : (k : ℕ) (t p : List ℕ) → length t < k → IsIn p (subsets k t) → ⊥
 no_longer zero t p l m = absurd (omega arith)
 no_longer (suc k) [] p l m = m
 no_longer (suc k) (x ∷ t) p l m = elim (from_append p (map (λ r. x ∷ r) (subsets k t)) (subsets (suc k) t) m) [

@@ -15,15 +15,8 @@ use Rattle.alpha_complex.specs.Judged.{is_admitted_triple, is_admitted_pair, kin
 use Rattle.alpha_complex.specs.Leasts.{AreOrdered}
 use Rattle.alpha_complex.specs.Shapes.{shape_of}
 use Rattle.alpha_complex.proofs.SmallFaces.{firsts_are, small_by_link}
-use Rattle.alpha_complex.proofs.Admission.{
-  Linked,
-  triples_of,
-  admitted_cell_is,
-  admitted_pair_is,
-  admitted_triple_is,
-  kinds_are,
-  point_kinds_are,
-}
+use Rattle.alpha_complex.proofs.Admission.{Linked, triples_of, admitted_cell_is, admitted_pair_is, admitted_triple_is}
+use Rattle.alpha_complex.proofs.Admission.{kinds_are, point_kinds_are}
 
 -- ---- conditions
 

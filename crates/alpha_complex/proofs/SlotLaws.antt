@@ -1,28 +1,6 @@
 -- Slots: how many they are, the one of an index, and how many hold a face.
-use Rattle.std.proofs.Common.{
-  ◌≡◌,
-  refl,
-  sym,
-  ap,
-  ◌∙◌,
-  ℕ,
-  zero,
-  suc,
-  ◌+◌,
-  ◌<◌,
-  ◌≤◌,
-  Bool,
-  true,
-  false,
-  List,
-  [],
-  ◌∷◌,
-  map,
-  length,
-  get_or,
-  take,
-  arith,
-}
+use Rattle.std.proofs.Common.{◌≡◌, refl, sym, ap, ◌∙◌, ℕ, zero, suc, ◌+◌, ◌<◌, ◌≤◌, Bool, true, false, List, [], ◌∷◌}
+use Rattle.std.proofs.Common.{map, length, get_or, take, arith}
 use Rattle.std.specs.Prelude.{Option, None, Some, option_map, is_some, count_by, zip}
 use Rattle.std.specs.List.{filter}
 use Rattle.std.proofs.lemmas.List.Sums.{count_by_more_no, count_by_more_yes, length-filter}
@@ -37,7 +15,7 @@ use Rattle.alpha_complex.specs.Seen.{IsShape, slots_seen}
 -- ---- pairs of two lists
 
 -- two lists side by side are as many pairs
-zip_count : {X Y : Type 0} (xs : List X) (ys : List Y) → length ys ≡ length xs → length (zip xs ys) ≡ length ys
+pub zip_count : {X Y : Type 0} (xs : List X) (ys : List Y) → length ys ≡ length xs → length (zip xs ys) ≡ length ys
 zip_count [] [] e = refl
 zip_count [] (y ∷ ys) e = absurd (omega (arith, e))
 zip_count (x ∷ xs) [] e = absurd (omega (arith, e))

@@ -1,22 +1,5 @@
 -- The numbers of the faces of a complex tell which are admitted, and of which kind.
-use Rattle.std.proofs.Common.{
-  ◌≡◌,
-  refl,
-  sym,
-  subst,
-  ap,
-  ◌∙◌,
-  ℕ,
-  ◌<◌,
-  inl,
-  inr,
-  Bool,
-  List,
-  [],
-  ◌∷◌,
-  length,
-  get_or,
-}
+use Rattle.std.proofs.Common.{◌≡◌, refl, sym, subst, ap, ◌∙◌, ℕ, ◌<◌, inl, inr, Bool, List, [], ◌∷◌, length, get_or}
 use Rattle.std.specs.List.{AllZip}
 use Rattle.std.proofs.lemmas.List.{get_or-map, length-map}
 use Rattle.list_laws.proofs.Cited.{at_in}
@@ -31,24 +14,11 @@ use Rattle.alpha_complex.specs.declared.numbers.Alphas.{Alphas}
 use Rattle.alpha_complex.specs.Admitted.{is_admitted, is_admitted_cell}
 use Rattle.alpha_complex.specs.Condition.{AreFacesOf}
 use Rattle.alpha_complex.specs.Judged.{is_admitted_pair, is_admitted_triple, is_small_cell}
-use Rattle.alpha_complex.specs.Leasts.{
-  AreAlphasOf,
-  AreKnown,
-  AreLeastOf,
-  IsLeastOf,
-  face_at,
-  is_admitted_point,
-  point_face_at,
-}
+use Rattle.alpha_complex.specs.Leasts.{AreAlphasOf, AreKnown, AreLeastOf, IsLeastOf, face_at, is_admitted_point}
+use Rattle.alpha_complex.specs.Leasts.{point_face_at}
 use Rattle.alpha_complex.specs.Told.{TellsFace, TellsFaces}
-use Rattle.alpha_complex.proofs.Admission.{
-  admitted_pair_is,
-  admitted_triple_is,
-  kind_is,
-  point_is_admitted,
-  small_cell_is,
-  triples_of,
-}
+use Rattle.alpha_complex.proofs.Admission.{admitted_pair_is, admitted_triple_is, all_cells_are, kind_is}
+use Rattle.alpha_complex.proofs.Admission.{point_is_admitted, small_cell_is, some_cell_is, triples_of}
 use Rattle.alpha_complex.proofs.KindSteps.{kind_told}
 use Rattle.alpha_complex.proofs.Shaped.{linked}
 
@@ -112,6 +82,8 @@ tells_at s t faces i x a h f z =
     (get_or-map (λ p. (p, cells_with p (complex s))) faces i [] ([], []) n) z in
     record {
       admitted = λ alpha l. sym (f alpha p (at_in faces i [] n)) ∙ w.admitted alpha l;
+      regular = λ alpha l. sym (some_cell_is s alpha p a) ∙ w.regular alpha l;
+      interior = λ alpha l. sym (all_cells_are s alpha p a) ∙ w.interior alpha l;
       kind = λ alpha l. kind_told t (p, cells_with p (complex s)) x alpha l w ∙ kind_is s alpha p a;
     }
 
@@ -147,6 +119,8 @@ tells_point s faces i x h l z =
     (subst (λ (v : List (ℕ × List Cell)). AreAlphasOf is_admitted_point (point_face_at v i) x) e z) in
     record {
       admitted = λ alpha k. point_is_admitted s alpha p h.ascending h.keys h.solid (at_in s i 0 n) ∙ w.admitted alpha k;
+      regular = λ alpha k. sym (some_cell_is s alpha (p ∷ []) h.ascending) ∙ w.regular alpha k;
+      interior = λ alpha k. sym (all_cells_are s alpha (p ∷ []) h.ascending) ∙ w.interior alpha k;
       kind = λ alpha k. kind_told is_admitted_point (p, cells_with (p ∷ []) (complex s)) x alpha k w
           ∙ kind_is s alpha (p ∷ []) h.ascending;
     }

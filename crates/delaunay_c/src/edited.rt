@@ -1,12 +1,12 @@
 //! A mesh that the caller holds, and its edits one by one.
 
 ghost use Rattle.std.specs.Prelude.{◌≡◌, ◌<◌, ◌≤◌, ◌⊎◌, ◌∷◌, [], None};
-ghost use Rattle.mesh_rows.specs.Meshes.{AreFlat, HasOutside};
-ghost use Rattle.mesh_handle.specs.Handles.{HoldsPoints, WasAdded, WasMoved, WasTaken};
-ghost use Rattle.delaunay_c.specs.Codes.{TellsReply};
+ghost use Rattle.mesh_rows.specs.Meshes.{AreFlat, AreMany, HasOutside};
+ghost use Rattle.mesh_handle.specs.Handles.{HoldsPoints, IsFull, WasAdded, WasMoved, WasTaken};
+ghost use Rattle.mesh_handle.specs.Replies.{TellsReply};
 
-use crate::codes::{number_of, status_of};
-use mesh_handle::{MeshHandle, add, close, open, shift, take};
+use crate::codes::status_of;
+use mesh_handle::{MeshHandle, add, close, number_of, open, shift, take};
 use mesh_rows::{Place, Stop};
 use std::alloc::Global;
 
@@ -14,20 +14,22 @@ use std::alloc::Global;
 /// that was there is freed.
 ///
 /// Answers 0 where this is done; else 1: want of memory, 2: a coordinate is not 0 to 16383, 3: no four of the points
-/// are independent. Then the handle is as before.
+/// are independent, 6: 32 bits do not number the points. Then the handle is as before.
 #[unsafe(no_mangle)]
 pub extern "C" fn delaunay_c_open(alloc: Global, handle: &mut MeshHandle, given: &[Place]) -> u8
     ensures done { result ≡ 0 → HoldsPoints given.now handle.new.mesh }
     ensures refused { 0 < result → handle.new.mesh ≡ handle.old.mesh }
     ensures outside { result ≡ 2 → HasOutside given.now }
     ensures flat { result ≡ 3 → AreFlat given.now }
-    ensures statuses { result ≤ 3 }
+    ensures many { result ≡ 6 → AreMany given.now }
+    ensures statuses { (result ≤ 3) ⊎ (result ≡ 6) }
 {
     match open(alloc, handle, given) {
         Ok(()) => 0,
         Err(Stop::Memory) => 1,
         Err(Stop::Outside) => 2,
         Err(Stop::Flat) => 3,
+        Err(Stop::Full) => 6,
     }
 }
 
@@ -41,8 +43,8 @@ pub extern "C" fn delaunay_c_close(alloc: Global, handle: &mut MeshHandle)
 
 /// Adds the point at a place to the mesh of the handle. The reply is 0: inserted, or 1: duplicate.
 ///
-/// Answers 0 where this is done; else 1: want of memory, 2: a coordinate is not 0 to 16383, 5: the handle has no mesh.
-/// Then the mesh and the reply are as before.
+/// Answers 0 where this is done; else 1: want of memory, 2: a coordinate is not 0 to 16383, which is told first, 5: the
+/// handle has no mesh, 6: 2^32 edits were made of it. Then the mesh and the reply are as before.
 #[unsafe(no_mangle)]
 pub extern "C" fn delaunay_c_add(
     alloc: Global,
@@ -54,8 +56,10 @@ pub extern "C" fn delaunay_c_add(
     ensures refused { 0 < result → handle.new.mesh ≡ handle.old.mesh }
     ensures untold { 0 < result → reply.new ≡ reply.old }
     ensures outside { result ≡ 2 → HasOutside (place.now ∷ []) }
+    ensures first { HasOutside (place.now ∷ []) → result ≡ 2 }
     ensures empty { result ≡ 5 → handle.old.mesh ≡ None }
-    ensures statuses { (result ≤ 2) ⊎ (result ≡ 5) }
+    ensures full { result ≡ 6 → IsFull handle.old.mesh }
+    ensures statuses { (result ≤ 2) ⊎ (result ≡ 5) ⊎ (result ≡ 6) }
 {
     match add(alloc, handle, place) {
         Ok(told) => {
@@ -81,8 +85,10 @@ pub extern "C" fn delaunay_c_take(
     ensures refused { 0 < result → handle.new.mesh ≡ handle.old.mesh }
     ensures untold { 0 < result → reply.new ≡ reply.old }
     ensures outside { result ≡ 2 → HasOutside (place.now ∷ []) }
+    ensures first { HasOutside (place.now ∷ []) → result ≡ 2 }
     ensures empty { result ≡ 5 → handle.old.mesh ≡ None }
-    ensures statuses { (result ≤ 2) ⊎ (result ≡ 5) }
+    ensures full { result ≡ 6 → IsFull handle.old.mesh }
+    ensures statuses { (result ≤ 2) ⊎ (result ≡ 5) ⊎ (result ≡ 6) }
 {
     match take(alloc, handle, place) {
         Ok(told) => {
@@ -109,8 +115,10 @@ pub extern "C" fn delaunay_c_move(
     ensures refused { 0 < result → handle.new.mesh ≡ handle.old.mesh }
     ensures untold { 0 < result → reply.new ≡ reply.old }
     ensures outside { result ≡ 2 → HasOutside (from.now ∷ to.now ∷ []) }
+    ensures first { HasOutside (from.now ∷ to.now ∷ []) → result ≡ 2 }
     ensures empty { result ≡ 5 → handle.old.mesh ≡ None }
-    ensures statuses { (result ≤ 2) ⊎ (result ≡ 5) }
+    ensures full { result ≡ 6 → IsFull handle.old.mesh }
+    ensures statuses { (result ≤ 2) ⊎ (result ≡ 5) ⊎ (result ≡ 6) }
 {
     match shift(alloc, handle, from, to) {
         Ok(told) => {

@@ -16,3 +16,4 @@ mod cloud;
 mod codes;
 mod edited;
 mod looks;
+mod many;

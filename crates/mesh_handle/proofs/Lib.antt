@@ -1,3 +1,5 @@
 pub mod Pointers
 pub mod Locating
 pub mod Handles
+pub mod Places
+pub mod Turns

@@ -1,5 +1,6 @@
 -- What the calls on a handle answer. What a handle holds is seen as the mesh, if there is one.
-use Rattle.std.specs.Prelude.{◌≡◌, ℕ, List, [], ◌∷◌, Option, None, Some}
+use Rattle.std.specs.Prelude.{◌≡◌, ℕ, ◌<◌, ◌≤◌, ◌^◌, ◌⊎◌, List, [], ◌∷◌, length, Option, None, Some}
+use Rattle.point_order.specs.Complex.{complex}
 use Rattle.point_order.specs.Coordinates.{IsKey}
 use Rattle.point_order.specs.Sets.{IsIn}
 use Rattle.point_order.specs.declared.cell.Cell.TheVariants.{Full, Open}
@@ -21,7 +22,7 @@ use Rattle.mesh_handle.specs.declared.looks.Located.{Located}
 use Rattle.mesh_handle.specs.declared.place.Location.{Location}
 use Rattle.mesh_handle.specs.declared.place.Location.TheVariants.{Vertex, Inside}
 use Rattle.mesh_handle.specs.declared.refusal.Refusal.{Refusal}
-use Rattle.mesh_handle.specs.declared.refusal.Refusal.TheVariants.{Memory, Outside, Empty}
+use Rattle.mesh_handle.specs.declared.refusal.Refusal.TheVariants.{Memory, Outside, Empty, Full, Unknown}
 
 -- the point at a place
 pub record IsPointAt (place : Place) (p : ℕ) : Type 0 where
@@ -35,11 +36,11 @@ HoldsPoints given (Some mesh) = IsSetOf given (replay mesh.history)
 
 -- ---- edits
 
--- it held a mesh, of which the edit was made, with this reply
+-- it held a mesh with less than 2^32 entries, of which the edit was made, with this reply
 abbrev pub WasEdited : Option MeshView → Edit → Option MeshView → Reply → Type 0
 WasEdited None edit new reply = ⊥
 WasEdited (Some mesh) edit new reply =
-    (new ≡ Some (edited mesh 0 edit)) × (reply ≡ reply_to (replay mesh.history) edit)
+    (length mesh.history < 2 ^ 32) × (new ≡ Some (edited mesh 0 edit)) × (reply ≡ reply_to (replay mesh.history) edit)
 
 -- the point at the place was added
 abbrev pub WasAdded : Option MeshView → Place → Option MeshView → Reply → Type 0
@@ -56,23 +57,37 @@ WasMoved old from to new reply =
 
 -- ---- refusals
 
--- memory may be wanting at any time, and there may be no mesh
-abbrev pub IsLack : Option MeshView → Refusal → Type 0
-IsLack held Memory = Unit {0}
-IsLack held Outside = ⊥
-IsLack held Empty = held ≡ None
+-- it holds a mesh with 2^32 entries or more
+abbrev pub IsFull : Option MeshView → Type 0
+IsFull None = ⊥
+IsFull (Some mesh) = 2 ^ 32 ≤ length mesh.history
 
--- some place may be that of no point, and there may be no mesh
-abbrev pub IsMiss : Option MeshView → List Place → Refusal → Type 0
-IsMiss held places Memory = ⊥
-IsMiss held places Outside = HasOutside places
-IsMiss held places Empty = held ≡ None
+-- it holds a mesh whose points, or the cells of whose complex, are 2^32 or more
+abbrev pub HasMany : Option MeshView → Type 0
+HasMany None = ⊥
+HasMany (Some mesh) =
+    (2 ^ 32 ≤ length (replay mesh.history)) ⊎ (2 ^ 32 ≤ length (complex (replay mesh.history)))
 
--- any of the three
+-- why an edit of these places is not made; memory may be wanting at any time
 abbrev pub IsRefusalCause : Option MeshView → List Place → Refusal → Type 0
 IsRefusalCause held places Memory = Unit {0}
 IsRefusalCause held places Outside = HasOutside places
 IsRefusalCause held places Empty = held ≡ None
+IsRefusalCause held places Full = IsFull held
+IsRefusalCause held places Unknown = ⊥
+
+-- why no rows are made
+abbrev pub IsLack : Option MeshView → Refusal → Type 0
+IsLack held Memory = Unit {0}
+IsLack held Empty = held ≡ None
+IsLack held Full = HasMany held
+IsLack held _ = ⊥
+
+-- why a look at these places finds nothing
+abbrev pub IsMiss : Option MeshView → List Place → Refusal → Type 0
+IsMiss held places Outside = HasOutside places
+IsMiss held places Empty = held ≡ None
+IsMiss held places _ = ⊥
 
 -- ---- looks
 

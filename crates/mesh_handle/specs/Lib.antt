@@ -1,2 +1,4 @@
 pub mod Held
 pub mod Handles
+pub mod Replies
+pub mod Many

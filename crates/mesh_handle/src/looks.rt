@@ -1,12 +1,12 @@
 //! What the mesh of a handle tells.
 
-ghost use Rattle.std.specs.Prelude.{◌≡◌, ◌∷◌, [], IfErr, IfOk, length};
+ghost use Rattle.std.specs.Prelude.{◌≡◌, ◌∷◌, [], Some, IfErr, IfOk, IsErrOf, length};
 ghost use Rattle.edit_history.specs.Histories.{replay};
-ghost use Rattle.mesh_rows.specs.Meshes.{AreMeshRows};
+ghost use Rattle.mesh_rows.specs.Meshes.{AreMeshRows, HasOutside};
 ghost use Rattle.near_vertex.specs.Points.{IsNearest};
 ghost use Rattle.mesh_handle.specs.Handles.{IsLack, IsMiss, IsToldOf, LiesAt, NearestIs, ShowsRows, row_of};
 ghost use Rattle.mesh_handle.specs.declared.place.Location.TheVariants.{Inside};
-ghost use Rattle.mesh_handle.specs.declared.refusal.Refusal.TheVariants.{Memory};
+ghost use Rattle.mesh_handle.specs.declared.refusal.Refusal.TheVariants.{Outside};
 
 use crate::edits::point_of;
 use crate::handle::MeshHandle;
@@ -17,7 +17,7 @@ use mesh_rows::{Made, Place, are_few, place_at, rows_of};
 use near_vertex::nearest;
 use one_mesh::{complex, points};
 use point_order::{Cell, Point};
-use std::alloc::{AllocError, Global};
+use std::alloc::Global;
 
 /// Where a place lies in a mesh.
 #[repr(C)]
@@ -34,23 +34,25 @@ pub struct Located {
 }
 
 // The rows of a mesh.
-fn mesh_rows_of(alloc: Global, mesh: &Mesh) -> Result<Made, AllocError>
+fn mesh_rows_of(alloc: Global, mesh: &Mesh) -> Result<Made, Refusal>
     ensures rows { IfOk result (λ m. AreMeshRows (replay mesh.now.history) m.points.items m.cells.items
         m.neighbours.items m.hull.items) }
     ensures count { IfOk result (λ m. length m.neighbours.items ≡ length m.cells.items) }
+    ensures cause { IfErr result (λ r. IsLack (Some mesh.now) r) }
 {
     let set = points(alloc, mesh)?;
     let all = complex(alloc, mesh)?;
     if !are_few(&set, &all) {
-        return Err(AllocError);
+        return Err(Refusal::Full);
     }
-    rows_of(alloc, &set, &all)
+    let made = rows_of(alloc, &set, &all)?;
+    Ok(made)
 }
 
 /// The rows of the mesh of a handle: its points, ascending, its cells, what lies across their facets, and its hull.
 ///
 /// # Errors
-/// `Refusal::Memory` and `Refusal::Empty`.
+/// `Refusal::Memory`, `Refusal::Empty`, and `Refusal::Full` where 32 bits do not number the points or the cells.
 pub fn rows(alloc: Global, handle: &mut MeshHandle) -> Result<Made, Refusal>
     ensures rows { IfOk result (λ m. ShowsRows handle.old.mesh m.points.items m.cells.items m.neighbours.items
         m.hull.items) }
@@ -62,7 +64,7 @@ pub fn rows(alloc: Global, handle: &mut MeshHandle) -> Result<Made, Refusal>
         Some(mesh) => {
             let made = mesh_rows_of(alloc, &mesh);
             handle.put(alloc, mesh);
-            Ok(made?)
+            made
         }
         None => Err(Refusal::Empty),
     }
@@ -119,11 +121,12 @@ fn row_at(mesh: &Mesh, p: Point) -> Located
 /// Where a place lies in the mesh of a handle. It takes no memory.
 ///
 /// # Errors
-/// `Refusal::Outside` and `Refusal::Empty`.
+/// `Refusal::Outside`, and else `Refusal::Empty`.
 pub fn find(alloc: Global, handle: &mut MeshHandle, place: &Place) -> Result<Located, Refusal>
     ensures found { IfOk result (λ l. LiesAt handle.old.mesh place.now l) }
     ensures same { handle.new.mesh ≡ handle.old.mesh }
     ensures cause { IfErr result (λ r. IsMiss handle.old.mesh (place.now ∷ []) r) }
+    ensures first { HasOutside (place.now ∷ []) → IsErrOf result Outside }
 {
     let p = point_of(place)?;
     match handle.take(alloc) {
@@ -147,11 +150,12 @@ fn nearest_in(mesh: &Mesh, p: Point) -> Point
 /// first by x, then y, then z. It takes no memory.
 ///
 /// # Errors
-/// `Refusal::Outside` and `Refusal::Empty`.
+/// `Refusal::Outside`, and else `Refusal::Empty`.
 pub fn nearest_to(alloc: Global, handle: &mut MeshHandle, place: &Place) -> Result<Place, Refusal>
     ensures found { IfOk result (λ n. NearestIs handle.old.mesh place.now n) }
     ensures same { handle.new.mesh ≡ handle.old.mesh }
     ensures cause { IfErr result (λ r. IsMiss handle.old.mesh (place.now ∷ []) r) }
+    ensures first { HasOutside (place.now ∷ []) → IsErrOf result Outside }
 {
     let p = point_of(place)?;
     match handle.take(alloc) {

@@ -23,7 +23,7 @@ fn mesh_at(alloc: Global, given: &[Place]) -> Result<Mesh, Stop>
         return Err(Stop::Flat);
     };
     if points.len() > u32::MAX as usize {
-        return Err(Stop::Memory);
+        return Err(Stop::Full);
     }
     let mesh = begin_cloud(alloc, grid_for(points.len()), &points, four)?;
     Ok(mesh)

@@ -1,25 +1,6 @@
 -- The kinds of the cells of a complex: the Full ones come first, so each has one number in both lists.
-use Rattle.std.proofs.Common.{
-  ◌≡◌,
-  ℕ,
-  zero,
-  suc,
-  ◌<◌,
-  ◌≤◌,
-  ◌++◌,
-  refl,
-  sym,
-  ap,
-  subst,
-  inl,
-  inr,
-  arith,
-  List,
-  [],
-  ◌∷◌,
-  length,
-  map,
-}
+use Rattle.std.proofs.Common.{◌≡◌, ℕ, zero, suc, ◌<◌, ◌≤◌, ◌++◌, refl, sym, ap, subst, inl, inr, arith, List, [], ◌∷◌}
+use Rattle.std.proofs.Common.{length, map}
 use Rattle.std.specs.Prelude.{slice_index_or}
 use Rattle.std.specs.List.{filter}
 use Rattle.point_order.specs.declared.cell.Cell.{Cell}

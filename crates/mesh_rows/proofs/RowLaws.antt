@@ -1,28 +1,6 @@
 -- Rows of a front of a list of cells.
-use Rattle.std.proofs.Common.{
-  ◌≡◌,
-  ◌∙◌,
-  sym,
-  subst,
-  inl,
-  inr,
-  refl,
-  ap,
-  arith,
-  ℕ,
-  zero,
-  suc,
-  ◌<◌,
-  ◌+◌,
-  ◌++◌,
-  List,
-  [],
-  ◌∷◌,
-  length,
-  map,
-  take,
-  get_or,
-}
+use Rattle.std.proofs.Common.{◌≡◌, ◌∙◌, sym, subst, inl, inr, refl, ap, arith, ℕ, zero, suc, ◌<◌, ◌+◌, ◌++◌, List, []}
+use Rattle.std.proofs.Common.{◌∷◌, length, map, take, get_or}
 use Rattle.std.proofs.lemmas.Bool.{cases_lt}
 use Rattle.point_order.specs.declared.cell.Cell.{Cell}
 use Rattle.point_order.specs.declared.cell.Cell.TheVariants.{Full, Open}

@@ -1,5 +1,5 @@
 -- What the calls answer of the points at given places.
-use Rattle.std.specs.Prelude.{◌≡◌, ℕ, ◌<◌, ◌^◌, ◌↔◌, true, false, List, [], ◌∷◌, length, map}
+use Rattle.std.specs.Prelude.{◌≡◌, ℕ, ◌<◌, ◌≤◌, ◌^◌, ◌⊎◌, ◌↔◌, true, false, List, [], ◌∷◌, length, map}
 use Rattle.std.specs.List.{AllZip}
 use Rattle.point_order.specs.declared.cell.Cell.{Cell}
 use Rattle.point_order.specs.Complex.{complex}
@@ -18,7 +18,7 @@ use Rattle.mesh_rows.specs.declared.rows.CellRow.{CellRow}
 use Rattle.mesh_rows.specs.declared.rows.MeshSizes.{MeshSizes}
 use Rattle.mesh_rows.specs.declared.rows.FaceSizes.{FaceSizes}
 use Rattle.mesh_rows.specs.declared.stop.Stop.{Stop}
-use Rattle.mesh_rows.specs.declared.stop.Stop.TheVariants.{Memory, Outside, Flat}
+use Rattle.mesh_rows.specs.declared.stop.Stop.TheVariants.{Memory, Outside, Flat, Full}
 use Rattle.mesh_rows.specs.Rows.{point_place, LiesOutside, edge_row, triangle_row, cell_row, open_cells}
 use Rattle.mesh_rows.specs.Across.{AreNeighbours}
 
@@ -35,11 +35,16 @@ HasOutside given = (p : Place) × IsIn p given × LiesOutside p
 abbrev pub AreFlat : List Place → Type 0
 AreFlat given = (s : List ℕ) × IsSetOf given s × (is_solid s ≡ false)
 
+-- the given points, or the cells of their complex, are 2^32 or more
+abbrev pub AreMany : List Place → Type 0
+AreMany given = (s : List ℕ) × IsSetOf given s × ((2 ^ 32 ≤ length s) ⊎ (2 ^ 32 ≤ length (complex s)))
+
 -- why nothing is made; memory may be wanting at any time
 abbrev pub IsStopCause : List Place → Stop → Type 0
 IsStopCause given Memory = Unit {0}
 IsStopCause given Outside = HasOutside given
 IsStopCause given Flat = AreFlat given
+IsStopCause given Full = AreMany given
 
 -- A solid set, and the cells of its complex, few enough for their numbers.
 pub record IsCloud (s : List ℕ) (cells : List Cell) : Type 0 where

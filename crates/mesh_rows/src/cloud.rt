@@ -1,22 +1,7 @@
 //! The points at given places, and the cells of their complex.
 
-ghost use Rattle.std.specs.Prelude.{
-  ◌≡◌,
-  ◌⊎◌,
-  ◌<◌,
-  ◌≤◌,
-  ◌^◌,
-  ◌∷◌,
-  ◌++◌,
-  [],
-  map,
-  length,
-  false,
-  IfOk,
-  IfErr,
-  IsTrue,
-  OnOk,
-};
+ghost use Rattle.std.specs.Prelude.{◌≡◌, ◌⊎◌, ◌<◌, ◌≤◌, ◌^◌, ◌∷◌, ◌++◌, [], map, length, false, IfOk, IfErr, IsTrue};
+ghost use Rattle.std.specs.Prelude.{OnOk};
 ghost use Rattle.point_order.specs.Coordinates.{IsKey};
 ghost use Rattle.point_order.specs.Solid.{is_solid};
 ghost use Rattle.del_laws.specs.Keys.{AreKeys};
@@ -117,7 +102,7 @@ pub fn cloud_of(alloc: Global, given: &[Place]) -> Result<Cloud, Stop>
     }
     let cells = complex_of_points(alloc, &points)?;
     if !are_few(&points, &cells) {
-        return Err(Stop::Memory);
+        return Err(Stop::Full);
     }
     Ok(Cloud { points, cells })
 }

@@ -1,24 +1,17 @@
 //! Rooms of the caller's, and whether they are enough.
 
-ghost use Rattle.std.specs.Prelude.{◌≡◌, ◌≤◌, ◌↔◌, IsTrue, length, take};
-ghost use Rattle.mesh_rows.specs.Rooms.{
-  AreFaceCounts,
-  AreFacesPut,
-  AreMeshCounts,
-  AreMeshPut,
-  LacksFaceRoom,
-  LacksMeshRoom,
-};
+ghost use Rattle.std.specs.Prelude.{◌≤◌, ◌↔◌, IsTrue, length};
+ghost use Rattle.mesh_rows.specs.Rooms.{AreFaceCounts, AreMeshCounts, IsPut, LacksFaceRoom, LacksMeshRoom};
 
 use crate::levels::Levels;
 use crate::mesh::Made;
 use crate::rows::{CellRow, EdgeRow, FaceSizes, MeshSizes, Place, TriangleRow};
 use alpha_complex::FaceAlphas;
 
-// Puts rows to the front of a room.
+// Puts rows to the front of a room, and leaves what is behind them.
 fn put<T: Copy>(room: &mut [T], rows: &[T])
     requires { length rows.now ≤ length room.old }
-    ensures { take (length rows.now) room.new ≡ rows.now }
+    ensures { IsPut rows.now room.old room.new }
 {
     room[..rows.len()].copy_from_slice(rows);
 }
@@ -51,7 +44,7 @@ pub fn lacks_mesh_room(
         || (hull.len() as u64) < sizes.hull
 }
 
-/// Puts a mesh to the fronts of rooms.
+/// Puts a mesh to the fronts of rooms. What is behind its rows stays as it was.
 pub fn put_mesh(
     made: &Made,
     points: &mut [Place],
@@ -63,7 +56,10 @@ pub fn put_mesh(
     requires cells { length made.now.cells.items ≤ length cells.old }
     requires neighbours { length made.now.neighbours.items ≤ length neighbours.old }
     requires hull { length made.now.hull.items ≤ length hull.old }
-    ensures { AreMeshPut made.now points.new cells.new neighbours.new hull.new }
+    ensures points { IsPut made.now.points.items points.old points.new }
+    ensures cells { IsPut made.now.cells.items cells.old cells.new }
+    ensures neighbours { IsPut made.now.neighbours.items neighbours.old neighbours.new }
+    ensures hull { IsPut made.now.hull.items hull.old hull.new }
 {
     put(points, &made.points);
     put(cells, &made.cells);
@@ -104,7 +100,7 @@ pub fn lacks_face_room(
         || (cell_alphas.len() as u64) < sizes.cells
 }
 
-/// Puts faces to the fronts of rooms.
+/// Puts faces to the fronts of rooms. What is behind their rows stays as it was.
 pub fn put_faces(
     levels: &Levels,
     point_alphas: &mut [FaceAlphas],
@@ -120,8 +116,12 @@ pub fn put_faces(
     requires triangles { length levels.now.triangles.items ≤ length triangles.old }
     requires triangle_alphas { length levels.now.triangle_alphas.items ≤ length triangle_alphas.old }
     requires cell_alphas { length levels.now.cell_alphas.items ≤ length cell_alphas.old }
-    ensures { AreFacesPut levels.now point_alphas.new edges.new edge_alphas.new triangles.new triangle_alphas.new
-        cell_alphas.new }
+    ensures point_alphas { IsPut levels.now.point_alphas.items point_alphas.old point_alphas.new }
+    ensures edges { IsPut levels.now.edges.items edges.old edges.new }
+    ensures edge_alphas { IsPut levels.now.edge_alphas.items edge_alphas.old edge_alphas.new }
+    ensures triangles { IsPut levels.now.triangles.items triangles.old triangles.new }
+    ensures triangle_alphas { IsPut levels.now.triangle_alphas.items triangle_alphas.old triangle_alphas.new }
+    ensures cell_alphas { IsPut levels.now.cell_alphas.items cell_alphas.old cell_alphas.new }
 {
     put(point_alphas, &levels.point_alphas);
     put(edges, &levels.edges);

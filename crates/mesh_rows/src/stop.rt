@@ -8,12 +8,14 @@ use std::alloc::AllocError;
 /// Why nothing is made.
 #[derive(Clone, Copy)]
 pub enum Stop {
-    /// Memory was wanting, or 32 bits do not count the cells.
+    /// Memory was wanting.
     Memory,
     /// A coordinate is not 0 to 16383.
     Outside,
     /// No four of the points are independent.
     Flat,
+    /// 32 bits do not number the points or the cells.
+    Full,
 }
 
 impl From<AllocError> for Stop {

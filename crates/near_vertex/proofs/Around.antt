@@ -25,20 +25,6 @@ pub record IsFirstSo (q p : ℕ) (l rest : List Cell) (x : ℕ) : Type 0 where
   pub own : comes_before q p x ≡ false
   pub first : (d : Cell) → IsIn d l → IsIn d rest ⊎ ((y : ℕ) → IsIn y (points_of d) → comes_before q y x ≡ false)
 
--- a list of no length has no members
-pub none_in : (l : List Cell) (d : Cell) → length l ≡ 0 → IsIn d l → ⊥
-none_in [] d e i = i
-none_in (x ∷ l) d e i = cc
-
--- before any cell
-pub at_first : (q p : ℕ) (l rest : List Cell) → rest ≡ l → IsFirstSo q p l rest p
-at_first q p l rest e = record {
-  among = λ d m. subst (λ (v : List Cell). IsIn d v) e m;
-  from = inl refl;
-  own = before_self q p;
-  first = λ d m. inl (subst (λ (v : List Cell). IsIn d v) (sym e) m);
-}
-
 -- one more cell
 pub one_more : (q p : ℕ) (l m rest : List Cell) (d : Cell) (x n : ℕ) → m ≡ d ∷ rest → IsFirstSo q p l m x →
     IsFirstOf q (x ∷ points_of d) n → IsFirstSo q p l rest n

@@ -1,27 +1,6 @@
 -- The first point of a walk, and the first bucket that is not in hand.
-use Rattle.std.specs.Prelude.{
-  ◌≡◌,
-  refl,
-  ℕ,
-  zero,
-  suc,
-  ◌+◌,
-  ◌*◌,
-  ◌%◌,
-  ◌<◌,
-  ◌≤◌,
-  ◌==◌,
-  ◌⊎◌,
-  List,
-  [],
-  ◌∷◌,
-  Option,
-  None,
-  Some,
-  IsSome,
-  length,
-  slice_index_or,
-}
+use Rattle.std.specs.Prelude.{◌≡◌, refl, ℕ, zero, suc, ◌+◌, ◌*◌, ◌%◌, ◌<◌, ◌≤◌, ◌==◌, ◌⊎◌, List, [], ◌∷◌, Option, None}
+use Rattle.std.specs.Prelude.{Some, IsSome, length, slice_index_or}
 use Rattle.std.proofs.Common.{arith, inl, inr, sym, subst}
 use Rattle.list_laws.proofs.Cited.{filtered_from, filtered_true, none_there, one_below, round, same_true, some_of}
 use Rattle.point_order.specs.Sets.{IsIn}
@@ -41,37 +20,6 @@ use Rattle.near_vertex.specs.Laws.{NearStartIsWalk}
 -- the first buckets have no point
 abbrev pub NoneBelow : InHand → ℕ → Type 0
 NoneBelow hold n = (b : ℕ) → b < n → points_at hold.places b ≡ []
-
--- a list without a front is empty
-no_front : (l : List ℕ) → front_of l ≡ None → l ≡ []
-no_front [] e = refl
-no_front (p ∷ l) e = cc
-
--- one more bucket without a point
-pub one_bucket : (hold : InHand) (b : ℕ) → NoneBelow hold b → front_of (points_at hold.places b) ≡ None →
-    NoneBelow hold (b + 1)
-one_bucket hold b k e i l = elim (one_below b i l) [
-  | inl h ↦ k i h
-  | inr h ↦ subst (λ v. points_at hold.places v ≡ []) (sym h) (no_front (points_at hold.places b) e)
-]
-
--- past the end there is none
-past_end : (l : List (Option BucketContent)) (i : ℕ) → length l ≤ i → points_of_bucket (slice_index_or l i None) ≡ []
-past_end [] i h = refl
-past_end (o ∷ l) zero h = absurd (let g : ⊥ = omega (arith, h) in g)
-past_end (o ∷ l) (suc i) h = past_end l i (omega (arith, h))
-
--- all buckets
-pub none_of_all : (hold : InHand) (n : ℕ) → length hold.places ≤ n → NoneBelow hold n → HasNoPoint hold
-none_of_all hold n e k b = elim (below_or_past b n) [
-  | inl l ↦ k b l
-  | inr l ↦ past_end hold.places b
-      (omega (arith, e, l))
-]
-  where
-    -- below or not
-    below_or_past : (x y : ℕ) → (x < y) ⊎ (y ≤ x)
-    below_or_past x y = grind arith
 
 -- ---- the first bucket that is not in hand
 

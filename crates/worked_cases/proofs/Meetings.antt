@@ -1,29 +1,12 @@
 -- Two edits that share no point can be done side by side.
-use Rattle.std.specs.Prelude.{
-  ◌≡◌,
-  ℕ,
-  zero,
-  suc,
-  ◌<◌,
-  ◌≤◌,
-  ◌||◌,
-  ◌&&◌,
-  Bool,
-  false,
-  List,
-  [],
-  ◌∷◌,
-  ◌++◌,
-  All,
-  AllPairs,
-  length,
-}
+use Rattle.std.specs.Prelude.{◌≡◌, ℕ, zero, suc, ◌<◌, ◌≤◌, ◌||◌, ◌&&◌, Bool, false, List, [], ◌∷◌, ◌++◌, All, AllPairs}
+use Rattle.std.specs.Prelude.{length}
 use Rattle.std.proofs.Common.{refl, sym, ◌∙◌, subst, inl, inr, arith, ap}
 use Rattle.list_laws.proofs.Cited.{all_of_each, later_pairs}
 use Rattle.point_order.specs.Sets.{IsIn}
 use Rattle.edit_history.specs.Edits.{is_move, share_point}
 use Rattle.plain_laws.specs.Running.{Pair, HaveNoPoint, clash}
-use Rattle.edit_workers.specs.Dealing.{AreTagsAscending, CanBeDone, count_all}
+use Rattle.edit_lists.specs.Dealing.{AreTagsAscending, CanBeDone, count_all}
 
 -- one of a list of one
 only : {X : Type 0} (P : X → Type 0) (x : X) → P x → (y : X) → IsIn y (x ∷ []) → P y

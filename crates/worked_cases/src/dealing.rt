@@ -1,7 +1,7 @@
 //! Lines that are dealt to workers, and made by them.
 
 ghost use Rattle.std.specs.Prelude.{◌≡◌, ◌+◌, ◌<◌, ◌≤◌, IfSome, length};
-ghost use Rattle.edit_workers.specs.Dealing.{AreOpening};
+ghost use Rattle.edit_lists.specs.Dealing.{AreOpening};
 
 use crate::meshes::mesh_of_four;
 use crate::reading::{list_at, number_at};

@@ -24,6 +24,7 @@ fn put_stop(answer: &mut Answer, stop: Stop) {
         Stop::Memory => answer.fail(),
         Stop::Outside => answer.put("outside"),
         Stop::Flat => answer.put("flat"),
+        Stop::Full => answer.put("full"),
     }
 }
 
@@ -33,6 +34,8 @@ fn put_refusal(answer: &mut Answer, refusal: Refusal) {
         Refusal::Memory => answer.fail(),
         Refusal::Outside => answer.put(" outside"),
         Refusal::Empty => answer.put(" empty"),
+        Refusal::Full => answer.put(" full"),
+        Refusal::Unknown => answer.put(" unknown"),
     }
 }
 

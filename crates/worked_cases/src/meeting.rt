@@ -2,7 +2,7 @@
 
 ghost use Rattle.std.specs.Prelude.{◌≡◌, ◌+◌, ◌^◌, ◌≤◌, ◌∷◌, [], false, IfOk, length};
 ghost use Rattle.edit_history.specs.Edits.{share_point};
-ghost use Rattle.edit_workers.specs.Dealing.{segments_of};
+ghost use Rattle.edit_lists.specs.Dealing.{segments_of};
 
 use crate::gates::Meeting;
 use crate::meshes::mesh_of_points;

@@ -1,4 +1,4 @@
-use Rattle.std.proofs.Common.{◌∙◌, ◌<◌, ◌^◌, ℕ, ap, sym, subst, List, length}
+use Rattle.std.proofs.Common.{◌∙◌, ◌<◌, ◌≤◌, ◌^◌, ℕ, ap, inl, inr, sym, subst, List, length}
 use Rattle.point_order.specs.declared.cell.Cell.{Cell}
 use Rattle.point_order.specs.Complex.{complex}
 use Rattle.point_order.specs.Sets.{IsAscending}
@@ -29,6 +29,17 @@ complex_of_points-requires-clause-solid c =
 pub returns-in_err-cells-clause-refused : goal.returns-in_err-cells-clause-refused
 returns-in_err-cells-clause-refused c =
     passed_on c.args.given.now _ c.from_residual-in_err-cells.result c.from_residual-in_err-cells.ensures.1 tt
+
+pub returns-then-not-are_few-clause-refused : goal.returns-then-not-are_few-clause-refused
+returns-then-not-are_few-clause-refused c =
+    let all = c.deref-4.ensures.value ∙ c.in_ok-cells.ensures ∙ ap complex c.deref-2.ensures.value in (
+      c.in_ok-points.points.items,
+      c.in_ok-points.ensures.set,
+      elim (c.are_few.ensures.many c.if-not-are_few.true) [
+        | inl m ↦ inl (subst (λ (l : List ℕ). 2 ^ 32 ≤ length l) c.deref-3.ensures.value m)
+        | inr m ↦ inr (subst (λ (l : List Cell). 2 ^ 32 ≤ length l) all m)
+      ],
+    )
 
 pub returns-clause-cloud : goal.returns-clause-cloud
 returns-clause-cloud c = record {

@@ -1,6 +1,5 @@
 use Rattle.std.proofs.Common.{◌≡◌, map, take}
-use Rattle.mesh_rows.specs.Rows.{open_cells}
-use Rattle.mesh_rows.specs.Rows.{triangle_row}
+use Rattle.mesh_rows.specs.Rows.{open_cells, triangle_row}
 use Rattle.mesh_rows.proofs.numbers.hull.Given as goal
 
 -- the rows of those of a front

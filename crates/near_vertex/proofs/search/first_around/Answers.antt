@@ -1,6 +1,7 @@
 use Rattle.std.proofs.Common.{ap, length}
 use Rattle.cell_store.specs.Stars.{cells_around}
-use Rattle.near_vertex.proofs.Around.{none_in, one_more, first_of_all}
+use Rattle.near_vertex.proofs.Around.{one_more, first_of_all}
+use Rattle.cell_conflict.proofs.Cited.{none_in}
 use Rattle.near_vertex.proofs.search.first_around.Goals as goal
 
 pub loop-cell-preserved : goal.loop-cell-preserved

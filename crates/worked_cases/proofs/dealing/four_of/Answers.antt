@@ -3,7 +3,7 @@ use Rattle.std.specs.Option.{option_map}
 use Rattle.std.proofs.Common.{subst}
 use Rattle.edit_history.specs.Opening.{opening_four}
 use Rattle.edit_history.specs.OneThread.{places}
-use Rattle.edit_workers.proofs.Cited.{are_opening}
+use Rattle.edit_lists.proofs.Cited.{are_opening}
 use Rattle.worked_cases.proofs.dealing.four_of.Goals as goal
 
 pub returns-in-Ok : goal.returns-in-Ok

@@ -1,6 +1,6 @@
 use Rattle.std.proofs.Common.{arith, ap, subst, sym}
 use Rattle.std.specs.Prelude.{All}
-use Rattle.edit_workers.specs.Dealing.{CanBeDone, count_all}
+use Rattle.edit_lists.specs.Dealing.{CanBeDone, count_all}
 use Rattle.delaunay_cli.proofs.DealtLines.{dealt_done, dealt_few}
 use Rattle.worked_cases.proofs.dealing.made.Goals as goal
 

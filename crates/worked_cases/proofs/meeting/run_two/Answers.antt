@@ -1,5 +1,5 @@
 use Rattle.std.proofs.Common.{arith, ap}
-use Rattle.edit_workers.specs.Dealing.{count_all}
+use Rattle.edit_lists.specs.Dealing.{count_all}
 use Rattle.worked_cases.proofs.Meetings.{made_done}
 use Rattle.worked_cases.proofs.meeting.run_two.Goals as goal
 
