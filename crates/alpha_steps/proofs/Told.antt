@@ -1,31 +1,6 @@
 -- Faces with their thresholds, in the order of the faces.
-use Rattle.std.proofs.Common.{
-  ◌≡◌,
-  refl,
-  sym,
-  subst,
-  ap,
-  ap₂,
-  ◌∙◌,
-  ℕ,
-  zero,
-  suc,
-  ◌<◌,
-  ◌^◌,
-  inl,
-  inr,
-  Bool,
-  true,
-  false,
-  List,
-  [],
-  ◌∷◌,
-  map,
-  length,
-  get_or,
-  arith,
-  nat_le,
-}
+use Rattle.std.proofs.Common.{◌≡◌, refl, sym, subst, ap, ap₂, ◌∙◌, ℕ, zero, suc, ◌<◌, ◌^◌, inl, inr, Bool, true, false}
+use Rattle.std.proofs.Common.{List, [], ◌∷◌, map, length, get_or, arith, nat_le}
 use Rattle.std.specs.Prelude.{None, zip, nat_lt, if◌then◌else◌}
 use Rattle.std.specs.List.{AllZip}
 use Rattle.std.proofs.lemmas.Bool.{cases_lt}
@@ -48,25 +23,12 @@ use Rattle.list_laws.specs.Lists.{held}
 use Rattle.alpha_steps.specs.declared.threshold.Threshold.{Threshold}
 use Rattle.alpha_steps.specs.declared.threshold.Threshold.TheVariants.{At, Never}
 use Rattle.alpha_steps.specs.declared.steps.Thresholds.TheInside.{Inside}
-use Rattle.alpha_steps.specs.Seen.{
-  AreAsMany,
-  StepSlots,
-  cell_steps_of,
-  step_of_cell,
-  steps_of,
-  steps_seen,
-  threshold_of,
-}
+use Rattle.alpha_steps.specs.Seen.{AreAsMany, StepSlots, cell_steps_of, step_of_cell, steps_of, steps_seen}
+use Rattle.alpha_steps.specs.Seen.{threshold_of}
 use Rattle.alpha_steps.specs.Thresholds.{AreThresholds, IsStep}
+use Rattle.alpha_complex.proofs.Cited.{firsts_are as faces_are, zip_count}
 
 -- ---- lists of the same length
-
--- two lists side by side are as many pairs
-zip_count : {X Y : Type 0} (xs : List X) (ys : List Y) → length ys ≡ length xs → length (zip xs ys) ≡ length ys
-zip_count [] [] e = refl
-zip_count [] (y ∷ ys) e = absurd (omega (arith, e))
-zip_count (x ∷ xs) [] e = absurd (omega (arith, e))
-zip_count (x ∷ xs) (y ∷ ys) e = ap suc (zip_count xs ys (omega (arith, e)))
 
 -- as many faces with thresholds as numbers
 pub step_count : {X : Type 0} (xs : List X) (ns : List ℕ) → length ns ≡ length xs →
@@ -171,11 +133,6 @@ cell_steps_told s (Full q ∷ cells) (n ∷ ns) z f (inl e) = subst (λ (v : Lis
     (step_from s q n z.0)
 cell_steps_told s (Full q ∷ cells) (n ∷ ns) z f (inr i) = cell_steps_told s cells ns z.1 f i
 cell_steps_told s (Open t ∷ cells) (n ∷ ns) z f i = cell_steps_told s cells ns z.1 f i
-
--- faces beside their cells are those faces
-faces_are : (faces : List (List ℕ)) (cells : List Cell) → map (λ f. f.0) (with_cells_around faces cells) ≡ faces
-faces_are [] cells = refl
-faces_are (p ∷ faces) cells = ap (λ l. p ∷ l) (faces_are faces cells)
 
 -- and so with points
 points_are : (points : List ℕ) (cells : List Cell) → map (λ f. f.0) (points_with_cells points cells) ≡ points

@@ -1,51 +1,11 @@
 -- Laws of the ends in memory: what a call leaves of the bytes and of the calls' log, over plain variables.
-use Rattle.std.proofs.Common.{
-  ◌≡◌,
-  ℕ,
-  ◌+◌,
-  ◌-◌,
-  ◌<◌,
-  ◌≤◌,
-  ◌⊎◌,
-  inl,
-  inr,
-  List,
-  [],
-  ◌∷◌,
-  ◌++◌,
-  length,
-  length-append,
-  length-drop,
-  length-take,
-  length-take-le,
-  take,
-  drop,
-  take_all,
-  take-append-drop,
-  min,
-  ap,
-  sym,
-  subst,
-  ◌∙◌,
-  refl,
-  true,
-  false,
-  Ok,
-  Err,
-  arith,
-}
+use Rattle.std.proofs.Common.{◌≡◌, ℕ, ◌+◌, ◌-◌, ◌<◌, ◌≤◌, ◌⊎◌, inl, inr, List, [], ◌∷◌, ◌++◌, length, length-append}
+use Rattle.std.proofs.Common.{length-drop, length-take, length-take-le, take, drop, take_all, take-append-drop, min, ap}
+use Rattle.std.proofs.Common.{sym, subst, ◌∙◌, refl, true, false, Ok, Err, arith}
 use Rattle.std.proofs.lemmas.List.{take_rest, take-append-le}
 use Rattle.byte_ends.specs.Ends.{HasCause, one_more}
-use Rattle.byte_ends.specs.InMemory.{
-  Calls,
-  NextFails,
-  SinkState,
-  SourceState,
-  after_answer,
-  after_fault,
-  after_read,
-  after_write,
-}
+use Rattle.byte_ends.specs.InMemory.{Calls, NextFails, SinkState, SourceState, after_answer, after_fault, after_read}
+use Rattle.byte_ends.specs.InMemory.{after_write}
 
 -- a call that failed has its cause
 pub faulted : {T E : Type 0} {e : E} (calls now after : Calls) → calls ≡ now → after ≡ after_fault calls →

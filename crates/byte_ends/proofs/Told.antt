@@ -1,31 +1,6 @@
 -- Laws of counts of faults and of text that arrived in part, for loops over sources and sinks.
-use Rattle.std.proofs.Common.{
-  ◌≡◌,
-  ℕ,
-  ◌+◌,
-  ◌-◌,
-  ◌≤◌,
-  ◌<◌,
-  List,
-  ◌++◌,
-  length,
-  length-append,
-  IfSome,
-  ap,
-  sym,
-  ◌∙◌,
-  append_assoc,
-  append-nil,
-  false,
-  true,
-  arith,
-  [],
-  Result,
-  Ok,
-  Err,
-  IsErr,
-  IsErrAnd,
-}
+use Rattle.std.proofs.Common.{◌≡◌, ℕ, ◌+◌, ◌-◌, ◌≤◌, ◌<◌, List, ◌++◌, length, length-append, IfSome, ap, sym, ◌∙◌}
+use Rattle.std.proofs.Common.{append_assoc, append-nil, false, true, arith, [], Result, Ok, Err, IsErr, IsErrAnd}
 use Rattle.std.specs.declared.option.Option.{Option}
 use Rattle.std.specs.Io.KnownBytes.{Appends, IsAtEnd, Keeps}
 use Rattle.std.proofs.KnownBytes.{Appends-trans, Consumes-all, Consumes-kept, Consumes-nil, Consumes-trans}

@@ -1,33 +1,11 @@
 // A source and a sink in memory, which give or take a few bytes a call and fail at the calls that they are told.
-ghost use Rattle.std.specs.Prelude.{
-  ◌≡◌,
-  ◌⊎◌,
-  ◌<◌,
-  ◌↔◌,
-  [],
-  ◌++◌,
-  length,
-  take,
-  drop,
-  Some,
-  IfOk,
-  OnErr,
-  IsErr,
-  IsTrue,
-  ◌≤◌,
-};
+ghost use Rattle.std.specs.Prelude.{◌≡◌, ◌⊎◌, ◌<◌, ◌↔◌, [], ◌++◌, length, take, drop, Some, IfOk, OnErr, IsErr, IsTrue};
+ghost use Rattle.std.specs.Prelude.{◌≤◌};
 ghost use Rattle.std.specs.Io.{ReadsAtMost, WritesAtMost};
 ghost use Rattle.std.specs.Io.KnownBytes.{ReadConsumes, WriteAppends};
 ghost use Rattle.byte_ends.specs.Ends.{HasCause};
-ghost use Rattle.byte_ends.specs.InMemory.{
-  NextFails,
-  after_answer,
-  after_fault,
-  after_read,
-  after_write,
-  given_count,
-  taken_count,
-};
+ghost use Rattle.byte_ends.specs.InMemory.{NextFails, after_answer, after_fault, after_read, after_write, given_count};
+ghost use Rattle.byte_ends.specs.InMemory.{taken_count};
 
 use crate::ends::{Failed, Sink, Source};
 use std::alloc::{AllocError, Global};

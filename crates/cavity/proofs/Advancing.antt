@@ -1,45 +1,15 @@
 -- A dig goes on: each turn explores found cells whose buckets are in hand, and there are not more of them than cells in
 -- hand.
-use Rattle.std.specs.Prelude.{
-  ◌≡◌,
-  ℕ,
-  ◌+◌,
-  zero,
-  suc,
-  ◌<◌,
-  List,
-  [],
-  ◌∷◌,
-  ◌++◌,
-  ◌==◌,
-  length,
-  take,
-  slice_index_or,
-  Option,
-  Some,
-  IsSome,
-}
+use Rattle.std.specs.Prelude.{◌≡◌, ℕ, ◌+◌, zero, suc, ◌<◌, List, [], ◌∷◌, ◌++◌, ◌==◌, length, take, slice_index_or}
+use Rattle.std.specs.Prelude.{Option, Some, IsSome}
 use Rattle.std.specs.List.{flat_map}
 use Rattle.std.specs.Option.{option_map_or}
 use Rattle.std.proofs.Common.{refl, sym, ◌∙◌, ap, subst, inl, inr, arith, append-nil, length-take}
 use Rattle.std.proofs.lemmas.Bool.{eq-eqb}
 use Rattle.std.proofs.lemmas.Grind.{flat_map-append}
 use Rattle.std.proofs.lemmas.List.{take-append-le}
-use Rattle.list_laws.proofs.Cited.{
-  any_true,
-  apart_place,
-  at_most,
-  at_place,
-  distinct_take,
-  filtered_true,
-  flat_from,
-  in_flat,
-  in_left,
-  in_take,
-  none_there,
-  some_of,
-  take_next,
-}
+use Rattle.list_laws.proofs.Cited.{any_true, apart_place, at_most, at_place, distinct_take, filtered_true, flat_from}
+use Rattle.list_laws.proofs.Cited.{in_flat, in_left, in_take, none_there, some_of, take_next}
 use Rattle.point_order.specs.declared.cell.Cell.{Cell}
 use Rattle.point_order.specs.declared.cell.Facet.{Facet}
 use Rattle.point_order.specs.Complex.{complex}

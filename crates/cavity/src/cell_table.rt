@@ -3,16 +3,8 @@
 ghost use Rattle.std.specs.Prelude.{◌≡◌, ◌≢◌, ◌<◌, ◌≤◌, ◌^◌, ◌↔◌, ℕ, length, slice_get, IfOk, OnOk, IsTrue};
 ghost use Rattle.point_order.specs.Facets.{points_of};
 ghost use Rattle.point_order.specs.Sets.{IsIn};
-ghost use Rattle.cavity.specs.Tables.{
-  mixed_with,
-  mixed_all,
-  cell_number,
-  home_under,
-  IsReachedFrom,
-  KeepsReached,
-  IsFreeFrom,
-  IsMarked,
-};
+ghost use Rattle.cavity.specs.Tables.{mixed_with, mixed_all, cell_number, home_under, IsReachedFrom, KeepsReached};
+ghost use Rattle.cavity.specs.Tables.{IsFreeFrom, IsMarked};
 
 use cell_store::Spot;
 use point_order::{Cell, Point};

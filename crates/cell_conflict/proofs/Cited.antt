@@ -1,3 +1,3 @@
 -- The lemmas that other crates cite.
-pub use Rattle.cell_conflict.proofs.Searching.{in_items, none_in, not_none, of_items, some_point, unmet}
+pub use Rattle.cell_conflict.proofs.Searching.{in_items, none_in, not_none, of_items, some_point}
 pub use Rattle.cell_conflict.proofs.Standing.{held_on}

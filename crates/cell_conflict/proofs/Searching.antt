@@ -1,23 +1,6 @@
 -- The search for a first cell that a new point takes away, bucket by bucket.
-use Rattle.std.specs.Prelude.{
-  ◌≡◌,
-  refl,
-  ℕ,
-  ◌+◌,
-  ◌*◌,
-  ◌%◌,
-  ◌<◌,
-  ◌≤◌,
-  true,
-  List,
-  [],
-  ◌∷◌,
-  None,
-  Some,
-  IsSome,
-  ◌==◌,
-  length,
-}
+use Rattle.std.specs.Prelude.{◌≡◌, refl, ℕ, ◌+◌, ◌*◌, ◌%◌, ◌<◌, ◌≤◌, true, List, [], ◌∷◌, None, Some, IsSome, ◌==◌}
+use Rattle.std.specs.Prelude.{length}
 use Rattle.std.proofs.Common.{inl, ap, sym, subst, ◌∙◌, arith}
 use Rattle.point_order.specs.declared.cell.Cell.{Cell}
 use Rattle.point_order.specs.declared.cell.Cell.TheVariants.{Full, Open}
@@ -115,17 +98,3 @@ some_goes hold h p has all st new =
             (touched hold.grid e.0 b rim.gone refl e.1)),
       ),
     )
-
--- so the round finds the cell
-pub unmet :
-    (hold : InHand) (h : List ℕ) (p g first count step : ℕ) → HasPlaces hold → AllInHand hold → Shows hold h →
-    IsNew h p → g ≡ hold.grid → first ≡ bucket_of g p → bucket_of g p < g * g * g →
-    count ≡ g * g * g → count ≤ step → ((i : ℕ) → i < step → NoneGoes h p
-    (cells_in hold.places ((first + i) % count))) → ⊥
-unmet hold h p g first count step has all st new eg ef below ec k none =
-    let c = some_goes hold h p has all st new in
-    let places : count ≡ length hold.places = ec ∙ ap (λ v. v * v * v) eg ∙ sym has.places in
-    let r = round first c.2.0 count (subst (λ n. first < n) (sym ec) (subst (λ b. b < g * g * g) (sym ef) below))
-    (subst (λ n. c.2.0 < n) (sym places) c.2.1) in
-    none r.0 (let l = r.1 in omega (arith, l, k)) c.0 (subst (λ b. IsIn c.0 (cells_in hold.places b)) (sym r.2) c.2.2)
-    c.1

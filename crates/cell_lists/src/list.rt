@@ -1,21 +1,7 @@
 //! A list of cells of four points.
 
-ghost use Rattle.std.specs.Prelude.{
-  ◌≡◌,
-  ◌<◌,
-  ◌==◌,
-  ◌++◌,
-  ◌∷◌,
-  [],
-  MatchOption,
-  OnOk,
-  OnErr,
-  IfOk,
-  List,
-  ℕ,
-  length,
-  slice_index_or,
-};
+ghost use Rattle.std.specs.Prelude.{◌≡◌, ◌<◌, ◌==◌, ◌++◌, ◌∷◌, [], MatchOption, OnOk, OnErr, IfOk, List, ℕ, length};
+ghost use Rattle.std.specs.Prelude.{slice_index_or};
 
 use crate::known::{Places, Row, quad_in, row_in};
 use point_order::{Point, Quad};

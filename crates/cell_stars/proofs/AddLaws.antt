@@ -1,63 +1,18 @@
 -- Places that are added to stars.
-use Rattle.std.specs.Prelude.{
-  ◌≡◌,
-  ℕ,
-  zero,
-  suc,
-  ◌+◌,
-  ◌<◌,
-  ◌≤◌,
-  Bool,
-  true,
-  false,
-  List,
-  [],
-  ◌∷◌,
-  ◌++◌,
-  ◌⊎◌,
-  length,
-  map,
-  Option,
-  slice_index_or,
-  slice_set,
-  MatchBool,
-  ◌==◌,
-}
+use Rattle.std.specs.Prelude.{◌≡◌, ℕ, zero, suc, ◌+◌, ◌<◌, ◌≤◌, Bool, true, false, List, [], ◌∷◌, ◌++◌, ◌⊎◌, length}
+use Rattle.std.specs.Prelude.{map, Option, slice_index_or, slice_set, MatchBool, ◌==◌}
 use Rattle.std.proofs.Common.{refl, sym, ◌∙◌, ap, subst, inl, inr, arith, take, add-one}
 use Rattle.std.proofs.lemmas.List.{map-append}
-use Rattle.list_laws.proofs.Cited.{
-  at_place,
-  below_each,
-  each_none,
-  each_taken,
-  in_more,
-  in_pushed,
-  in_take,
-  last_one,
-  mapped_from,
-  mapped_true,
-  more_one,
-  same_from,
-  same_true,
-  pushed_new,
-  pushed_old,
-  take_next,
-}
+use Rattle.list_laws.proofs.Cited.{at_place, below_each, each_none, each_taken, in_more, in_pushed, in_take, last_one}
+use Rattle.list_laws.proofs.Cited.{mapped_from, mapped_true, more_one, same_from, same_true, pushed_new, pushed_old}
+use Rattle.list_laws.proofs.Cited.{take_next}
 use Rattle.point_order.specs.declared.cell.Cell.{Cell}
 use Rattle.point_order.specs.Facets.{points_of}
 use Rattle.point_order.specs.Sets.{IsIn, IsAscending}
 use Rattle.cell_stars.specs.Moves.{AreStarsAfter}
 use Rattle.cell_stars.specs.Places.{Placed, IsStarred, lies_in}
-use Rattle.cell_stars.specs.Adding.{
-  AddsPlaces,
-  AreStarsHere,
-  HasMorePlaces,
-  HasStarAt,
-  IsOneMore,
-  IsStaying,
-  Numbered,
-  head_of,
-}
+use Rattle.cell_stars.specs.Adding.{AddsPlaces, AreStarsHere, HasMorePlaces, HasStarAt, IsOneMore, IsStaying, Numbered}
+use Rattle.cell_stars.specs.Adding.{head_of}
 
 -- the vertices of some stars with their numbers
 abbrev pub vertices_of : List Numbered → List ℕ

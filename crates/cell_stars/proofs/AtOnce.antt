@@ -1,61 +1,19 @@
 -- Cells that are put in all at once.
-use Rattle.std.specs.Prelude.{
-  ◌≡◌,
-  ℕ,
-  zero,
-  suc,
-  ◌+◌,
-  ◌<◌,
-  ◌≤◌,
-  true,
-  List,
-  [],
-  ◌∷◌,
-  ◌++◌,
-  ◌⊎◌,
-  length,
-  map,
-  Option,
-  Some,
-  slice_index,
-  slice_index_or,
-  slice_set,
-}
+use Rattle.std.specs.Prelude.{◌≡◌, ℕ, zero, suc, ◌+◌, ◌<◌, ◌≤◌, true, List, [], ◌∷◌, ◌++◌, ◌⊎◌, length, map, Option}
+use Rattle.std.specs.Prelude.{Some, slice_index, slice_index_or, slice_set}
 use Rattle.std.specs.List.Sorted.{IsStrictlySortedBy}
 use Rattle.std.proofs.Common.{refl, sym, ◌∙◌, ap, subst, inl, inr, arith, take}
 use Rattle.std.proofs.lemmas.List.{get_or-set_same, get_or-set_other, map-append, take_all}
 use Rattle.del_laws.proofs.Cited.{same_members}
-use Rattle.list_laws.proofs.Cited.{
-  Gathered,
-  each_none,
-  gather_push,
-  gather_skip,
-  gather_step,
-  in_pushed,
-  in_snoc,
-  index_in,
-  len_set,
-  pushed_new,
-  pushed_old,
-  snoc_new,
-  snoc_old,
-  same_from,
-  same_true,
-  take_next,
-}
+use Rattle.list_laws.proofs.Cited.{Gathered, each_none, gather_push, gather_skip, gather_step, in_pushed, in_snoc}
+use Rattle.list_laws.proofs.Cited.{index_in, len_set, pushed_new, pushed_old, snoc_new, snoc_old, same_from, same_true}
+use Rattle.list_laws.proofs.Cited.{take_next}
 use Rattle.point_order.specs.declared.cell.Cell.{Cell}
 use Rattle.point_order.specs.CellOrder.{cell_cmp}
 use Rattle.point_order.specs.Facets.{points_of}
 use Rattle.point_order.specs.Sets.{IsIn, IsAscending}
-use Rattle.cell_stars.specs.AtOnce.{
-  AreKeyed,
-  AreNumberedTo,
-  FromCellHere,
-  GainsPlaces,
-  HaveKeys,
-  StandsAtHere,
-  StandsHere,
-}
+use Rattle.cell_stars.specs.AtOnce.{AreKeyed, AreNumberedTo, FromCellHere, GainsPlaces, HaveKeys, StandsAtHere}
+use Rattle.cell_stars.specs.AtOnce.{StandsHere}
 use Rattle.list_laws.specs.Lists.{Gathers}
 use Rattle.cell_stars.specs.Grids.{bucket_of}
 use Rattle.cell_stars.specs.Places.{AreFiled, AreStars, IsStarred, IsStarredBy, cells_of, lies_in, star_at, at_slot}

@@ -1,43 +1,11 @@
 -- Vertices with their stars.
-use Rattle.std.specs.Prelude.{
-  ◌≡◌,
-  ℕ,
-  zero,
-  suc,
-  ◌<◌,
-  ◌≤◌,
-  ◌==◌,
-  ◌%◌,
-  Bool,
-  true,
-  false,
-  List,
-  [],
-  ◌∷◌,
-  ◌⊎◌,
-  length,
-  map,
-  slice_index,
-  slice_index_or,
-  if◌then◌else◌,
-  not,
-  MatchBool,
-  IsTrue,
-}
+use Rattle.std.specs.Prelude.{◌≡◌, ℕ, zero, suc, ◌<◌, ◌≤◌, ◌==◌, ◌%◌, Bool, true, false, List, [], ◌∷◌, ◌⊎◌, length}
+use Rattle.std.specs.Prelude.{map, slice_index, slice_index_or, if◌then◌else◌, not, MatchBool, IsTrue}
 use Rattle.std.proofs.Common.{◌+◌, take, refl, sym, ◌∙◌, ap, subst, inl, inr, arith}
 use Rattle.std.proofs.lemmas.Bool.Decides.{leb_tells}
 use Rattle.std.specs.List.{insert, remove}
-use Rattle.list_laws.proofs.Cited.{
-  at_place,
-  below_each,
-  each_none,
-  in_more,
-  in_take,
-  last_one,
-  more_one,
-  same_from,
-  same_true,
-}
+use Rattle.list_laws.proofs.Cited.{at_place, below_each, each_none, in_more, in_take, last_one, more_one, same_from}
+use Rattle.list_laws.proofs.Cited.{same_true}
 use Rattle.point_order.specs.Sets.{IsIn, IsAscending, IsBelowFirst}
 use Rattle.cell_stars.specs.Places.{AreFiled, IsStarredBy, part_of, star_at}
 use Rattle.cell_stars.specs.Moves.{IsWritten, AreKeysAfter, AreKeysWith, AreAgreed, HasSameKeys, IsKeyed, IsKeyAfter}
@@ -310,18 +278,6 @@ same_or_not x y = by (x == y) refl
     by : (b : Bool) → (x == y) ≡ b → (x ≡ y) ⊎ (x ≡ y → ⊥)
     by true e = inl (same_from x y e)
     by false e = inr (λ q. (let t = same_true x y q in absurd (cc (e, t))))
-
--- where the star's key is there, nothing changes
-pub keyed_same : (ks : Keys) (n : ℕ) (s : ℕ × List ℕ) → IsAscending (vertices ks) → IsKeyed ks n s → (k : ℕ × ℕ) →
-    (IsIn k ks → IsKeyAfter ks n s k) × (IsKeyAfter ks n s k → IsIn k ks)
-keyed_same ks n s a h k = (
-  λ m. elim (same_or_not k.0 s.0) [
-    | inl e ↦ inl (one_key ks (s.0, n) k a h.key m (sym e), (h.place, h.filled))
-    | inr d ↦
-        inr (m, d)
-  ],
-  λ m. elim m [ inl e ↦ subst (λ (x : ℕ × ℕ). IsIn x ks) e.0 h.key | inr i ↦ i.0 ],
-)
 
 -- where it has no place, its vertex goes
 pub unkeyed : (old new : Keys) (n p : ℕ) (s : ℕ × List ℕ) → p ≡ s.0 → ((i : ℕ) → IsIn i s.1 → ⊥) →

@@ -1,24 +1,6 @@
 -- The least cell behind a bound, and the cells of a star in order.
-use Rattle.std.specs.Prelude.{
-  ◌≡◌,
-  ℕ,
-  zero,
-  suc,
-  ◌<◌,
-  Bool,
-  true,
-  false,
-  List,
-  [],
-  ◌∷◌,
-  length,
-  map,
-  Option,
-  None,
-  Some,
-  MatchOption,
-  slice_index_or,
-}
+use Rattle.std.specs.Prelude.{◌≡◌, ℕ, zero, suc, ◌<◌, Bool, true, false, List, [], ◌∷◌, length, map, Option, None, Some}
+use Rattle.std.specs.Prelude.{MatchOption, slice_index_or}
 use Rattle.std.specs.List.{filter}
 use Rattle.std.specs.List.Sorted.{IsStrictlySortedBy}
 use Rattle.std.specs.Ordering.{is_lt}
@@ -26,16 +8,8 @@ use Rattle.std.specs.declared.cmp.Ordering.{Ordering}
 use Rattle.std.specs.declared.cmp.Ordering.TheVariants.{Less, Equal, Greater}
 use Rattle.std.proofs.Common.{add-one, ◌+◌, refl, sym, ◌∙◌, ap, subst, inl, inr, arith, take}
 use Rattle.std.proofs.lemmas.List.Kept.{IsStrictlySortedBy-filter}
-use Rattle.list_laws.proofs.Cited.{
-  among_from,
-  among_true,
-  filtered_from,
-  filtered_true,
-  in_more,
-  is_less,
-  last_one,
-  more_one,
-}
+use Rattle.list_laws.proofs.Cited.{among_from, among_true, filtered_from, filtered_true, in_more, is_less, last_one}
+use Rattle.list_laws.proofs.Cited.{more_one}
 use Rattle.point_order.proofs.Cited.{cell_after, cell_before, cell_same, cell_self}
 use Rattle.point_order.specs.declared.cell.Cell.{Cell}
 use Rattle.point_order.specs.CellOrder.{cell_cmp}
@@ -43,20 +17,8 @@ use Rattle.point_order.specs.Facets.{points_of}
 use Rattle.point_order.specs.Sets.{IsIn, is_among}
 use Rattle.del_laws.proofs.Cited.{same_members}
 use Rattle.cell_stars.specs.Swaps.{with_all_cells}
-use Rattle.cell_stars.specs.Places.{
-  Placed,
-  AreStars,
-  IsStarred,
-  live,
-  named,
-  cells_of,
-  lies_in,
-  is_after,
-  IsOneBehind,
-  HaveNone,
-  IsLeastBehind,
-  at_slot,
-}
+use Rattle.cell_stars.specs.Places.{Placed, AreStars, IsStarred, live, named, cells_of, lies_in, is_after, IsOneBehind}
+use Rattle.cell_stars.specs.Places.{HaveNone, IsLeastBehind, at_slot}
 use Rattle.cell_stars.proofs.CellLaws.{in_withs, withs_new, withs_sorted}
 
 -- ---- members

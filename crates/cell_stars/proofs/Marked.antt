@@ -1,23 +1,6 @@
 -- Marks of numbers, and of cells.
-use Rattle.std.specs.Prelude.{
-  ◌≡◌,
-  ℕ,
-  suc,
-  ◌+◌,
-  ◌%◌,
-  ◌<◌,
-  ◌≤◌,
-  Bool,
-  true,
-  false,
-  List,
-  [],
-  ◌∷◌,
-  drop,
-  length,
-  slice_index_or,
-  slice_set,
-}
+use Rattle.std.specs.Prelude.{◌≡◌, ℕ, suc, ◌+◌, ◌%◌, ◌<◌, ◌≤◌, Bool, true, false, List, [], ◌∷◌, drop, length}
+use Rattle.std.specs.Prelude.{slice_index_or, slice_set}
 use Rattle.std.proofs.Common.{add-one, refl, sym, subst, ◌∙◌, ap, arith, inl, inr, take}
 use Rattle.std.proofs.lemmas.Bool.{cases_eq}
 use Rattle.std.proofs.lemmas.List.{get_or-set_same, get_or-set_other}
@@ -71,58 +54,7 @@ not_marked marks list i m e = by (is_among i list) refl
     by false q = refl
     by true q = (let k = m.each i (among_from i list q) in absurd (omega (arith, e, k)))
 
--- a cell without a mark is not in the list
-pub cell_not_marked : (marks : List Bool) (list : List Cell) (c : Cell) → AreCellsMarked marks list →
-    slice_index_or marks (cell_rest c) false ≡ false → IsIn c list → ⊥
-cell_not_marked marks list c m e i = (let k = sym e ∙ m.each c i in absurd (cc k))
-
--- a cell's mark is one of 509
-rest_below : (c : Cell) → cell_rest c < 509
-rest_below c = omega arith
-
 -- from a place on the cells differ and have their marks
 pub record AreApartFrom (list : List Cell) (k : ℕ) (marks : List Bool) : Type 0 where
   pub marked : AreCellsMarked marks (drop k list)
   pub apart : Differ (drop k list)
-
--- from the end on no two cells are one
-pub apart_none : (list : List Cell) (k : ℕ) (marks : List Bool) → length list ≤ k → length marks ≡ 509 →
-    AreApartFrom list k marks
-apart_none list k marks h e =
-    let n : drop k list ≡ [] = drop_of_length-le list h in
-    record {
-      marked = record { count = e; each = λ c i. absurd (subst (λ (l : List Cell). IsIn c l) n i) };
-      apart = subst Differ (sym n) tt;
-    }
-
--- one cell more, which is none of those behind it
-pub apart_more : (list : List Cell) (k : ℕ) (marks : List Bool) (x : Cell) → k < length list →
-    x ≡ slice_index_or list k x → (IsIn x (drop (k + 1) list) → ⊥) → AreApartFrom list (k + 1) marks →
-    AreApartFrom list k (slice_set marks (cell_rest x) true)
-apart_more list k marks x h e n a = record {
-  marked = record {
-    count = length-set marks (cell_rest x) true ∙ a.marked.count;
-    each = λ c i. elim (subst (λ (l : List Cell). IsIn c l) is i) [
-      | inl q ↦ subst (λ (d : Cell). slice_index_or new (cell_rest d) false ≡ true) q here
-      | inr m ↦ kept c (a.marked.each c m)
-    ];
-  };
-  apart = subst Differ (sym is) (n, a.apart);
-}
-  where
-    new : List Bool
-    new = slice_set marks (cell_rest x) true
-
-    is : drop k list ≡ x ∷ drop (k + 1) list
-    is = drop-cons list k x h ∙ ap (λ (c : Cell). c ∷ drop (suc k) list) (sym e)
-        ∙ ap (λ (n : ℕ). x ∷ drop n list) (sym (add-one k))
-
-    here : slice_index_or new (cell_rest x) false ≡ true
-    here = get_or-set_same marks (cell_rest x) true false (let c = a.marked.count in let l = rest_below x in
-        omega (arith, c, l))
-
-    kept : (c : Cell) → slice_index_or marks (cell_rest c) false ≡ true → slice_index_or new (cell_rest c) false ≡ true
-    kept c m = elim (cases_eq (cell_rest c) (cell_rest x)) [
-      | inl w ↦ ap (λ i. slice_index_or new i false) w ∙ here
-      | inr w ↦ get_or-set_other marks (cell_rest x) (cell_rest c) true false w ∙ m
-    ]

@@ -1,69 +1,18 @@
 -- What goes and comes in an exchange.
-use Rattle.std.specs.Prelude.{
-  ◌≡◌,
-  ℕ,
-  zero,
-  suc,
-  ◌+◌,
-  ◌<◌,
-  ◌≤◌,
-  Bool,
-  true,
-  false,
-  List,
-  [],
-  ◌∷◌,
-  ◌++◌,
-  ◌⊎◌,
-  length,
-  slice_index_or,
-  Option,
-  None,
-  Some,
-  MatchOption,
-  MatchBool,
-  not,
-  ◌==◌,
-  IfOk,
-  Result,
-  Ok,
-  Err,
-}
+use Rattle.std.specs.Prelude.{◌≡◌, ℕ, zero, suc, ◌+◌, ◌<◌, ◌≤◌, Bool, true, false, List, [], ◌∷◌, ◌++◌, ◌⊎◌, length}
+use Rattle.std.specs.Prelude.{slice_index_or, Option, None, Some, MatchOption, MatchBool, not, ◌==◌, IfOk, Result, Ok}
+use Rattle.std.specs.Prelude.{Err}
 use Rattle.std.specs.List.{zip}
 use Rattle.std.proofs.Common.{add-one, refl, sym, ◌∙◌, ap, subst, inl, inr, arith, take, length-append}
-use Rattle.list_laws.proofs.Cited.{
-  among_from,
-  among_true,
-  any_from,
-  ascend_more,
-  at_place,
-  below_each,
-  each_more,
-  each_none,
-  each_taken,
-  in_pushed,
-  in_right,
-  last_one,
-  more_one,
-  not_both,
-  pushed_new,
-  pushed_old,
-}
+use Rattle.list_laws.proofs.Cited.{among_from, among_true, any_from, ascend_more, at_place, below_each, each_more}
+use Rattle.list_laws.proofs.Cited.{each_none, each_taken, in_pushed, in_right, last_one, more_one, not_both, pushed_new}
+use Rattle.list_laws.proofs.Cited.{pushed_old}
 use Rattle.point_order.specs.declared.cell.Cell.{Cell}
 use Rattle.point_order.specs.Facets.{points_of}
 use Rattle.point_order.specs.Sets.{IsIn, IsAscending}
 use Rattle.cell_stars.specs.Places.{Placed, AreStars, IsStarred, cells_of, lies_in, touches_in, at_slot}
-use Rattle.cell_stars.specs.Moves.{
-  IsStarFor,
-  AreFreed,
-  IsFreed,
-  AreComing,
-  AreNew,
-  IsComing,
-  StandsYet,
-  IsVacant,
-  IsClear,
-}
+use Rattle.cell_stars.specs.Moves.{IsStarFor, AreFreed, IsFreed, AreComing, AreNew, IsComing, StandsYet, IsVacant}
+use Rattle.cell_stars.specs.Moves.{IsClear}
 use Rattle.point_order.specs.Sets.{is_among}
 use Rattle.cell_stars.specs.Grids.{bucket_of}
 use Rattle.cell_stars.specs.Plans.{AreFor}
@@ -447,11 +396,6 @@ open_same P old list count next after q s = record {
 pub likely_more : (P Q : ℕ → Type 0) (list new : List ℕ) (x : ℕ) → Q x → new ≡ list ++ x ∷ [] →
     ((i : ℕ) → IsIn i list → P i ⊎ Q i) → (i : ℕ) → IsIn i new → P i ⊎ Q i
 likely_more P Q list new x e p f i m = elim (in_pushed list new x i p m) [ inl k ↦ f i k | inr q ↦ inr (subst Q q e) ]
-
--- and so where there is one kind
-pub likely_one : (Q : ℕ → Type 0) (list new : List ℕ) (x : ℕ) → Q x → new ≡ list ++ x ∷ [] →
-    ((i : ℕ) → IsIn i list → Q i) → (i : ℕ) → IsIn i new → Q i
-likely_one Q list new x e p f i m = elim (in_pushed list new x i p m) [ inl k ↦ f i k | inr q ↦ subst Q q e ]
 
 -- what is chosen of freed and of open places is vacant
 pub vacant_from : (slots : List (Option Cell)) (freed first list all : List ℕ) →

@@ -8,15 +8,8 @@ use Rattle.point_order.specs.Sets.{IsIn}
 use Rattle.del_laws.proofs.Cited.{same_members}
 use Rattle.cell_stars.specs.Swaps.{touches, swapped}
 use Rattle.cell_stars.specs.Places.{Placed, IsMoved, live, cells_of, touches_in, at_slot}
-use Rattle.cell_stars.proofs.CellLaws.{
-  in_withs,
-  withs_new,
-  withs_sorted,
-  swapped_sorted,
-  swapped_from,
-  swapped_new,
-  swapped_kept,
-}
+use Rattle.cell_stars.proofs.CellLaws.{in_withs, withs_new, withs_sorted, swapped_sorted, swapped_from, swapped_new}
+use Rattle.cell_stars.proofs.CellLaws.{swapped_kept}
 use Rattle.cell_stars.proofs.Least.{live_at, at_live}
 
 -- the cells of places, by their members

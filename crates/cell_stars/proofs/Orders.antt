@@ -19,13 +19,3 @@ sorted_differ (c ∷ l) s = (
       absurd (cc (t, e))),
   sorted_differ l s.1,
 )
-
--- one cell more before those that differ
-pub differ_more : (rest others all : List Cell) (c : Cell) → rest ≡ c ∷ others → (IsIn c others → ⊥) →
-    (Differ rest → Differ all) → Differ others → Differ all
-differ_more rest others all c e n f d = f (subst Differ (sym e) (n, d))
-
--- none are left
-pub differ_none : (rest all : List Cell) → length rest ≡ 0 → (Differ rest → Differ all) → Differ all
-differ_none [] all e f = f tt
-differ_none (c ∷ rest) all e f = absurd (omega (arith, e))

@@ -1,49 +1,11 @@
 -- Keys in parts.
-use Rattle.std.specs.Prelude.{
-  ◌≡◌,
-  ℕ,
-  zero,
-  suc,
-  ◌+◌,
-  ◌*◌,
-  ◌%◌,
-  ◌<◌,
-  ◌≤◌,
-  List,
-  [],
-  ◌∷◌,
-  ◌++◌,
-  ◌⊎◌,
-  length,
-  slice_index_or,
-  slice_set,
-}
+use Rattle.std.specs.Prelude.{◌≡◌, ℕ, zero, suc, ◌+◌, ◌*◌, ◌%◌, ◌<◌, ◌≤◌, List, [], ◌∷◌, ◌++◌, ◌⊎◌, length}
+use Rattle.std.specs.Prelude.{slice_index_or, slice_set}
 use Rattle.std.proofs.Common.{refl, sym, ◌∙◌, ap, subst, inl, inr, arith, take}
-use Rattle.std.proofs.lemmas.List.{
-  append-nil,
-  append_assoc,
-  get_or-set_same,
-  get_or-set_other,
-  length-append,
-  map-append,
-  take_all,
-}
-use Rattle.list_laws.proofs.Cited.{
-  at_place,
-  distinct_ascending,
-  each_none,
-  from_append,
-  in_left,
-  in_more,
-  in_pushed,
-  in_right,
-  in_take,
-  last_one,
-  len_set,
-  mapped_from,
-  more_one,
-  take_next,
-}
+use Rattle.std.proofs.lemmas.List.{append-nil, append_assoc, get_or-set_same, get_or-set_other, length-append}
+use Rattle.std.proofs.lemmas.List.{map-append, take_all}
+use Rattle.list_laws.proofs.Cited.{at_place, distinct_ascending, each_none, from_append, in_left, in_more, in_pushed}
+use Rattle.list_laws.proofs.Cited.{in_right, in_take, last_one, len_set, mapped_from, more_one, take_next}
 use Rattle.list_laws.specs.Lists.{AreDistinct}
 use Rattle.point_order.specs.Sets.{IsIn, IsAscending}
 use Rattle.cell_stars.specs.Places.{Placed, AreFiled, AreStars, all_keys, part_at, part_of}
@@ -51,12 +13,6 @@ use Rattle.cell_stars.specs.Plans.{AreBelow, set_all}
 use Rattle.cell_stars.specs.Moves.{AreKeysOf, AreKeysWith, HaveOneKey, HasSameKeys, IsKeyAfter}
 use Rattle.cell_stars.proofs.Planned.{len_all}
 use Rattle.cell_stars.proofs.KeyLaws.{Keys, Parts, one_key, same_or_not, vertices}
-
--- what stands in some part
-in_parts : (ks : Parts) (n : ℕ) (k : ℕ × ℕ) → IsIn k (part_at ks n) → n < length ks
-in_parts [] n k m = absurd m
-in_parts (l ∷ ks) zero k m = omega arith
-in_parts (l ∷ ks) (suc n) k m = (let h = in_parts ks n k m in omega (arith, h))
 
 -- is one of all
 pub in_all : (ks : Parts) (n : ℕ) (k : ℕ × ℕ) → IsIn k (part_at ks n) → IsIn k (all_keys ks)
@@ -106,21 +62,6 @@ part_ascends ks p l f e = subst (λ (v : Keys). IsAscending (vertices v)) (sym e
 pub filed_in : (b d : Placed) → b ≡ d → AreStars b → AreFiled d.keys
 filed_in b d e s = subst (λ (v : Placed). AreFiled v.keys) e s.order
 
--- a list of no parts has no key
-pub no_parts : (ks : Parts) (p : ℕ) (l : Keys) → length ks ≡ 0 → l ≡ [] → l ≡ part_of ks p
-no_parts [] p l e f = f
-no_parts (k ∷ ks) p l e f = absurd (omega (arith, e))
-
--- the part with the number of a vertex is its part
-pub part_found : (ks : Parts) (p n : ℕ) (l : Keys) → n ≡ p % length ks → l ≡ slice_index_or ks n l → n < length ks →
-    l ≡ part_of ks p
-part_found ks p n l e f h = f ∙ free ks n h ∙ ap (part_at ks) e
-  where
-    free : (ks : Parts) (n : ℕ) → n < length ks → slice_index_or ks n l ≡ part_at ks n
-    free [] n h = absurd (omega arith)
-    free (k ∷ ks) zero h = refl
-    free (k ∷ ks) (suc n) h = free ks n (omega arith)
-
 -- no parts have no keys
 no_keys : all_keys [] ≡ []
 unfolding all_keys
@@ -142,10 +83,6 @@ pub joined_more : (ks : Parts) (n : ℕ) (x l new : Keys) → n < length ks → 
     l ≡ all_keys (take n ks) → new ≡ l ++ x → new ≡ all_keys (take (n + 1) ks)
 joined_more ks n x l new h e f g =
     g ∙ ap (λ (v : Keys). v ++ x) f ∙ sym (all_more (take n ks) x) ∙ ap all_keys (sym (take_next ks n x h e))
-
--- at the end all are
-pub joined_all : (ks : Parts) (n : ℕ) (l : Keys) → length ks ≤ n → l ≡ all_keys (take n ks) → l ≡ all_keys ks
-joined_all ks n l h e = e ∙ ap all_keys (take_all n ks h)
 
 -- before the first there are none
 pub joined_none : (ks : Parts) (l : Keys) → l ≡ [] → l ≡ all_keys (take 0 ks)

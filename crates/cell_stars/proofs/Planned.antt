@@ -1,56 +1,15 @@
 -- Exchanges that were planned, carried out.
-use Rattle.std.specs.Prelude.{
-  ◌≡◌,
-  ℕ,
-  zero,
-  suc,
-  ◌<◌,
-  Bool,
-  true,
-  false,
-  List,
-  [],
-  ◌∷◌,
-  ◌++◌,
-  ◌⊎◌,
-  length,
-  map,
-  Option,
-  None,
-  Some,
-  slice_index_or,
-  slice_set,
-}
+use Rattle.std.specs.Prelude.{◌≡◌, ℕ, zero, suc, ◌<◌, Bool, true, false, List, [], ◌∷◌, ◌++◌, ◌⊎◌, length, map, Option}
+use Rattle.std.specs.Prelude.{None, Some, slice_index_or, slice_set}
 use Rattle.std.proofs.Common.{refl, sym, ◌∙◌, ap, subst, inl, inr, arith, append_assoc, take, ◌+◌, ◌≤◌}
 use Rattle.std.proofs.lemmas.List.{get_or-set_same, get_or-set_other, map-append, take_all, take_more}
 use Rattle.list_laws.proofs.Cited.{among_from, among_true, len_set, mapped_from, mapped_true, take_next}
 use Rattle.point_order.specs.declared.cell.Cell.{Cell}
 use Rattle.point_order.specs.Sets.{IsIn, is_among}
-use Rattle.cell_stars.specs.Places.{
-  Placed,
-  AreStars,
-  IsStarred,
-  IsMoved,
-  cells_of,
-  part_of,
-  touches_in,
-  star_at,
-  swapped_at,
-  at_slot,
-}
-use Rattle.cell_stars.specs.Plans.{
-  PlanView,
-  Allows,
-  MakesExchange,
-  AreFor,
-  ArePutInto,
-  AreRewritten,
-  StarsAfter,
-  AreBelow,
-  or_else,
-  set_all,
-  after_plan,
-}
+use Rattle.cell_stars.specs.Places.{Placed, AreStars, IsStarred, IsMoved, cells_of, part_of, touches_in, star_at}
+use Rattle.cell_stars.specs.Places.{swapped_at, at_slot}
+use Rattle.cell_stars.specs.Plans.{PlanView, Allows, MakesExchange, AreFor, ArePutInto, AreRewritten, StarsAfter}
+use Rattle.cell_stars.specs.Plans.{AreBelow, or_else, set_all, after_plan}
 use Rattle.cell_stars.specs.Moves.{IsRewriting, AreKeysAfter, AreAgreed, HasSameCells, HasSameStars}
 use Rattle.cell_stars.proofs.KeyLaws.{same_or_not}
 use Rattle.cell_stars.proofs.Moved.{moved_is_swapped, placed_in, in_placed, placed_sorted}
@@ -423,16 +382,6 @@ pub copied_more : {X : Type 0} (l : List X) (n : ℕ) (x y : X) (list new : List
 copied_more l n x y list new h s e q i = e ∙ ap (λ v. v ++ y ∷ []) i ∙ ap (λ v. take n l ++ v ∷ []) q
     ∙ sym (take_next l n x h s)
 
--- one more element is put at its place
-pub put_next : {X : Type 0} (w v : List (ℕ × X)) (i : ℕ) (x : X) (l all : List X) → w ≡ (i, x) ∷ v →
-    AreBelow (length l) w → set_all w l ≡ all →
-    AreBelow (length (slice_set l i x)) v × (set_all v (slice_set l i x) ≡ all)
-put_next w v i x l all e b m = (
-  subst (λ n. AreBelow n v) (sym (len_set l i x))
-      (subst (λ u. AreBelow (length l) u) e b).1,
-  ap (λ u. set_all u l) (sym e) ∙ m,
-)
-
 -- a bucket with the same lists is the same
 pub same_bucket : (p : Option (ℕ × ℕ)) (s s' : List (Option Cell)) (k k' : List (List (ℕ × ℕ)))
     (t t' : List (ℕ × List ℕ)) →
@@ -440,15 +389,6 @@ pub same_bucket : (p : Option (ℕ × ℕ)) (s s' : List (Option Cell)) (k k' : 
     (record { place = p; slots = s'; keys = k'; stars = t' })
 same_bucket p s s' k k' t t' e f g = rw (e, f, g)
 
--- none is left to put
-pub put_none : {X : Type 0} (w : List (ℕ × X)) (l all : List X) → length w ≡ 0 → set_all w l ≡ all → l ≡ all
-put_none [] l all e m = m
-put_none (x ∷ w) l all e m = absurd (omega (arith, e))
-
 -- a plan and a bucket that are the same
 pub allows_same : (p q : PlanView) (b d : Placed) → p ≡ q → b ≡ d → Allows q d → Allows p b
 allows_same p q b d e f a = subst (λ x. Allows x b) (sym e) (subst (λ y. Allows q y) (sym f) a)
-
--- they make the same of it
-pub done_same : (p q : PlanView) (b d : Placed) → p ≡ q → b ≡ d → after_plan p b ≡ after_plan q d
-done_same p q b d e f = ap (λ x. after_plan x b) e ∙ ap (λ y. after_plan q y) f

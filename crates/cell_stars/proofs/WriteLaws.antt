@@ -1,43 +1,11 @@
 -- The stars after an exchange.
-use Rattle.std.specs.Prelude.{
-  ◌≡◌,
-  ℕ,
-  ◌+◌,
-  ◌%◌,
-  ◌<◌,
-  ◌≤◌,
-  Bool,
-  true,
-  false,
-  not,
-  List,
-  [],
-  ◌∷◌,
-  ◌++◌,
-  ◌⊎◌,
-  length,
-  map,
-  slice_index,
-  slice_index_or,
-  MatchBool,
-  ◌==◌,
-}
+use Rattle.std.specs.Prelude.{◌≡◌, ℕ, ◌+◌, ◌%◌, ◌<◌, ◌≤◌, Bool, true, false, not, List, [], ◌∷◌, ◌++◌, ◌⊎◌, length, map}
+use Rattle.std.specs.Prelude.{slice_index, slice_index_or, MatchBool, ◌==◌}
 use Rattle.std.specs.List.{filter}
 use Rattle.std.proofs.Common.{refl, sym, ◌∙◌, ap, subst, inl, inr, arith, take}
 use Rattle.std.proofs.lemmas.List.{map-append, take_all}
-use Rattle.list_laws.proofs.Cited.{
-  Gathered,
-  below_each,
-  filtered_from,
-  filtered_true,
-  gather_all,
-  gather_step,
-  in_pushed,
-  mapped_from,
-  mapped_true,
-  same_from,
-  take_next,
-}
+use Rattle.list_laws.proofs.Cited.{Gathered, below_each, filtered_from, filtered_true, gather_all, gather_step}
+use Rattle.list_laws.proofs.Cited.{in_pushed, mapped_from, mapped_true, same_from, take_next}
 use Rattle.point_order.specs.declared.cell.Cell.{Cell}
 use Rattle.point_order.specs.Facets.{points_of}
 use Rattle.point_order.specs.Sets.{IsIn, IsAscending}

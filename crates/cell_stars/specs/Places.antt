@@ -1,24 +1,6 @@
 -- The cells of a bucket at numbered places, and the star of each vertex: the places of its cells.
-use Rattle.std.specs.Prelude.{
-  ◌≡◌,
-  ℕ,
-  Bool,
-  true,
-  false,
-  List,
-  [],
-  ◌∷◌,
-  ◌++◌,
-  map,
-  Option,
-  None,
-  Some,
-  ◌==◌,
-  ◌⊎◌,
-  slice_index_or,
-  length,
-  ◌%◌,
-}
+use Rattle.std.specs.Prelude.{◌≡◌, ℕ, Bool, true, false, List, [], ◌∷◌, ◌++◌, map, Option, None, Some, ◌==◌, ◌⊎◌}
+use Rattle.std.specs.Prelude.{slice_index_or, length, ◌%◌}
 use Rattle.std.specs.Ordering.{is_lt}
 use Rattle.std.specs.declared.cmp.Ordering.TheVariants.{Less}
 use Rattle.point_order.specs.declared.cell.Cell.{Cell}

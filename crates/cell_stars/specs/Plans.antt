@@ -3,19 +3,8 @@ use Rattle.std.specs.Prelude.{◌≡◌, ◌<◌, ◌↔◌, ◌⊎◌, ℕ, Boo
 use Rattle.point_order.specs.declared.cell.Cell.{Cell}
 use Rattle.point_order.specs.Facets.{points_of}
 use Rattle.point_order.specs.Sets.{IsIn}
-use Rattle.cell_stars.specs.Places.{
-  Placed,
-  AreFiled,
-  AreStars,
-  IsMoved,
-  IsStarred,
-  cells_of,
-  lies_in,
-  part_of,
-  touches_in,
-  swapped_at,
-  at_slot,
-}
+use Rattle.cell_stars.specs.Places.{Placed, AreFiled, AreStars, IsMoved, IsStarred, cells_of, lies_in, part_of}
+use Rattle.cell_stars.specs.Places.{touches_in, swapped_at, at_slot}
 use Rattle.cell_stars.specs.Swaps.{Differ}
 use Rattle.cell_stars.specs.Homes.{AreHomes}
 

@@ -6,15 +6,8 @@ ghost use Rattle.point_order.specs.declared.cell.Cell.{Cell};
 ghost use Rattle.point_order.specs.CellOrder.{cell_cmp};
 ghost use Rattle.point_order.specs.Facets.{points_of};
 ghost use Rattle.point_order.specs.Sets.{IsIn, IsAscending};
-ghost use Rattle.cell_stars.specs.AtOnce.{
-  AreKeyed,
-  AreNumberedTo,
-  FromCellHere,
-  GainsPlaces,
-  HaveKeys,
-  StandsAtHere,
-  StandsHere,
-};
+ghost use Rattle.cell_stars.specs.AtOnce.{AreKeyed, AreNumberedTo, FromCellHere, GainsPlaces, HaveKeys, StandsAtHere};
+ghost use Rattle.cell_stars.specs.AtOnce.{StandsHere};
 ghost use Rattle.list_laws.specs.Lists.{Gathers};
 ghost use Rattle.cell_stars.specs.Places.{cells_of};
 ghost use Rattle.cell_stars.specs.Swaps.{touches as touches_of};

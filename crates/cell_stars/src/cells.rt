@@ -1,26 +1,7 @@
 //! The cells of a bucket.
 
-ghost use Rattle.std.specs.Prelude.{
-  ◌≡◌,
-  ◌↔◌,
-  ◌⊎◌,
-  ◌+◌,
-  ◌*◌,
-  ◌-◌,
-  ◌≤◌,
-  ◌^◌,
-  ℕ,
-  None,
-  Some,
-  IfSome,
-  true,
-  [],
-  length,
-  IsPermutation,
-  IfOk,
-  if◌then◌else◌,
-  ◌==◌,
-};
+ghost use Rattle.std.specs.Prelude.{◌≡◌, ◌↔◌, ◌⊎◌, ◌+◌, ◌*◌, ◌-◌, ◌≤◌, ◌^◌, ℕ, None, Some, IfSome, true, [], length};
+ghost use Rattle.std.specs.Prelude.{IsPermutation, IfOk, if◌then◌else◌, ◌==◌};
 ghost use Rattle.std.specs.List.{filter};
 ghost use Rattle.point_order.specs.Facets.{points_of};
 ghost use Rattle.point_order.specs.Sets.{IsIn, is_among};

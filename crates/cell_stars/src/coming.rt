@@ -1,16 +1,6 @@
 //! The fresh cells that come in an exchange: those that touch the bucket and do not stay there.
 
-ghost use Rattle.std.specs.Prelude.{
-  ◌≡◌,
-  ℕ,
-  true,
-  Some,
-  IfOk,
-  IfSome,
-  OnOk,
-  MatchBool,
-  IsTrue,
-};
+ghost use Rattle.std.specs.Prelude.{◌≡◌, ℕ, true, Some, IfOk, IfSome, OnOk, MatchBool, IsTrue};
 ghost use Rattle.point_order.specs.declared.cell.Cell.{Cell};
 ghost use Rattle.point_order.specs.Facets.{points_of};
 ghost use Rattle.point_order.specs.Sets.{IsIn, IsAscending, is_among};

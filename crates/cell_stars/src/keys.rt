@@ -5,15 +5,8 @@ ghost use Rattle.std.specs.Option.{option_map};
 ghost use Rattle.point_order.specs.Sets.{IsIn, IsAscending};
 ghost use Rattle.cell_stars.specs.Places.{AreFiled, part_at, part_of};
 ghost use Rattle.cell_stars.specs.Plans.{AreBelow, or_else, set_all};
-ghost use Rattle.cell_stars.specs.Moves.{
-  AreKeysAfter,
-  AreKeysWith,
-  AreAgreed,
-  HasSameKeys,
-  IsKeyed,
-  IsKeyAfter,
-  IsNumberFor,
-};
+ghost use Rattle.cell_stars.specs.Moves.{AreKeysAfter, AreKeysWith, AreAgreed, HasSameKeys, IsKeyed, IsKeyAfter};
+ghost use Rattle.cell_stars.specs.Moves.{IsNumberFor};
 
 use crate::around::Around;
 use crate::cells::Cells;

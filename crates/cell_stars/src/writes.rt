@@ -1,38 +1,13 @@
 //! The stars after an exchange.
 
-ghost use Rattle.std.specs.Prelude.{
-  ◌≡◌,
-  ◌↔◌,
-  ◌<◌,
-  ◌≤◌,
-  ℕ,
-  true,
-  Some,
-  IfOk,
-  IfSome,
-  OnOk,
-  length,
-  List,
-  map,
-  MatchBool,
-  MatchOption,
-  IsTrue,
-};
+ghost use Rattle.std.specs.Prelude.{◌≡◌, ◌↔◌, ◌<◌, ◌≤◌, ℕ, true, Some, IfOk, IfSome, OnOk, length, List, map};
+ghost use Rattle.std.specs.Prelude.{MatchBool, MatchOption, IsTrue};
 ghost use Rattle.std.specs.List.{filter};
 ghost use Rattle.point_order.specs.Sets.{IsIn, IsAscending};
 ghost use Rattle.cell_stars.specs.Places.{lies_in, star_at, IsStarred};
 ghost use Rattle.cell_stars.specs.Adding.{head_of, IsStaying};
-ghost use Rattle.cell_stars.specs.Moves.{
-  AreMarked,
-  AreVerticesAt,
-  AreTurnsFor,
-  AreStarsAfter,
-  IsNumberFor,
-  IsOwnNumber,
-  IsSpare,
-  IsTurnAdded,
-  IsRewriting,
-};
+ghost use Rattle.cell_stars.specs.Moves.{AreMarked, AreVerticesAt, AreTurnsFor, AreStarsAfter, IsNumberFor};
+ghost use Rattle.cell_stars.specs.Moves.{IsOwnNumber, IsSpare, IsTurnAdded, IsRewriting};
 
 use crate::around::Around;
 use crate::cells::{Cells, places_in};

@@ -1,22 +1,6 @@
 -- What any entry, a move too, makes of the shares of a history.
-use Rattle.std.specs.Prelude.{
-  ◌≡◌,
-  ℕ,
-  ◌+◌,
-  ◌==◌,
-  Bool,
-  true,
-  false,
-  cond,
-  List,
-  [],
-  ◌∷◌,
-  ◌++◌,
-  Option,
-  None,
-  Some,
-  IfSome,
-}
+use Rattle.std.specs.Prelude.{◌≡◌, ℕ, ◌+◌, ◌==◌, Bool, true, false, cond, List, [], ◌∷◌, ◌++◌, Option, None, Some}
+use Rattle.std.specs.Prelude.{IfSome}
 use Rattle.std.specs.List.{filter}
 use Rattle.std.specs.Option.{option_map, option_map_or}
 use Rattle.std.proofs.Common.{refl, sym, ◌∙◌, ap, subst}
@@ -31,15 +15,8 @@ use Rattle.edit_history.specs.declared.history.Edit.{Edit}
 use Rattle.edit_history.specs.declared.history.Edit.TheVariants.{Add, Take, Move}
 use Rattle.edit_history.specs.declared.history.Entry.{Entry}
 use Rattle.edit_history.specs.declared.history.Reply.{Reply}
-use Rattle.edit_history.specs.declared.history.Reply.TheVariants.{
-  Inserted,
-  Duplicate,
-  Removed,
-  Missing,
-  Flat,
-  Moved,
-  Occupied,
-}
+use Rattle.edit_history.specs.declared.history.Reply.TheVariants.{Inserted, Duplicate, Removed, Missing, Flat, Moved}
+use Rattle.edit_history.specs.declared.history.Reply.TheVariants.{Occupied}
 use Rattle.edit_history.specs.Edits.{point_of, reply_to, arrived, changed, after}
 use Rattle.edit_history.specs.Histories.{replay, replay_from, IsLegal, IsLegalFrom}
 use Rattle.edit_history.proofs.Cited.{has_moved, leaves_set}
@@ -49,28 +26,11 @@ use Rattle.cell_store.specs.Points.{came, goal_of}
 use Rattle.cell_store.specs.Ready.{ChangeFindsCells}
 use Rattle.cell_store.specs.Shares.{IsShare, cells_share}
 use Rattle.cell_store.specs.Swaps.{touches, swapped}
-use Rattle.cell_store.specs.Changes.{
-  arrived_in,
-  brought_in,
-  noted_in,
-  put_in,
-  swapped_in,
-  AnyKeepsHold,
-  IsArrived,
-  IsPut,
-  ShareAfterAny,
-}
-use Rattle.cell_store.proofs.NextLaws.{
-  cells_after,
-  entries_after,
-  entries_stay,
-  filter_with,
-  filter_with_else,
-  lies,
-  mapped_some,
-  points_after,
-  points_stay,
-}
+use Rattle.cell_store.specs.Changes.{arrived_in, brought_in, noted_in, put_in, swapped_in, AnyKeepsHold, IsArrived}
+use Rattle.cell_store.specs.Changes.{IsPut, ShareAfterAny}
+use Rattle.cell_store.proofs.NextLaws.{cells_after, entries_after, entries_stay, filter_with, filter_with_else, lies}
+use Rattle.cell_store.proofs.NextLaws.{mapped_some, points_after, points_stay}
+use Rattle.edit_history.proofs.Cited.{ascending_arrived as arrived_ascending}
 
 -- what a history with an entry leaves
 pub replay_any : (h : List Entry) (e : Entry) → IsLegal (h ++ e ∷ []) →
@@ -128,18 +88,6 @@ arrived_points g b s (Move p q) Missing c a e = e
 arrived_points g b s (Move p q) Flat c a e = e
 arrived_points g b s (Move p q) Occupied c a e = e
 
--- it is another set in order
-pub arrived_ascending : (s : List ℕ) (edit : Edit) (r : Reply) → IsAscending s → IsAscending (arrived s edit r)
-arrived_ascending s (Add p) r a = a
-arrived_ascending s (Take p) r a = a
-arrived_ascending s (Move p q) Moved a = ascending_with q s a
-arrived_ascending s (Move p q) Inserted a = a
-arrived_ascending s (Move p q) Duplicate a = a
-arrived_ascending s (Move p q) Removed a = a
-arrived_ascending s (Move p q) Missing a = a
-arrived_ascending s (Move p q) Flat a = a
-arrived_ascending s (Move p q) Occupied a = a
-
 -- nothing but points changes
 put_rest : (g b p : ℕ) (c : BucketContent) → ((put_in g b p c).cells ≡ c.cells) ×
     ((put_in g b p c).entries ≡ c.entries) × ((put_in g b p c).place ≡ c.place)
@@ -176,29 +124,6 @@ came_free s (Move p q) Removed e = tt
 came_free s (Move p q) Missing e = tt
 came_free s (Move p q) Flat e = tt
 came_free s (Move p q) Occupied e = tt
-
--- what came is put, or nothing
-pub arrived_put : (e : Entry) (p : ℕ) (old new : InHand) → came e.edit e.reply ≡ Some p → IsPut p old new →
-    IsArrived e old new
-arrived_put e p old new q i = record {
-  grid = i.grid;
-  count = i.count;
-  places = λ b. i.places b ∙ ap (λ o. option_map (λ c. option_map_or (λ p. put_in old.grid b p c) o c)
-      (bucket_at old.places b)) (sym q);
-}
-
--- where no place comes the hold is as before
-pub arrived_none : (e : Entry) (old : InHand) → came e.edit e.reply ≡ None → IsArrived e old old
-arrived_none e old q = record {
-  grid = refl;
-  count = refl;
-  places = λ b. same (bucket_at old.places b) ∙ ap (λ o. option_map
-      (λ c. option_map_or (λ p. put_in old.grid b p c) o c) (bucket_at old.places b)) (sym q);
-}
-  where
-    same : (o : Option BucketContent) → o ≡ option_map (λ c. c) o
-    same None = refl
-    same (Some c) = refl
 
 -- ---- the shares
 

@@ -1,45 +1,15 @@
 -- A hold with one point more, for a while.
-use Rattle.std.specs.Prelude.{
-  ◌≡◌,
-  ℕ,
-  suc,
-  ◌==◌,
-  Bool,
-  true,
-  false,
-  cond,
-  not,
-  List,
-  [],
-  ◌∷◌,
-  ◌++◌,
-  ◌⊎◌,
-  Option,
-  None,
-  Some,
-  IsSome,
-  length,
-}
+use Rattle.std.specs.Prelude.{◌≡◌, ℕ, suc, ◌==◌, Bool, true, false, cond, not, List, [], ◌∷◌, ◌++◌, ◌⊎◌, Option, None}
+use Rattle.std.specs.Prelude.{Some, IsSome, length}
 use Rattle.std.specs.List.{filter}
 use Rattle.std.specs.List.Sorted.{IsStrictlySortedBy}
 use Rattle.std.specs.Option.{option_map, option_map_or}
 use Rattle.std.proofs.Common.{refl, sym, ◌∙◌, ap, subst, inl, inr, arith}
 use Rattle.std.proofs.lemmas.Bool.{eqb-true}
 use Rattle.std.proofs.lemmas.List.Kept.{IsStrictlySortedBy-filter}
-use Rattle.list_laws.proofs.Cited.{
-  among_from,
-  among_true,
-  any_from,
-  false_if,
-  filtered_ascending,
-  filtered_from,
-  filtered_true,
-  from_append,
-  in_left,
-  in_right,
-  some_mapped,
-  same_members as same-members,
-}
+use Rattle.list_laws.proofs.Cited.{among_from, among_true, any_from, false_if, filtered_ascending, filtered_from}
+use Rattle.list_laws.proofs.Cited.{filtered_true, from_append, in_left, in_right, some_mapped}
+use Rattle.list_laws.proofs.Cited.{same_members as same-members}
 use Rattle.point_order.specs.declared.cell.Cell.{Cell}
 use Rattle.point_order.specs.CellOrder.{cell_cmp}
 use Rattle.point_order.specs.Complex.{complex}
@@ -62,20 +32,13 @@ use Rattle.cell_store.specs.Changes.{dropped_in, put_in, swapped_in, IsChange, I
 use Rattle.cell_store.specs.Ready.{AreHeld, FindsCells}
 use Rattle.cell_store.proofs.HandLaws.{held_point}
 use Rattle.cell_store.specs.Touches.{IsTouched}
-use Rattle.cell_store.specs.Between.{
-  ChangesCompose,
-  Enters,
-  EnteredShows,
-  WasEntered,
-  IsEntered,
-  LeftIsSame,
-  SightOutside,
-}
+use Rattle.cell_store.specs.Between.{ChangesCompose, Enters, EnteredShows, WasEntered, IsEntered, LeftIsSame}
+use Rattle.cell_store.specs.Between.{SightOutside}
 use Rattle.cell_stars.proofs.Cited.{swapped_back, swapped_none, swapped_sorted}
 use Rattle.cell_store.proofs.AnyLaws.{change_finds_cells, put_points}
 use Rattle.cell_store.proofs.NextLaws.{cells_next, filter_with_else, lies, mapped_some}
 use Rattle.cell_store.proofs.ShareLaws.{solid_set}
-use Rattle.cell_store.proofs.TouchLaws.{all_out, left_out, own_touched}
+use Rattle.cell_store.proofs.TouchLaws.{all_out, left_out, own_touched, with_solid as entered_solid}
 
 -- the cells of a complex that touch a bucket, exchanged, are those of the next complex
 pub cells_then : (g b : ℕ) (s t : List ℕ) (gone fresh : List Cell) → IsAscending s → IsAscending t →
@@ -87,11 +50,6 @@ cells_then g b s t gone fresh i j ch =
     (swapped_sorted g b gone fresh (filter (touches g b) (complex s))
     (IsStrictlySortedBy-filter cell_cmp (touches g b) (complex s) (complex_is_sorted s i)))
     (IsStrictlySortedBy-filter cell_cmp (touches g b) (complex t) (complex_is_sorted t j)) r.0 r.1
-
--- the set with a new point is solid
-pub entered_solid : (s : List ℕ) (p : ℕ) → IsSolidSet s → IsNew s p → IsSolidSet (with_point p s)
-entered_solid s p i n = subst IsSolidSet (ap (λ (r : Reply). changed s p r)
-    (inserts s p (false_if (is_among p s) (λ h. n.absent (among_from p s h))))) (stays_solid s (Add p) i n.key)
 
 -- a hold that a point has entered shows the set with the point
 pub entered_shows : EnteredShows

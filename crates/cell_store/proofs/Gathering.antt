@@ -1,41 +1,14 @@
 -- Lists that are gathered bucket by bucket.
-use Rattle.std.specs.Prelude.{
-  ◌≡◌,
-  ℕ,
-  ◌+◌,
-  ◌<◌,
-  ◌≤◌,
-  Bool,
-  true,
-  false,
-  List,
-  [],
-  ◌∷◌,
-  ◌++◌,
-  length,
-  take,
-  Option,
-  Some,
-  None,
-  IsSome,
-}
+use Rattle.std.specs.Prelude.{◌≡◌, ℕ, ◌+◌, ◌<◌, ◌≤◌, Bool, true, false, List, [], ◌∷◌, ◌++◌, length, take, Option, Some}
+use Rattle.std.specs.Prelude.{None, IsSome}
 use Rattle.std.specs.List.{filter, flat_map}
 use Rattle.std.specs.List.Sorted.{IsNonDecreasingBy, IsPermutation, IsStrictlySortedBy}
 use Rattle.std.proofs.Common.{ap, sym, subst, refl, ◌∙◌, add-one, append_assoc, inl, inr, arith, Vec, Global}
 use Rattle.std.proofs.lemmas.Grind.{flat_map-append}
 use Rattle.std.proofs.lemmas.List.{append-nil, get_or-set_other, take_all}
 use Rattle.std.proofs.lemmas.List.Sorted.{IsPermutation-refl, IsPermutation-sym}
-use Rattle.list_laws.proofs.Cited.{
-  filtered_from,
-  filtered_true,
-  from_append,
-  in_left,
-  in_moved,
-  in_right,
-  one_below,
-  same_true,
-  some_of,
-}
+use Rattle.list_laws.proofs.Cited.{filtered_from, filtered_true, from_append, in_left, in_moved, in_right, one_below}
+use Rattle.list_laws.proofs.Cited.{same_true, some_of}
 use Rattle.point_order.specs.declared.cell.Cell.{Cell}
 use Rattle.point_order.specs.declared.cell.Cell.TheVariants.{Full, Open}
 use Rattle.point_order.specs.Complex.{complex}
@@ -54,14 +27,7 @@ use Rattle.cell_store.specs.Shares.{Shows, Stands}
 use Rattle.cell_store.specs.Stars.{bucket_of_first}
 use Rattle.cell_store.specs.Meshes.{AllInHand, IsWhole, all_cells, all_entries, without_bucket}
 use Rattle.cell_store.specs.Gathered.{AreGatheredFrom, HasHome, home_of, is_home}
-use Rattle.cell_store.proofs.MeshLaws.{
-  cells_of,
-  in_flat,
-  mesh_gathers,
-  mesh_gathers_cells,
-  next_gathered,
-  point_held,
-}
+use Rattle.cell_store.proofs.MeshLaws.{cells_of, in_flat, mesh_gathers, mesh_gathers_cells, next_gathered, point_held}
 use Rattle.cell_store.proofs.ShareLaws.{touched}
 
 -- nothing is gathered at first

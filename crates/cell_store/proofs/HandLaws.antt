@@ -1,51 +1,18 @@
 -- Buckets that come in hand and go.
-use Rattle.std.specs.Prelude.{
-  ◌≡◌,
-  ℕ,
-  zero,
-  suc,
-  ◌==◌,
-  List,
-  [],
-  ◌∷◌,
-  ◌⊎◌,
-  Option,
-  None,
-  Some,
-  IsSome,
-  slice_set,
-  ◌*◌,
-  replicate,
-}
+use Rattle.std.specs.Prelude.{◌≡◌, ℕ, zero, suc, ◌==◌, List, [], ◌∷◌, ◌⊎◌, Option, None, Some, IsSome, slice_set, ◌*◌}
+use Rattle.std.specs.Prelude.{replicate}
 use Rattle.std.specs.List.{filter}
 use Rattle.std.proofs.Common.{refl, sym, ◌∙◌, ap, subst, inl, inr}
 use Rattle.std.proofs.lemmas.Bool.{cases_eq}
 use Rattle.std.proofs.lemmas.List.{get_or-set_other}
-use Rattle.list_laws.proofs.Cited.{
-  among_from,
-  among_true,
-  eq_same,
-  filtered_from,
-  filtered_true,
-  one_value,
-  same_test,
-  some_of,
-}
+use Rattle.list_laws.proofs.Cited.{among_from, among_true, eq_same, filtered_from, filtered_true, one_value, same_test}
+use Rattle.list_laws.proofs.Cited.{some_of}
 use Rattle.point_order.specs.Sets.{is_among}
 use Rattle.cell_store.specs.Grids.{bucket_of}
 use Rattle.cell_store.specs.Buckets.{BucketContent, InHand, bucket_at, at_place, points_at}
 use Rattle.cell_store.specs.Shares.{Shows, IsShare, IsSight}
-use Rattle.cell_store.specs.Meshes.{
-  EmptyStands,
-  EmptyShows,
-  FewerStand,
-  FewerShow,
-  PutStands,
-  PutShows,
-  PutIsMore,
-  TakeIsFewer,
-  with_bucket,
-}
+use Rattle.cell_store.specs.Meshes.{EmptyStands, EmptyShows, FewerStand, FewerShow, PutStands, PutShows, PutIsMore}
+use Rattle.cell_store.specs.Meshes.{TakeIsFewer, with_bucket}
 
 -- ---- fewer buckets
 

@@ -1,26 +1,6 @@
 -- Buckets in hand, and buckets that are missing.
-use Rattle.std.specs.Prelude.{
-  ◌≡◌,
-  ℕ,
-  ◌+◌,
-  ◌*◌,
-  ◌<◌,
-  ◌≤◌,
-  Bool,
-  true,
-  false,
-  List,
-  length,
-  take,
-  slice_index_or,
-  Option,
-  None,
-  Some,
-  IsSome,
-  is_some,
-  not,
-  MatchOption,
-}
+use Rattle.std.specs.Prelude.{◌≡◌, ℕ, ◌+◌, ◌*◌, ◌<◌, ◌≤◌, Bool, true, false, List, length, take, slice_index_or, Option}
+use Rattle.std.specs.Prelude.{None, Some, IsSome, is_some, not, MatchOption}
 use Rattle.std.proofs.Common.{refl, sym, ◌∙◌, ap, subst, inl, inr}
 use Rattle.std.proofs.lemmas.List.{take_all}
 use Rattle.list_laws.proofs.Cited.{at_place, in_take_more, none_is, none_there}

@@ -1,21 +1,6 @@
 -- Buckets as they are kept, and what they show.
-use Rattle.std.specs.Prelude.{
-  ◌≡◌,
-  ℕ,
-  zero,
-  suc,
-  ◌≤◌,
-  List,
-  [],
-  ◌∷◌,
-  length,
-  Option,
-  None,
-  Some,
-  is_some,
-  replicate,
-  slice_set,
-}
+use Rattle.std.specs.Prelude.{◌≡◌, ℕ, zero, suc, ◌≤◌, List, [], ◌∷◌, length, Option, None, Some, is_some, replicate}
+use Rattle.std.specs.Prelude.{slice_set}
 use Rattle.std.specs.Option.{option_map}
 use Rattle.std.proofs.Common.{refl, ◌∙◌, ap, arith}
 use Rattle.cell_store.specs.Buckets.{BucketContent, Layout, StandAtPlaces, bucket_at, content_of, layout_at, shown}

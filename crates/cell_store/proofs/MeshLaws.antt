@@ -1,38 +1,7 @@
 -- Meshes, their histories, and buckets in hand.
-use Rattle.std.specs.Prelude.{
-  ◌≡◌,
-  ◌⊎◌,
-  ltb,
-  ℕ,
-  ◌+◌,
-  ◌-◌,
-  ◌*◌,
-  ◌^◌,
-  zero,
-  suc,
-  ◌<◌,
-  ◌≤◌,
-  ◌==◌,
-  min,
-  nat_lt,
-  Bool,
-  true,
-  false,
-  cond,
-  not,
-  ◌&&◌,
-  List,
-  [],
-  ◌∷◌,
-  ◌++◌,
-  Option,
-  None,
-  Some,
-  IfSome,
-  IsSome,
-  length,
-  slice_index_or,
-}
+use Rattle.std.specs.Prelude.{◌≡◌, ◌⊎◌, ltb, ℕ, ◌+◌, ◌-◌, ◌*◌, ◌^◌, zero, suc, ◌<◌, ◌≤◌, ◌==◌, min, nat_lt, Bool, true}
+use Rattle.std.specs.Prelude.{false, cond, not, ◌&&◌, List, [], ◌∷◌, ◌++◌, Option, None, Some, IfSome, IsSome, length}
+use Rattle.std.specs.Prelude.{slice_index_or}
 use Rattle.std.specs.List.{filter, flat_map, range_with_len}
 use Rattle.std.specs.List.Sorted.{IsPermutation, IsNonDecreasingBy}
 use Rattle.std.specs.Option.{option_map, option_map_or}
@@ -41,34 +10,11 @@ use Rattle.std.proofs.Math.Seq.{take-length}
 use Rattle.std.proofs.lemmas.Bool.Decides.{nat_tests}
 use Rattle.std.proofs.lemmas.Grind.{flat_map-append}
 use Rattle.std.proofs.lemmas.List.{append-nil}
-use Rattle.std.proofs.lemmas.List.Sorted.{
-  IsPermutation-append,
-  IsPermutation-cons,
-  IsPermutation-middle,
-  IsPermutation-filter_both,
-  IsPermutation-map,
-  IsPermutation-refl,
-  IsPermutation-sym,
-  IsPermutation-trans,
-  length_permutation,
-}
-use Rattle.list_laws.proofs.Cited.{
-  all_pass,
-  below_true,
-  filter_and,
-  filtered_from,
-  filtered_true,
-  from_append,
-  if_some,
-  in_left,
-  in_moved,
-  in_right,
-  is_there,
-  none_pass,
-  some_mapped,
-  some_of,
-  take_suc,
-}
+use Rattle.std.proofs.lemmas.List.Sorted.{IsPermutation-append, IsPermutation-cons, IsPermutation-middle}
+use Rattle.std.proofs.lemmas.List.Sorted.{IsPermutation-filter_both, IsPermutation-map, IsPermutation-refl}
+use Rattle.std.proofs.lemmas.List.Sorted.{IsPermutation-sym, IsPermutation-trans, length_permutation}
+use Rattle.list_laws.proofs.Cited.{all_pass, below_true, filter_and, filtered_from, filtered_true, from_append, if_some}
+use Rattle.list_laws.proofs.Cited.{in_left, in_moved, in_right, is_there, none_pass, some_mapped, some_of, take_suc}
 use Rattle.point_order.specs.declared.cell.Cell.{Cell}
 use Rattle.point_order.specs.declared.cell.Cell.TheVariants.{Full, Open}
 use Rattle.point_order.specs.Complex.{complex}
@@ -91,26 +37,9 @@ use Rattle.cell_store.specs.Points.{came, goal_of}
 use Rattle.cell_store.specs.Ready.{CanCome}
 use Rattle.cell_store.proofs.AnyLaws.{any_keeps_hold, came_free}
 use Rattle.cell_store.specs.Swaps.{touches}
-use Rattle.cell_store.specs.Meshes.{
-  AllInHand,
-  HasPlaces,
-  IsWhole,
-  MeshView,
-  IsHoldOf,
-  with_entry,
-  by_number,
-  history_in,
-  mesh_in,
-  all_entries,
-  all_cells,
-  HistoryIs,
-  MeshIs,
-  MeshGathersHistory,
-  MeshGathersComplex,
-  AllAreHeld,
-  MoreAreHeld,
-  within_64_bits,
-}
+use Rattle.cell_store.specs.Meshes.{AllInHand, HasPlaces, IsWhole, MeshView, IsHoldOf, with_entry, by_number}
+use Rattle.cell_store.specs.Meshes.{history_in, mesh_in, all_entries, all_cells, HistoryIs, MeshIs, MeshGathersHistory}
+use Rattle.cell_store.specs.Meshes.{MeshGathersComplex, AllAreHeld, MoreAreHeld, within_64_bits}
 use Rattle.cell_stars.proofs.Cited.{bucket_below}
 use Rattle.cell_store.proofs.HandLaws.{fewer_stand, held_point}
 use Rattle.cell_store.proofs.NextLaws.{next_entry}

@@ -6,13 +6,8 @@ use Rattle.std.proofs.Common.{refl, sym, ◌∙◌, ap, subst, inl, inr, arith}
 use Rattle.std.proofs.lemmas.Bool.{eqb-true}
 use Rattle.std.proofs.lemmas.List.Elements.{filter-append}
 use Rattle.std.proofs.lemmas.List.Kept.{IsStrictlySortedBy-filter}
-use Rattle.list_laws.proofs.Cited.{
-  filter_swap,
-  filtered_ascending,
-  filtered_from,
-  filtered_true,
-  same_members as same-members,
-}
+use Rattle.list_laws.proofs.Cited.{filter_swap, filtered_ascending, filtered_from, filtered_true}
+use Rattle.list_laws.proofs.Cited.{same_members as same-members}
 use Rattle.point_order.specs.declared.cell.Cell.{Cell}
 use Rattle.point_order.specs.CellOrder.{cell_cmp}
 use Rattle.point_order.specs.Complex.{complex}
@@ -20,15 +15,8 @@ use Rattle.point_order.specs.Sets.{IsIn, IsAscending, with_point, without_point}
 use Rattle.point_order.proofs.Cited.{ascending_with, cell_in_or_not, in_with, in_with_new, in_with_old}
 use Rattle.edit_history.specs.declared.history.Entry.{Entry}
 use Rattle.edit_history.specs.declared.history.Reply.{Reply}
-use Rattle.edit_history.specs.declared.history.Reply.TheVariants.{
-  Inserted,
-  Duplicate,
-  Removed,
-  Missing,
-  Flat,
-  Moved,
-  Occupied,
-}
+use Rattle.edit_history.specs.declared.history.Reply.TheVariants.{Inserted, Duplicate, Removed, Missing, Flat, Moved}
+use Rattle.edit_history.specs.declared.history.Reply.TheVariants.{Occupied}
 use Rattle.edit_history.specs.Edits.{is_move, point_of, reply_to, changed, after}
 use Rattle.edit_history.specs.Histories.{replay, replay_from, IsLegal, IsLegalFrom}
 use Rattle.edit_history.proofs.Cited.{arrived_still, leaves_set, legal_more, replay_more}
@@ -39,15 +27,8 @@ use Rattle.cell_store.specs.Grids.{bucket_of}
 use Rattle.cell_store.specs.Buckets.{BucketContent, bucket_at}
 use Rattle.cell_store.specs.Swaps.{touches, swapped}
 use Rattle.cell_store.specs.Shares.{IsShare, cells_share, entries_share}
-use Rattle.cell_store.specs.Changes.{
-  swapped_in,
-  noted_in,
-  IsChange,
-  NextEntry,
-  EntryKeepsHold,
-  ShareAfterEntry,
-  ShareElsewhere,
-}
+use Rattle.cell_store.specs.Changes.{swapped_in, noted_in, IsChange, NextEntry, EntryKeepsHold, ShareAfterEntry}
+use Rattle.cell_store.specs.Changes.{ShareElsewhere}
 use Rattle.cell_stars.proofs.Cited.{swapped_from, swapped_new, swapped_none, swapped_old, swapped_sorted}
 
 -- ---- the cells

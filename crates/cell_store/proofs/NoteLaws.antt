@@ -1,56 +1,13 @@
 -- What an entry makes of the points of its bucket, and of the buckets of a hold.
-use Rattle.std.specs.Prelude.{
-  ◌≡◌,
-  ◌≢◌,
-  ℕ,
-  ◌<◌,
-  ◌≤◌,
-  ◌==◌,
-  Bool,
-  true,
-  false,
-  cond,
-  not,
-  ◌||◌,
-  List,
-  [],
-  ◌∷◌,
-  ◌++◌,
-  Option,
-  None,
-  Some,
-  IfSome,
-  IsSome,
-  IsSomeAnd,
-  length,
-  slice_index,
-  slice_index_or,
-  slice_set,
-  suc,
-  ◌+◌,
-  Result,
-  Ok,
-  Err,
-  MatchResult,
-  OnOk,
-  OnErr,
-}
+use Rattle.std.specs.Prelude.{◌≡◌, ◌≢◌, ℕ, ◌<◌, ◌≤◌, ◌==◌, Bool, true, false, cond, not, ◌||◌, List, [], ◌∷◌, ◌++◌}
+use Rattle.std.specs.Prelude.{Option, None, Some, IfSome, IsSome, IsSomeAnd, length, slice_index, slice_index_or}
+use Rattle.std.specs.Prelude.{slice_set, suc, ◌+◌, Result, Ok, Err, MatchResult, OnOk, OnErr}
 use Rattle.std.specs.Option.{option_map, option_map_or}
 use Rattle.std.proofs.Common.{refl, sym, ◌∙◌, ap, subst, inl, inr, arith}
 use Rattle.std.proofs.lemmas.List.{get_or-set_same, get_or-set_other}
 use Rattle.std.proofs.lemmas.Bool.{cases_eq, ne_eqb}
-use Rattle.list_laws.proofs.Cited.{
-  among_true,
-  below_each,
-  if_some,
-  index_in,
-  len_set,
-  of_some,
-  one_value,
-  same_true,
-  to_some,
-  within_list,
-}
+use Rattle.list_laws.proofs.Cited.{among_true, below_each, if_some, index_in, len_set, of_some, one_value, same_true}
+use Rattle.list_laws.proofs.Cited.{to_some, within_list}
 use Rattle.point_order.specs.declared.cell.Cell.{Cell}
 use Rattle.point_order.specs.Sets.{IsIn, IsAscending, is_among, with_point, without_point}
 use Rattle.point_order.proofs.Cited.{in_with_new, with_cases}
@@ -59,33 +16,12 @@ use Rattle.edit_history.specs.Edits.{point_of, changed}
 use Rattle.edit_history.proofs.Cited.{among_gap}
 use Rattle.cell_store.specs.Grids.{bucket_of}
 use Rattle.cell_stars.specs.Places.{Placed, cells_of}
-use Rattle.cell_store.specs.Buckets.{
-  BucketContent,
-  Layout,
-  InHand,
-  Room,
-  bucket_at,
-  content_of,
-  layout_at,
-  shown,
-  StandAtPlaces,
-  points_at,
-}
+use Rattle.cell_store.specs.Buckets.{BucketContent, Layout, InHand, Room, bucket_at, content_of, layout_at, shown}
+use Rattle.cell_store.specs.Buckets.{StandAtPlaces, points_at}
 use Rattle.cell_store.specs.declared.room.PlanFor.{PlanFor}
 use Rattle.cell_store.specs.Changes.{dropped_in, noted_in, put_in, IsDropped, IsNoted, IsPut}
-use Rattle.cell_store.specs.Ready.{
-  AllRoomier,
-  AreRoomier,
-  HasMuchRoom,
-  HasPlaceFor,
-  HasRoom,
-  IsExchange,
-  IsNoteReady,
-  IsPointReady,
-  ArePlansReady,
-  IsReadyFor,
-  IsRoomier,
-}
+use Rattle.cell_store.specs.Ready.{AllRoomier, AreRoomier, HasMuchRoom, HasPlaceFor, HasRoom, IsExchange, IsNoteReady}
+use Rattle.cell_store.specs.Ready.{IsPointReady, ArePlansReady, IsReadyFor, IsRoomier}
 use Rattle.cell_store.proofs.Layouts.{shown_at}
 
 -- a point that is there is put in already
@@ -435,33 +371,6 @@ all_twice old mid new r s = record {
               omega arith;
           for_entries = omega arith;
         }
-
--- one bucket with more room
-pub one_roomier : (old : List (Option Layout)) (b : ℕ) (x y : Option Layout) → b < length old →
-    x ≡ slice_index_or old b x → AreRoomier x y → AllRoomier old (slice_set old b y)
-one_roomier old b x y h e r = record { count = len_set old b y; each = each }
-  where
-    same : (o : Option Layout) → AreRoomier o o
-    same None = refl
-    same (Some c) = (let u : c.room_points ≤ c.room_points = omega arith in let v : c.room_entries ≤ c.room_entries =
-        omega arith in record { points = refl; cells = refl; entries = refl; for_points = u; for_entries = v })
-
-    each : (n : ℕ) → AreRoomier (layout_at old n) (layout_at (slice_set old b y) n)
-    each n = elim (cases_eq n b) [
-      | inl w ↦ subst (λ o. AreRoomier o (layout_at (slice_set old b y) n))
-          (sym (ap (layout_at old) w ∙ within_list old b x None h e))
-          (subst (AreRoomier x) (sym (ap (layout_at (slice_set old b y)) w ∙ get_or-set_same old b y None h)) r)
-      | inr w ↦ subst (AreRoomier (layout_at old n)) (sym (get_or-set_other old b n y None w)) (same (layout_at old n))
-    ]
-
--- buckets that are as before have as much room
-pub none_roomier : (old : List (Option Layout)) → AllRoomier old old
-none_roomier old = record { count = refl; each = λ b. same (layout_at old b) }
-  where
-    same : (o : Option Layout) → AreRoomier o o
-    same None = refl
-    same (Some c) = (let u : c.room_points ≤ c.room_points = omega arith in let v : c.room_entries ≤ c.room_entries =
-        omega arith in record { points = refl; cells = refl; entries = refl; for_points = u; for_entries = v })
 
 -- what an option has, that has one value
 pub named : (o : Option ℕ) (p : ℕ) → o ≡ Some p → IfSome o (λ q. q ≡ p)

@@ -1,32 +1,6 @@
 -- What an exchange makes of the buckets of a hold, from the lists that were ready.
-use Rattle.std.specs.Prelude.{
-  ◌≡◌,
-  ◌≢◌,
-  ℕ,
-  ◌+◌,
-  zero,
-  suc,
-  ◌<◌,
-  ◌==◌,
-  Bool,
-  true,
-  false,
-  not,
-  List,
-  [],
-  ◌∷◌,
-  ◌++◌,
-  ◌⊎◌,
-  Option,
-  None,
-  Some,
-  IsSome,
-  IsSomeAnd,
-  length,
-  map,
-  slice_index_or,
-  slice_set,
-}
+use Rattle.std.specs.Prelude.{◌≡◌, ◌≢◌, ℕ, ◌+◌, zero, suc, ◌<◌, ◌==◌, Bool, true, false, not, List, [], ◌∷◌, ◌++◌, ◌⊎◌}
+use Rattle.std.specs.Prelude.{Option, None, Some, IsSome, IsSomeAnd, length, map, slice_index_or, slice_set}
 use Rattle.std.specs.List.{dedup}
 use Rattle.std.specs.List.Sorted.{IsPermutation}
 use Rattle.std.specs.Option.{option_map, option_map_or}
@@ -34,25 +8,9 @@ use Rattle.std.proofs.Common.{refl, sym, ◌∙◌, ap, subst, inl, inr, arith, 
 use Rattle.std.proofs.Math.Seq.{drop-cons}
 use Rattle.std.proofs.lemmas.Bool.{cases_eq}
 use Rattle.std.proofs.lemmas.List.{drop-set-lt, take_all, take_more_set}
-use Rattle.list_laws.proofs.Cited.{
-  and_known,
-  any_none,
-  at_place,
-  below_each,
-  from_append,
-  in_left,
-  in_right,
-  mapped_from,
-  mapped_true,
-  numbers_same,
-  of_some,
-  one_value,
-  same_from,
-  take_next,
-  take_suc,
-  to_some,
-  within_list,
-}
+use Rattle.list_laws.proofs.Cited.{any_none, at_place, below_each, from_append, in_left, in_right, mapped_from}
+use Rattle.list_laws.proofs.Cited.{mapped_true, numbers_same, of_some, one_value, same_from, take_next, take_suc}
+use Rattle.list_laws.proofs.Cited.{to_some, within_list}
 use Rattle.point_order.specs.declared.cell.Cell.{Cell}
 use Rattle.point_order.specs.Facets.{points_of}
 use Rattle.point_order.specs.Sets.{IsIn}
@@ -62,39 +20,12 @@ use Rattle.cell_stars.specs.Places.{Placed, cells_of, swapped_at}
 use Rattle.list_laws.specs.Lists.{Gathers}
 use Rattle.cell_stars.specs.Plans.{AreVertices, PlanView, MakesExchange}
 use Rattle.cell_stars.specs.Turns.{AreReady}
-use Rattle.cell_store.specs.Buckets.{
-  BucketContent,
-  Layout,
-  InHand,
-  StandAtPlaces,
-  bucket_at,
-  cells_in,
-  content_of,
-  layout_at,
-  shown,
-}
+use Rattle.cell_store.specs.Buckets.{BucketContent, Layout, InHand, StandAtPlaces, bucket_at, cells_in, content_of}
+use Rattle.cell_store.specs.Buckets.{layout_at, shown}
 use Rattle.cell_store.specs.Changes.{NoneTouches, swapped_in, IsSwapped}
-use Rattle.cell_store.specs.Ready.{
-  AreForOthers,
-  AreExchanged,
-  AreFound,
-  AreHeld,
-  FindsCells,
-  AreInHand,
-  AreMade,
-  AreTurned,
-  CanTurn,
-  IsAllowed,
-  IsExchange,
-  IsBucketAfter,
-  IsBucketOf,
-  ArePlansReady,
-  IsReadyFor,
-  IsTurned,
-  IsTurnedIn,
-  NoneIsFor,
-  buckets_of_cells,
-}
+use Rattle.cell_store.specs.Ready.{AreForOthers, AreExchanged, AreFound, AreHeld, FindsCells, AreInHand, AreMade}
+use Rattle.cell_store.specs.Ready.{AreTurned, CanTurn, IsAllowed, IsExchange, IsBucketAfter, IsBucketOf, ArePlansReady}
+use Rattle.cell_store.specs.Ready.{IsReadyFor, IsTurned, IsTurnedIn, NoneIsFor, buckets_of_cells}
 use Rattle.cell_store.specs.declared.room.PlanFor.{PlanFor}
 use Rattle.cell_store.proofs.Layouts.{shown_at, shown_is, shown_some}
 use Rattle.cell_store.specs.Swaps.{touches}
@@ -604,25 +535,6 @@ pub in_hand_below : (places : List (Option BucketContent)) (b : ℕ) → IsSome 
 in_hand_below [] b s = absurd (cc s)
 in_hand_below (o ∷ places) zero s = omega arith
 in_hand_below (o ∷ places) (suc b) s = let h = in_hand_below places b s in omega arith
-
--- so has one that stands in the list
-pub layout_below : (places : List (Option Layout)) (b : ℕ) → IsSome (layout_at places b) → b < length places
-layout_below [] b s = absurd (cc s)
-layout_below (o ∷ places) zero s = omega arith
-layout_below (o ∷ places) (suc b) s = let h = layout_below places b s in omega arith
-
--- and the bucket of a plan that can be made
-pub allowed_below : (t : Bool) (places : List (Option Layout)) (l : PlanFor) → IsAllowed t places l →
-    l.number < length places
-allowed_below t places l a = layout_below places l.number
-    (and_known (λ c. CanTurn t l.plan c.cells) (layout_at places l.number) a)
-
--- the bucket in which it can
-pub allowed_there : (t : Bool) (places : List (Option Layout)) (l : PlanFor) (x : Option Layout) →
-    IsAllowed t places l → x ≡ slice_index_or places l.number x →
-    IsSomeAnd (slice_index_or places l.number x) (λ c. CanTurn t l.plan c.cells)
-allowed_there t places l x a e = subst (λ o. IsSomeAnd o (λ c. CanTurn t l.plan c.cells))
-    (within_list places l.number x None (allowed_below t places l a) e ∙ e) a
 
 -- while more plans are made, they are for the first numbers
 pub numbers_more : (plans next : List PlanFor) (l : PlanFor) (numbers : List ℕ) (i : ℕ) → i < length numbers →

@@ -1,36 +1,11 @@
 -- What the buckets of a hold have of the set that it shows, and of its complex.
-use Rattle.std.specs.Prelude.{
-  ◌≡◌,
-  ℕ,
-  ◌+◌,
-  ◌<◌,
-  Bool,
-  true,
-  false,
-  ◌==◌,
-  List,
-  [],
-  ◌∷◌,
-  Option,
-  Some,
-  is_some,
-  length,
-  slice_index_or,
-}
+use Rattle.std.specs.Prelude.{◌≡◌, ℕ, ◌+◌, ◌<◌, Bool, true, false, ◌==◌, List, [], ◌∷◌, Option, Some, is_some, length}
+use Rattle.std.specs.Prelude.{slice_index_or}
 use Rattle.std.specs.List.{filter}
 use Rattle.std.specs.Option.{option_map_or}
 use Rattle.std.proofs.Common.{refl, sym, ◌∙◌, ap, subst, inl, inr, take, add-one}
-use Rattle.list_laws.proofs.Cited.{
-  among_from,
-  any_true,
-  eq_same,
-  filter_twice,
-  filtered_from,
-  filtered_true,
-  in_more,
-  none_is,
-  some_is,
-}
+use Rattle.list_laws.proofs.Cited.{among_from, any_true, eq_same, filter_twice, filtered_from, filtered_true, in_more}
+use Rattle.list_laws.proofs.Cited.{none_is, some_is}
 use Rattle.point_order.specs.declared.cell.Cell.{Cell}
 use Rattle.point_order.specs.declared.cell.Cell.TheVariants.{Full, Open}
 use Rattle.point_order.specs.declared.cell.Facet.{Facet}
@@ -47,18 +22,8 @@ use Rattle.cell_store.specs.Grids.{bucket_of}
 use Rattle.cell_store.specs.Buckets.{BucketContent, InHand, bucket_at, cells_in}
 use Rattle.cell_store.specs.Swaps.{touches}
 use Rattle.hole_laws.specs.Others.{IsOtherOf, HaveNoOther}
-use Rattle.cell_store.specs.Shares.{
-  Stands,
-  IsSound,
-  StandsShows,
-  ShareIsOne,
-  Shows,
-  ShowsWith,
-  NoneInHand,
-  IsInHandFor,
-  IsAcross,
-  points_on,
-}
+use Rattle.cell_store.specs.Shares.{Stands, IsSound, StandsShows, ShareIsOne, Shows, ShowsWith, NoneInHand, IsInHandFor}
+use Rattle.cell_store.specs.Shares.{IsAcross, points_on}
 
 -- ---- points and buckets
 

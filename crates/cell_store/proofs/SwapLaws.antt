@@ -7,18 +7,8 @@ use Rattle.list_laws.proofs.Cited.{if_some}
 use Rattle.cell_store.specs.Buckets.{InHand, Layout, Room, StandAtPlaces, bucket_at, layout_at, shown, swap_after}
 use Rattle.cell_store.specs.Changes.{swapped_in}
 use Rattle.cell_store.specs.Grids.{bucket_of}
-use Rattle.cell_store.specs.Ready.{
-  AreExchanged,
-  AreMade,
-  FindsCells,
-  HasPlaceFor,
-  HasRoom,
-  IsExchangeMade,
-  IsNoteReady,
-  IsPointReady,
-  ArePlansReady,
-  NextIs,
-}
+use Rattle.cell_store.specs.Ready.{AreExchanged, AreMade, FindsCells, HasPlaceFor, HasRoom, IsExchangeMade, IsNoteReady}
+use Rattle.cell_store.specs.Ready.{IsPointReady, ArePlansReady, NextIs}
 use Rattle.cell_store.specs.declared.room.Exchange.{Exchange}
 use Rattle.cell_store.specs.declared.room.PlanFor.{PlanFor}
 use Rattle.cell_store.proofs.RoomLaws.{exchanged, ready_back, rest_exchanged, stand_swapped, swapped_places}

@@ -1,48 +1,13 @@
 -- What an edit touches: what it leaves alone, that the buckets in hand show it, and edits side by side.
-use Rattle.std.specs.Prelude.{
-  ◌≡◌,
-  ◌≢◌,
-  ◌⊎◌,
-  ◌↔◌,
-  ℕ,
-  zero,
-  suc,
-  ◌+◌,
-  Bool,
-  true,
-  false,
-  cond,
-  not,
-  ◌==◌,
-  List,
-  [],
-  ◌∷◌,
-  ◌++◌,
-  Option,
-  None,
-  Some,
-  IsSome,
-  is_some,
-}
+use Rattle.std.specs.Prelude.{◌≡◌, ◌≢◌, ◌⊎◌, ◌↔◌, ℕ, zero, suc, ◌+◌, Bool, true, false, cond, not, ◌==◌, List, [], ◌∷◌}
+use Rattle.std.specs.Prelude.{◌++◌, Option, None, Some, IsSome, is_some}
 use Rattle.std.specs.List.{filter}
 use Rattle.std.specs.Option.{option_map}
 use Rattle.std.proofs.lemmas.List.Kept.{IsStrictlySortedBy-filter}
 use Rattle.std.proofs.Common.{refl, sym, ◌∙◌, ap, subst, inl, inr, arith, ne_eqb}
 use Rattle.std.proofs.lemmas.Bool.{eqb-true}
-use Rattle.list_laws.proofs.Cited.{
-  among_from,
-  among_true,
-  any_from,
-  false_if,
-  filtered_from,
-  filtered_true,
-  is_there,
-  not_from,
-  not_true,
-  same_test,
-  some_mapped,
-  some_of,
-}
+use Rattle.list_laws.proofs.Cited.{among_from, among_true, any_from, false_if, filtered_from, filtered_true, is_there}
+use Rattle.list_laws.proofs.Cited.{not_from, not_true, same_test, some_mapped, some_of}
 use Rattle.point_order.specs.declared.cell.Cell.{Cell}
 use Rattle.point_order.specs.declared.cell.Cell.TheVariants.{Full, Open}
 use Rattle.point_order.specs.declared.cell.Facet.{Facet}
@@ -56,41 +21,20 @@ use Rattle.point_order.proofs.Cited.{ascending_with, cell_in_or_not, in_ascendin
 use Rattle.edit_history.specs.declared.history.Edit.{Edit}
 use Rattle.edit_history.specs.declared.history.Edit.TheVariants.{Add, Take, Move}
 use Rattle.edit_history.specs.declared.history.Reply.{Reply}
-use Rattle.edit_history.specs.declared.history.Reply.TheVariants.{
-  Inserted,
-  Duplicate,
-  Removed,
-  Missing,
-  Flat,
-  Moved,
-  Occupied,
-}
+use Rattle.edit_history.specs.declared.history.Reply.TheVariants.{Inserted, Duplicate, Removed, Missing, Flat, Moved}
+use Rattle.edit_history.specs.declared.history.Reply.TheVariants.{Occupied}
 use Rattle.edit_history.specs.Edits.{edit_points, moved_to, point_of, reply_to, arrived, changed, after}
 use Rattle.edit_history.specs.Histories.{replay}
 use Rattle.edit_history.proofs.Cited.{inserts, leaves_set, replay_more}
 use Rattle.del_laws.specs.Listed.{IsListedOpen}
-use Rattle.del_laws.proofs.Cited.{
-  complex_is_sorted,
-  same_members as same_cell_members,
-  listed_inside,
-  listed_is_cell,
-  listed_mate,
-}
+use Rattle.del_laws.proofs.Cited.{complex_is_sorted, same_members as same_cell_members, listed_inside, listed_is_cell}
+use Rattle.del_laws.proofs.Cited.{listed_mate}
 use Rattle.hole_laws.specs.Commuting.{Reaches}
 use Rattle.hole_laws.specs.Edits.{IsSet, IsSolidSet, IsNew, IsMate, IsRimOf, GoesFrom, StaysFrom}
 use Rattle.hole_laws.specs.Laws.{IsHeldPart, IsReached}
 use Rattle.hole_laws.specs.Lists.{Goes, AreJoined}
-use Rattle.hole_laws.proofs.Cited.{
-  cells_after as insertion_cells,
-  changes_reached,
-  edits_commute,
-  found_from_held,
-  goes_in_conflict,
-  rest_set,
-  solid_near,
-  some_rim,
-  stays_solid,
-}
+use Rattle.hole_laws.proofs.Cited.{cells_after as insertion_cells, changes_reached, edits_commute, found_from_held}
+use Rattle.hole_laws.proofs.Cited.{goes_in_conflict, rest_set, solid_near, some_rim, stays_solid}
 use Rattle.cell_store.specs.Grids.{bucket_of}
 use Rattle.cell_store.specs.Buckets.{BucketContent, InHand, bucket_at}
 use Rattle.cell_store.specs.Swaps.{touches, without_cells, is_cell_among}
@@ -99,14 +43,8 @@ use Rattle.cell_store.specs.Changes.{IsChange, NoneTouches}
 use Rattle.cell_store.specs.Touches.{HoldTouched, IsTouched, ShareOutsideTouch, ReachFromHeld, CommitsCommute}
 use Rattle.cell_stars.proofs.Cited.{among_from as cell_from, among_true as cell_among, swapped_none}
 use Rattle.cell_store.proofs.HandLaws.{held_point}
-use Rattle.cell_store.proofs.NextLaws.{
-  cells_after,
-  filter_with,
-  filter_with_else,
-  mapped_some,
-  points_stay,
-  entries_stay,
-}
+use Rattle.cell_store.proofs.NextLaws.{cells_after, filter_with, filter_with_else, mapped_some, points_stay}
+use Rattle.cell_store.proofs.NextLaws.{entries_stay}
 use Rattle.cell_store.proofs.ShareLaws.{touched, facet_inside, facet_nonempty, solid_set}
 
 -- ---- what an edit leaves alone
@@ -500,7 +438,7 @@ seen_shows hold u v i f = record { ascending = i.set.ascending; keys = i.set.key
         }
 
 -- the set with a point that is new
-with_solid : (s : List ℕ) (p : ℕ) → IsSolidSet s → IsNew s p → IsSolidSet (with_point p s)
+pub with_solid : (s : List ℕ) (p : ℕ) → IsSolidSet s → IsNew s p → IsSolidSet (with_point p s)
 with_solid s p i n = subst IsSolidSet (ap (λ (r : Reply). changed s p r)
     (inserts s p (false_if (is_among p s) (λ h. n.absent (among_from p s h))))) (stays_solid s (Add p) i n.key)
 

@@ -1,35 +1,7 @@
 -- What buckets get of a history at once.
-use Rattle.std.specs.Prelude.{
-  ◌≡◌,
-  ℕ,
-  zero,
-  suc,
-  ◌+◌,
-  ◌*◌,
-  ◌<◌,
-  ◌≤◌,
-  ◌==◌,
-  ◌||◌,
-  Bool,
-  true,
-  false,
-  List,
-  [],
-  ◌∷◌,
-  ◌++◌,
-  ◌⊎◌,
-  Option,
-  None,
-  Some,
-  IsSome,
-  length,
-  map,
-  replicate,
-  slice_get,
-  slice_index_or,
-  slice_set,
-  if◌then◌else◌,
-}
+use Rattle.std.specs.Prelude.{◌≡◌, ℕ, zero, suc, ◌+◌, ◌*◌, ◌<◌, ◌≤◌, ◌==◌, ◌||◌, Bool, true, false, List, [], ◌∷◌, ◌++◌}
+use Rattle.std.specs.Prelude.{◌⊎◌, Option, None, Some, IsSome, length, map, replicate, slice_get, slice_index_or}
+use Rattle.std.specs.Prelude.{slice_set, if◌then◌else◌}
 use Rattle.std.specs.List.{filter, list_any}
 use Rattle.std.specs.List.Sorted.{IsStrictlySortedBy}
 use Rattle.std.proofs.Common.{Vec, Global, refl, sym, ◌∙◌, ap, subst, inl, inr, arith, take}
@@ -37,17 +9,8 @@ use Rattle.std.proofs.lemmas.List.{get_or-set_same, get_or-set_other, length-app
 use Rattle.std.proofs.lemmas.List.Elements.{filter-append}
 use Rattle.std.proofs.lemmas.List.Folds.{list_any_more}
 use Rattle.std.proofs.lemmas.List.Kept.{IsStrictlySortedBy-filter}
-use Rattle.list_laws.proofs.Cited.{
-  len_set,
-  map_set,
-  filtered_ascending,
-  filtered_from,
-  in_pushed,
-  is_there,
-  same_from,
-  same_true,
-  take_next,
-}
+use Rattle.list_laws.proofs.Cited.{len_set, map_set, filtered_ascending, filtered_from, in_pushed, is_there, same_from}
+use Rattle.list_laws.proofs.Cited.{same_true, take_next}
 use Rattle.point_order.specs.declared.cell.Cell.{Cell}
 use Rattle.point_order.specs.CellOrder.{cell_cmp}
 use Rattle.point_order.specs.Complex.{complex}
@@ -64,28 +27,12 @@ use Rattle.cell_store.specs.Grids.{bucket_of}
 use Rattle.cell_store.specs.Meshes.{AllInHand, with_bucket}
 use Rattle.cell_store.specs.Shares.{IsShare, IsSound, Stands, cells_share, entries_share, points_share}
 use Rattle.cell_store.specs.Swaps.{touches}
-use Rattle.cell_store.specs.Wholes.{
-  AreAt,
-  AreCellsParted,
-  AreParted,
-  AreParts,
-  HasFirst,
-  IsPushedAt,
-  IsPushedWhere,
-  is_noted_at,
-  lies_at,
-  list_at,
-}
+use Rattle.cell_store.specs.Wholes.{AreAt, AreCellsParted, AreParted, AreParts, HasFirst, IsPushedAt, IsPushedWhere}
+use Rattle.cell_store.specs.Wholes.{is_noted_at, lies_at, list_at}
 use Rattle.cell_store.specs.declared.whole.Parts.{Parts}
 use Rattle.cell_store.proofs.HandLaws.{empty_stands, put_stands}
-
--- two numbers are one or are not
-same_or_not : (x y : ℕ) → (x ≡ y) ⊎ (x ≡ y → ⊥)
-same_or_not zero zero = inl refl
-same_or_not zero (suc y) = inr (λ e. absurd (omega (arith, e)))
-same_or_not (suc x) zero = inr (λ e. absurd (omega (arith, e)))
-same_or_not (suc x) (suc y) = elim (same_or_not x y)
-    [ inl e ↦ inl (ap suc e) | inr f ↦ inr (λ e. f (omega (arith, e))) ]
+use Rattle.cell_stars.proofs.Cited.{same_or_not}
+use Rattle.list_laws.proofs.Cited.{right_true as or_true}
 
 -- the test tells two that are not one
 differ_false : (x y : ℕ) → (x ≡ y → ⊥) → (x == y) ≡ false
@@ -238,11 +185,6 @@ touch_next : (g : ℕ) (ps : List ℕ) (k x b : ℕ) → k < length ps → x ≡
     first_touch g ps (k + 1) b ≡ (first_touch g ps k b || (bucket_of g x == b))
 touch_next g ps k x b h e = list_any_more (lies_at g b) ps k x h
     ∙ ap (λ y. first_touch g ps k b || (bucket_of g y == b)) (sym e)
-
--- where the second of two is true one of them is
-or_true : (p q : Bool) → q ≡ true → (p || q) ≡ true
-or_true true q e = refl
-or_true false q e = e
 
 -- where it is false the first tells
 or_false : (p q : Bool) → q ≡ false → (p || q) ≡ p

@@ -1,21 +1,6 @@
 -- What a bucket and a hold show: their lists, without the layout of the code.
-use Rattle.std.specs.Prelude.{
-  ◌≡◌,
-  ℕ,
-  Bool,
-  true,
-  false,
-  ◌*◌,
-  List,
-  [],
-  Option,
-  None,
-  Some,
-  ◌⊎◌,
-  map,
-  replicate,
-  slice_index_or,
-}
+use Rattle.std.specs.Prelude.{◌≡◌, ℕ, Bool, true, false, ◌*◌, List, [], Option, None, Some, ◌⊎◌, map, replicate}
+use Rattle.std.specs.Prelude.{slice_index_or}
 use Rattle.std.specs.Option.{option_map, option_map_or}
 use Rattle.point_order.specs.declared.cell.Cell.{Cell}
 use Rattle.edit_history.specs.Edits.{point_of}

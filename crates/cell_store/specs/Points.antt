@@ -3,15 +3,8 @@ use Rattle.std.specs.Prelude.{ℕ, Option, None, Some}
 use Rattle.edit_history.specs.declared.history.Edit.{Edit}
 use Rattle.edit_history.specs.declared.history.Edit.TheVariants.{Add, Take, Move}
 use Rattle.edit_history.specs.declared.history.Reply.{Reply}
-use Rattle.edit_history.specs.declared.history.Reply.TheVariants.{
-  Inserted,
-  Duplicate,
-  Removed,
-  Missing,
-  Flat,
-  Moved,
-  Occupied,
-}
+use Rattle.edit_history.specs.declared.history.Reply.TheVariants.{Inserted, Duplicate, Removed, Missing, Flat, Moved}
+use Rattle.edit_history.specs.declared.history.Reply.TheVariants.{Occupied}
 
 -- the place to which a move goes
 abbrev pub goal_of : Edit → Option ℕ

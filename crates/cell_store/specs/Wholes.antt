@@ -1,27 +1,6 @@
 -- What the buckets of a grid get of a history at once, from which a mesh is made.
-use Rattle.std.specs.Prelude.{
-  ◌≡◌,
-  ◌≢◌,
-  ℕ,
-  ◌*◌,
-  ◌<◌,
-  ◌≤◌,
-  Bool,
-  true,
-  false,
-  List,
-  [],
-  ◌∷◌,
-  ◌++◌,
-  length,
-  map,
-  Some,
-  None,
-  IsSome,
-  ◌==◌,
-  slice_get,
-  slice_index_or,
-}
+use Rattle.std.specs.Prelude.{◌≡◌, ◌≢◌, ℕ, ◌*◌, ◌<◌, ◌≤◌, Bool, true, false, List, [], ◌∷◌, ◌++◌, length, map, Some}
+use Rattle.std.specs.Prelude.{None, IsSome, ◌==◌, slice_get, slice_index_or}
 use Rattle.std.specs.List.{filter}
 use Rattle.point_order.specs.declared.cell.Cell.{Cell}
 use Rattle.edit_history.specs.declared.history.Entry.{Entry}

@@ -1,27 +1,7 @@
 //! Buckets.
 
-ghost use Rattle.std.specs.Prelude.{
-  ◌≡◌,
-  ◌↔◌,
-  ◌+◌,
-  ◌*◌,
-  ◌-◌,
-  ◌<◌,
-  ◌≤◌,
-  ◌^◌,
-  ◌∷◌,
-  [],
-  ◌++◌,
-  true,
-  None,
-  Some,
-  length,
-  IsPermutation,
-  IfOk,
-  IfSome,
-  OnOk,
-  MatchOption,
-};
+ghost use Rattle.std.specs.Prelude.{◌≡◌, ◌↔◌, ◌+◌, ◌*◌, ◌-◌, ◌<◌, ◌≤◌, ◌^◌, ◌∷◌, [], ◌++◌, true, None, Some, length};
+ghost use Rattle.std.specs.Prelude.{IsPermutation, IfOk, IfSome, OnOk, MatchOption};
 ghost use Rattle.std.specs.List.{filter};
 ghost use Rattle.point_order.specs.Facets.{points_of};
 ghost use Rattle.point_order.specs.declared.cell.Cell.{Cell};

@@ -1,45 +1,15 @@
 //! Holds: the buckets in hand.
 
-ghost use Rattle.std.specs.Prelude.{
-  ◌≡◌,
-  ◌↔◌,
-  ℕ,
-  ◌+◌,
-  ◌*◌,
-  ◌-◌,
-  ◌<◌,
-  ◌≤◌,
-  ◌^◌,
-  true,
-  false,
-  None,
-  Some,
-  IsSome,
-  is_some,
-  IfOk,
-  IfSome,
-  length,
-  slice_set,
-  List,
-  MatchOption,
-};
+ghost use Rattle.std.specs.Prelude.{◌≡◌, ◌↔◌, ℕ, ◌+◌, ◌*◌, ◌-◌, ◌<◌, ◌≤◌, ◌^◌, true, false, None, Some, IsSome};
+ghost use Rattle.std.specs.Prelude.{is_some, IfOk, IfSome, length, slice_set, List, MatchOption};
 ghost use Rattle.std.specs.List.{filter};
 ghost use Rattle.point_order.specs.Sets.{IsIn, is_among};
 ghost use Rattle.point_order.specs.Facets.{points_of, facets_of};
 ghost use Rattle.point_order.specs.declared.cell.Cell.{Cell};
 ghost use Rattle.point_order.specs.Complex.{complex};
 ghost use Rattle.cell_store.specs.Grids.{is_grid_size, bucket_of as number_of};
-ghost use Rattle.cell_store.specs.Buckets.{
-  no_room,
-  empty_hold,
-  bucket_at,
-  cells_in,
-  at_place,
-  content_of,
-  FitsPlace,
-  StandAtPlaces,
-  points_at,
-};
+ghost use Rattle.cell_store.specs.Buckets.{no_room, empty_hold, bucket_at, cells_in, at_place, content_of, FitsPlace};
+ghost use Rattle.cell_store.specs.Buckets.{StandAtPlaces, points_at};
 ghost use Rattle.cell_store.specs.Shares.{Shows, ShowsSome, ShowsWith, NoneInHand, IsInHandFor, IsAcross, points_on};
 ghost use Rattle.cell_store.specs.Spots.{IsAcrossIn, SpotGives};
 ghost use Rattle.cell_store.specs.Stars.{cells_around, cells_left, AcrossGives};

@@ -2,34 +2,13 @@
 //! Each function here does nothing, and its contract is laws.
 
 ghost use Rattle.cell_store.specs.Between.{ChangesCompose, EnteredShows, LeftIsSame, SightOutside};
-ghost use Rattle.cell_store.specs.Changes.{
-  AnyKeepsHold,
-  NextEntry,
-  EntryKeepsHold,
-  ShareAfterAny,
-  ShareAfterEntry,
-  ShareElsewhere,
-};
+ghost use Rattle.cell_store.specs.Changes.{AnyKeepsHold, NextEntry, EntryKeepsHold, ShareAfterAny, ShareAfterEntry};
+ghost use Rattle.cell_store.specs.Changes.{ShareElsewhere};
 ghost use Rattle.cell_store.specs.Ready.{ChangeFindsCells};
 ghost use Rattle.cell_store.specs.Shares.{ShareIsOne, StandsShows};
-ghost use Rattle.cell_store.specs.Meshes.{
-  HistoryIs,
-  MeshIs,
-  MeshGathersHistory,
-  MeshGathersComplex,
-  AllAreHeld,
-  MoreAreHeld,
-};
-ghost use Rattle.cell_store.specs.Meshes.{
-  EmptyStands,
-  EmptyShows,
-  FewerStand,
-  FewerShow,
-  PutStands,
-  PutShows,
-  PutIsMore,
-  TakeIsFewer,
-};
+ghost use Rattle.cell_store.specs.Meshes.{HistoryIs, MeshIs, MeshGathersHistory, MeshGathersComplex, AllAreHeld};
+ghost use Rattle.cell_store.specs.Meshes.{MoreAreHeld, EmptyStands, EmptyShows, FewerStand, FewerShow, PutStands};
+ghost use Rattle.cell_store.specs.Meshes.{PutShows, PutIsMore, TakeIsFewer};
 ghost use Rattle.cell_store.specs.Touches.{ShareOutsideTouch, ReachFromHeld, CommitsCommute};
 
 /// An entry that follows a sound history is next. After an exchange of exactly the gone and the new cells, and after

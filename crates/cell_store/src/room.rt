@@ -1,54 +1,16 @@
 //! What a hold keeps ready, so that an exchange of cells takes no memory.
 
-ghost use Rattle.std.specs.Prelude.{
-  ◌≡◌,
-  ◌≢◌,
-  ◌↔◌,
-  ◌⊎◌,
-  ℕ,
-  ◌*◌,
-  ◌<◌,
-  true,
-  false,
-  not,
-  IfOk,
-  IfSome,
-  IsSome,
-  IsSomeAnd,
-  IsTrue,
-  MatchOption,
-  None,
-  OnOk,
-  Some,
-  map,
-};
+ghost use Rattle.std.specs.Prelude.{◌≡◌, ◌≢◌, ◌↔◌, ◌⊎◌, ℕ, ◌*◌, ◌<◌, true, false, not, IfOk, IfSome, IsSome, IsSomeAnd};
+ghost use Rattle.std.specs.Prelude.{IsTrue, MatchOption, None, OnOk, Some, map};
 ghost use Rattle.point_order.specs.Sets.{IsIn, IsAscending, is_among};
 ghost use Rattle.list_laws.specs.Lists.{Gathers};
 ghost use Rattle.cell_stars.specs.Plans.{IsOnceFor};
 ghost use Rattle.cell_store.specs.Buckets.{layout_at};
 ghost use Rattle.cell_store.specs.Grids.{bucket_of as number_of};
-ghost use Rattle.cell_store.specs.Ready.{
-  AreForOthers,
-  AreFound,
-  AreInHand,
-  AreMade,
-  AllRoomier,
-  AreRoomier,
-  HasMuchRoom,
-  HasRoom,
-  IsAllowed,
-  IsExchangeMade,
-  IsNoteReady,
-  IsNotedIn,
-  IsBucketOf,
-  IsPointDropped,
-  IsPointPut,
-  IsPointReady,
-  ArePlansReady,
-  IsReadyFor,
-  IsTurnedIn,
-  buckets_of_cells,
-};
+ghost use Rattle.cell_store.specs.Ready.{AreForOthers, AreFound, AreInHand, AreMade, AllRoomier, AreRoomier};
+ghost use Rattle.cell_store.specs.Ready.{HasMuchRoom, HasRoom, IsAllowed, IsExchangeMade, IsNoteReady, IsNotedIn};
+ghost use Rattle.cell_store.specs.Ready.{IsBucketOf, IsPointDropped, IsPointPut, IsPointReady, ArePlansReady};
+ghost use Rattle.cell_store.specs.Ready.{IsReadyFor, IsTurnedIn, buckets_of_cells};
 ghost use Rattle.cell_store.specs.declared.room.PlanFor.{PlanFor};
 
 use crate::bucket::Bucket;

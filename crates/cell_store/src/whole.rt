@@ -1,25 +1,7 @@
 //! A mesh that is made whole, of a history and the cells of what it leaves.
 
-ghost use Rattle.std.specs.Prelude.{
-  ◌≡◌,
-  ℕ,
-  ◌*◌,
-  ◌+◌,
-  ◌<◌,
-  ◌≤◌,
-  ◌^◌,
-  true,
-  [],
-  List,
-  IfOk,
-  OnOk,
-  Some,
-  IsSome,
-  length,
-  map,
-  slice_get,
-  ◌==◌,
-};
+ghost use Rattle.std.specs.Prelude.{◌≡◌, ℕ, ◌*◌, ◌+◌, ◌<◌, ◌≤◌, ◌^◌, true, [], List, IfOk, OnOk, Some, IsSome, length};
+ghost use Rattle.std.specs.Prelude.{map, slice_get, ◌==◌};
 ghost use Rattle.std.specs.List.{list_any};
 ghost use Rattle.std.specs.List.Sorted.{IsStrictlySortedBy};
 ghost use Rattle.point_order.specs.declared.cell.Cell.{Cell};
@@ -35,17 +17,8 @@ ghost use Rattle.cell_store.specs.Buckets.{content_of};
 ghost use Rattle.cell_store.specs.Grids.{bucket_of as number_of};
 ghost use Rattle.cell_store.specs.Shares.{IsShare, IsSound};
 ghost use Rattle.cell_store.specs.Swaps.{touches as touches_of};
-ghost use Rattle.cell_store.specs.Wholes.{
-  AreAt,
-  AreCellsParted,
-  AreParted,
-  AreParts,
-  IsPushedAt,
-  IsPushedWhere,
-  is_noted_at,
-  lies_at,
-  list_at,
-};
+ghost use Rattle.cell_store.specs.Wholes.{AreAt, AreCellsParted, AreParted, AreParts, IsPushedAt, IsPushedWhere};
+ghost use Rattle.cell_store.specs.Wholes.{is_noted_at, lies_at, list_at};
 
 use crate::bucket::Bucket;
 use crate::hold::Hold;

@@ -1,13 +1,7 @@
 //! What a step of a walk comes to. Each function here does nothing, and its contract is a law.
 
-ghost use Rattle.cell_walk.specs.Laws.{
-  NearerTowards,
-  SomeFacetTowards,
-  FewerAcross,
-  StartIsWalk,
-  WalkStays,
-  NoCellTwice,
-};
+ghost use Rattle.cell_walk.specs.Laws.{NearerTowards, SomeFacetTowards, FewerAcross, StartIsWalk, WalkStays};
+ghost use Rattle.cell_walk.specs.Laws.{NoCellTwice};
 
 /// A cell that stays has a facet towards the new point, and the cell across it is nearer: of the cells of the
 /// buckets in hand fewer are nearer than it.

@@ -1,19 +1,7 @@
 //! The search for the first cell of a walk.
 
-ghost use Rattle.std.specs.Prelude.{
-  ◌≡◌,
-  ◌↔◌,
-  ◌⊎◌,
-  List,
-  [],
-  None,
-  Some,
-  IsTrue,
-  IsSome,
-  IfSome,
-  MatchBool,
-  MatchOption,
-};
+ghost use Rattle.std.specs.Prelude.{◌≡◌, ◌↔◌, ◌⊎◌, List, [], None, Some, IsTrue, IsSome, IfSome, MatchBool};
+ghost use Rattle.std.specs.Prelude.{MatchOption};
 ghost use Rattle.std.specs.declared.cmp.Ordering.TheVariants.{Less};
 ghost use Rattle.point_order.specs.CellOrder.{cell_cmp};
 ghost use Rattle.point_order.specs.Sets.{IsIn};

@@ -1,29 +1,6 @@
 -- A board that is kept in one hold with words, as it begins.
-use Rattle.std.specs.Prelude.{
-  ◌≡◌,
-  ℕ,
-  zero,
-  suc,
-  ◌+◌,
-  ◌-◌,
-  ◌*◌,
-  ◌^◌,
-  ◌<◌,
-  ◌≤◌,
-  ◌==◌,
-  min,
-  false,
-  List,
-  [],
-  ◌∷◌,
-  map,
-  Option,
-  None,
-  Some,
-  length,
-  replicate,
-  slice_index_or,
-}
+use Rattle.std.specs.Prelude.{◌≡◌, ℕ, zero, suc, ◌+◌, ◌-◌, ◌*◌, ◌^◌, ◌<◌, ◌≤◌, ◌==◌, min, false, List, [], ◌∷◌, map}
+use Rattle.std.specs.Prelude.{Option, None, Some, length, replicate, slice_index_or}
 use Rattle.std.specs.Option.{option_map}
 use Rattle.std.proofs.Common.{refl, sym, ◌∙◌, ap, subst, arith, ext_get_or, ne_eqb}
 use Rattle.std.proofs.lemmas.List.{length-replicate}

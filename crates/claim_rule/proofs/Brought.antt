@@ -1,22 +1,6 @@
 -- After the exchange of cells and the entry, the hold has what the view said at the ticket step.
-use Rattle.std.specs.Prelude.{
-  ◌≡◌,
-  ℕ,
-  ◌+◌,
-  ◌==◌,
-  Bool,
-  true,
-  false,
-  cond,
-  List,
-  [],
-  ◌∷◌,
-  ◌++◌,
-  Option,
-  None,
-  Some,
-  length,
-}
+use Rattle.std.specs.Prelude.{◌≡◌, ℕ, ◌+◌, ◌==◌, Bool, true, false, cond, List, [], ◌∷◌, ◌++◌, Option, None, Some}
+use Rattle.std.specs.Prelude.{length}
 use Rattle.std.specs.Option.{option_map}
 use Rattle.std.proofs.Common.{refl, sym, ◌∙◌, ap, arith, ext_get_or}
 use Rattle.point_order.specs.declared.cell.Cell.{Cell}
@@ -24,31 +8,16 @@ use Rattle.edit_history.specs.declared.history.Entry.{Entry}
 use Rattle.edit_history.specs.declared.history.Edit.{Edit}
 use Rattle.edit_history.specs.declared.history.Edit.TheVariants.{Add, Take, Move}
 use Rattle.edit_history.specs.declared.history.Reply.{Reply}
-use Rattle.edit_history.specs.declared.history.Reply.TheVariants.{
-  Inserted,
-  Duplicate,
-  Removed,
-  Missing,
-  Flat,
-  Moved,
-  Occupied,
-}
+use Rattle.edit_history.specs.declared.history.Reply.TheVariants.{Inserted, Duplicate, Removed, Missing, Flat, Moved}
+use Rattle.edit_history.specs.declared.history.Reply.TheVariants.{Occupied}
 use Rattle.edit_history.specs.Edits.{is_move, point_of}
 use Rattle.cell_store.specs.Grids.{bucket_of}
 use Rattle.cell_store.specs.Buckets.{BucketContent, InHand, bucket_at}
 use Rattle.cell_store.specs.Shares.{IsShare, share_at}
-use Rattle.cell_store.specs.Changes.{
-  IsArrived,
-  IsNext,
-  IsSwapped,
-  IsNoted,
-  arrived_in,
-  brought_in,
-  swapped_in,
-  noted_in,
-}
+use Rattle.cell_store.specs.Changes.{IsArrived, IsNext, IsSwapped, IsNoted, arrived_in, brought_in, swapped_in}
+use Rattle.cell_store.specs.Changes.{noted_in}
 use Rattle.cell_store.specs.Points.{came}
-use Rattle.cell_store.proofs.Cited.{arrived_none, arrived_rest, share_after_any}
+use Rattle.cell_store.proofs.Cited.{arrived_rest, share_after_any}
 use Rattle.claim_rule.specs.Good.{AreSharesOf}
 use Rattle.claim_rule.specs.Events.{renewed_from}
 use Rattle.claim_rule.proofs.Commits.{renewed_at, renewed_length}
@@ -113,27 +82,3 @@ any_brought g h e gone fresh old between with_goal new same shares next swap arr
         let p : c.place ≡ Some (g, b) = ap (λ (x : BucketContent). x.place) is in
         ap (λ (x : BucketContent). Some x) (is_share_at g b (h ++ e ∷ []) (brought_in g b gone fresh e c)
         (share_after_any g b h e gone fresh c next s) (brought_place g b gone fresh e c ∙ p))
-
--- an edit that moves nothing has no place that comes
-none_comes : (edit : Edit) (r : Reply) → is_move edit ≡ false → came edit r ≡ None
-none_comes edit Moved e = at edit e
-  where
-    at : (edit : Edit) → is_move edit ≡ false → came edit Moved ≡ None
-    at (Add p) e = refl
-    at (Take p) e = refl
-    at (Move a b) e = absurd cc
-none_comes edit Inserted e = refl
-none_comes edit Duplicate e = refl
-none_comes edit Removed e = refl
-none_comes edit Missing e = refl
-none_comes edit Flat e = refl
-none_comes edit Occupied e = refl
-
--- so of its entry: the cells are exchanged, and the entry is noted
-pub brought :
-    (g : ℕ) (h : List Entry) (e : Entry) (gone fresh : List Cell) (old between new : InHand) → old.grid ≡ g →
-    AreSharesOf g h old.places → IsNext h e gone fresh → is_move e.edit ≡ false → IsSwapped gone fresh old between →
-    IsNoted e between new → new.places ≡ renewed_from g (h ++ e ∷ []) 0 old.places
-brought g h e gone fresh old between new same shares next still swap note =
-    any_brought g h e gone fresh old between between new same shares next swap
-    (arrived_none e between (none_comes e.edit e.reply still)) note

@@ -1,37 +1,10 @@
 -- A commit keeps a board good: at that step the contents of all buckets in the pass's hands change, and no other's.
-use Rattle.std.specs.Prelude.{
-  ◌≡◌,
-  ◌≢◌,
-  ℕ,
-  zero,
-  suc,
-  ◌+◌,
-  ◌-◌,
-  ◌<◌,
-  true,
-  List,
-  [],
-  ◌∷◌,
-  ◌++◌,
-  Option,
-  None,
-  Some,
-  IsSome,
-  drop,
-  length,
-  slice_set,
-}
+use Rattle.std.specs.Prelude.{◌≡◌, ◌≢◌, ℕ, zero, suc, ◌+◌, ◌-◌, ◌<◌, true, List, [], ◌∷◌, ◌++◌, Option, None, Some}
+use Rattle.std.specs.Prelude.{IsSome, drop, length, slice_set}
 use Rattle.std.specs.Option.{option_map}
 use Rattle.std.proofs.Common.{refl, sym, ◌∙◌, ap, subst, inl, inr, arith}
-use Rattle.list_laws.proofs.Cited.{
-  filtered_from,
-  filtered_true,
-  is_there,
-  one_value,
-  same_there,
-  some_mapped,
-  within_some,
-}
+use Rattle.list_laws.proofs.Cited.{filtered_from, filtered_true, is_there, one_value, same_there, some_mapped}
+use Rattle.list_laws.proofs.Cited.{within_some}
 use mathlib.Core.Logic.{dite}
 use native.Mathlib.Decide.{ℕ_discrete}
 use Rattle.edit_history.specs.declared.history.Edit.{Edit}
@@ -45,15 +18,8 @@ use Rattle.claim_rule.specs.Good.{AreSharesOf, IsViewInOrder, IsGood}
 use Rattle.cell_store.specs.Shares.{share_at}
 use Rattle.claim_rule.specs.Events.{committed, entry_after, renewed_from}
 use Rattle.claim_rule.proofs.Places.{left_set}
-use Rattle.claim_rule.proofs.Histories.{
-  length_more,
-  starts_more,
-  in_dropped_more,
-  all_from_in,
-  in_all,
-  made_below,
-  by_parts,
-}
+use Rattle.claim_rule.proofs.Histories.{length_more, starts_more, in_dropped_more, all_from_in, in_all, made_below}
+use Rattle.claim_rule.proofs.Histories.{by_parts}
 use Rattle.claim_rule.proofs.Nexts.{some_next, stays_outside}
 use Rattle.claim_rule.proofs.Keeps.{renewed, keeps}
 use Rattle.claim_rule.proofs.Steps.{live_at, one_view}

@@ -1,39 +1,10 @@
 -- A commit of a board that is kept in one hold with words: when its condition holds, and what it makes of the board.
-use Rattle.std.specs.Prelude.{
-  ◌≡◌,
-  ◌⊎◌,
-  ℕ,
-  ◌+◌,
-  ◌-◌,
-  ◌^◌,
-  ◌<◌,
-  ◌≤◌,
-  ◌==◌,
-  List,
-  All,
-  Option,
-  None,
-  Some,
-  IsSome,
-  IsSomeAnd,
-  true,
-  false,
-  length,
-  slice_index_or,
-  slice_set,
-}
+use Rattle.std.specs.Prelude.{◌≡◌, ◌⊎◌, ℕ, ◌+◌, ◌-◌, ◌^◌, ◌<◌, ◌≤◌, ◌==◌, List, All, Option, None, Some, IsSome}
+use Rattle.std.specs.Prelude.{IsSomeAnd, true, false, length, slice_index_or, slice_set}
 use Rattle.std.proofs.Common.{Fits, w64, refl, sym, ◌∙◌, ap, subst, inl, inr, arith}
 use Rattle.std.proofs.lemmas.Bool.{eqb-true, eq-eqb}
-use Rattle.list_laws.proofs.Cited.{
-  all_of_each,
-  each_of_all,
-  one_value,
-  same_there,
-  some_and,
-  some_of,
-  to_some,
-  within_some,
-}
+use Rattle.list_laws.proofs.Cited.{all_of_each, each_of_all, one_value, same_there, some_and, some_of, to_some}
+use Rattle.list_laws.proofs.Cited.{within_some}
 use Rattle.point_order.specs.declared.cell.Cell.{Cell}
 use Rattle.point_order.specs.Complex.{complex}
 use Rattle.point_order.specs.Facets.{points_of}

@@ -1,24 +1,6 @@
 -- Commits of two passes commute.
-use Rattle.std.specs.Prelude.{
-  ◌≡◌,
-  ◌≢◌,
-  ℕ,
-  suc,
-  ◌+◌,
-  ◌-◌,
-  ◌<◌,
-  List,
-  [],
-  ◌∷◌,
-  ◌++◌,
-  map,
-  Option,
-  None,
-  Some,
-  IsSome,
-  ◌==◌,
-  slice_set,
-}
+use Rattle.std.specs.Prelude.{◌≡◌, ◌≢◌, ℕ, suc, ◌+◌, ◌-◌, ◌<◌, List, [], ◌∷◌, ◌++◌, map, Option, None, Some, IsSome}
+use Rattle.std.specs.Prelude.{◌==◌, slice_set}
 use Rattle.std.specs.List.{filter}
 use Rattle.point_order.specs.Complex.{complex}
 use Rattle.cell_store.specs.Swaps.{touches}

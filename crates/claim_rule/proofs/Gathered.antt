@@ -1,23 +1,6 @@
 -- The points of all buckets, gathered bucket by bucket.
-use Rattle.std.specs.Prelude.{
-  ◌≡◌,
-  ◌⊎◌,
-  ◌↔◌,
-  ℕ,
-  zero,
-  suc,
-  ◌+◌,
-  ◌<◌,
-  ◌≤◌,
-  List,
-  [],
-  ◌∷◌,
-  length,
-  take,
-  Option,
-  Some,
-  slice_index_or,
-}
+use Rattle.std.specs.Prelude.{◌≡◌, ◌⊎◌, ◌↔◌, ℕ, zero, suc, ◌+◌, ◌<◌, ◌≤◌, List, [], ◌∷◌, length, take, Option, Some}
+use Rattle.std.specs.Prelude.{slice_index_or}
 use Rattle.std.specs.List.{flat_map}
 use Rattle.std.proofs.Common.{refl, sym, ◌∙◌, subst, inl, inr, arith}
 use Rattle.std.proofs.lemmas.List.{take_all}
@@ -78,11 +61,6 @@ all_more s t l n h b = subst (λ (m : List ℕ). HasBoth s m t) (take_all n l h)
 -- the set has the points of the buckets below b
 abbrev pub HasBelow : List (Option BucketContent) → ℕ → List ℕ → Type 0
 HasBelow places b s = (p : ℕ) → IsIn p s ↔ IsIn p (flat_map points_of_bucket (take b places))
-
--- below bucket 0 there is no point
-pub none_below : (places : List (Option BucketContent)) → HasBelow places 0 []
-none_below [] p = ((λ i. i), (λ i. i))
-none_below (o ∷ places) p = ((λ i. i), (λ i. i))
 
 -- a point of the buckets below n + 1 is one of those below n, or of bucket n
 in_next : (l : List (Option BucketContent)) (n : ℕ) (p : ℕ) → n < length l →

@@ -1,26 +1,6 @@
 -- What an event does to a board that is kept in one hold with words.
-use Rattle.std.specs.Prelude.{
-  ◌≡◌,
-  ◌≢◌,
-  ℕ,
-  zero,
-  suc,
-  Bool,
-  true,
-  false,
-  ◌<◌,
-  List,
-  [],
-  ◌∷◌,
-  Option,
-  None,
-  Some,
-  map,
-  length,
-  slice_index_or,
-  slice_set,
-  if◌then◌else◌,
-}
+use Rattle.std.specs.Prelude.{◌≡◌, ◌≢◌, ℕ, zero, suc, Bool, true, false, ◌<◌, List, [], ◌∷◌, Option, None, Some, map}
+use Rattle.std.specs.Prelude.{length, slice_index_or, slice_set, if◌then◌else◌}
 use Rattle.std.specs.Option.{option_map}
 use Rattle.std.proofs.Common.{refl, sym, ◌∙◌, ap, arith}
 use Rattle.std.proofs.lemmas.List.{set-get_or}

@@ -9,7 +9,6 @@ pub mod Parts
 pub mod Events
 pub mod OneHistory
 pub mod Commute
-pub mod Tetrahedron
 pub mod Kept
 pub mod Moves
 pub mod Seats

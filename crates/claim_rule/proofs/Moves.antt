@@ -1,22 +1,6 @@
 -- Each event of a board that is kept in one hold with words, but a commit.
-use Rattle.std.specs.Prelude.{
-  ◌≡◌,
-  ◌≢◌,
-  ℕ,
-  false,
-  ◌+◌,
-  ◌<◌,
-  ◌==◌,
-  List,
-  Option,
-  None,
-  Some,
-  IsSome,
-  IsSomeAnd,
-  length,
-  slice_index_or,
-  slice_set,
-}
+use Rattle.std.specs.Prelude.{◌≡◌, ◌≢◌, ℕ, false, ◌+◌, ◌<◌, ◌==◌, List, Option, None, Some, IsSome, IsSomeAnd, length}
+use Rattle.std.specs.Prelude.{slice_index_or, slice_set}
 use Rattle.std.specs.Option.{option_map, option_and_then}
 use Rattle.std.proofs.Common.{refl, sym, ◌∙◌, ap, subst, arith, ne_eqb}
 use Rattle.edit_history.specs.declared.history.Entry.{Entry}

@@ -1,28 +1,7 @@
 -- A commit of a board that is kept in one hold with words: where all contents become the shares of the new history,
 -- those of others stay.
-use Rattle.std.specs.Prelude.{
-  ◌≡◌,
-  ◌≢◌,
-  ℕ,
-  Bool,
-  true,
-  false,
-  ◌+◌,
-  ◌-◌,
-  ◌<◌,
-  ◌==◌,
-  List,
-  [],
-  ◌∷◌,
-  ◌++◌,
-  Option,
-  None,
-  Some,
-  IsSome,
-  length,
-  slice_index_or,
-  slice_set,
-}
+use Rattle.std.specs.Prelude.{◌≡◌, ◌≢◌, ℕ, Bool, true, false, ◌+◌, ◌-◌, ◌<◌, ◌==◌, List, [], ◌∷◌, ◌++◌, Option, None}
+use Rattle.std.specs.Prelude.{Some, IsSome, length, slice_index_or, slice_set}
 use Rattle.std.specs.Option.{option_map}
 use Rattle.std.proofs.Common.{refl, sym, ◌∙◌, ap, subst, arith, ext_get_or}
 use Rattle.std.proofs.lemmas.Bool.{eqb-true}

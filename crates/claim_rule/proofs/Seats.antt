@@ -1,31 +1,6 @@
 -- Splits and joins of a board that is kept in one hold with words.
-use Rattle.std.specs.Prelude.{
-  ◌≡◌,
-  ◌≢◌,
-  ℕ,
-  suc,
-  Bool,
-  false,
-  ◌+◌,
-  ◌-◌,
-  ◌^◌,
-  ◌<◌,
-  ◌≤◌,
-  ◌==◌,
-  List,
-  [],
-  ◌∷◌,
-  Option,
-  None,
-  Some,
-  IsSome,
-  All,
-  max,
-  length,
-  replicate,
-  slice_index_or,
-  slice_set,
-}
+use Rattle.std.specs.Prelude.{◌≡◌, ◌≢◌, ℕ, suc, Bool, false, ◌+◌, ◌-◌, ◌^◌, ◌<◌, ◌≤◌, ◌==◌, List, [], ◌∷◌, Option, None}
+use Rattle.std.specs.Prelude.{Some, IsSome, All, max, length, replicate, slice_index_or, slice_set}
 use Rattle.std.specs.Option.{option_map, option_map_or}
 use Rattle.std.proofs.Common.{refl, sym, ◌∙◌, ap, subst, arith, ne_eqb}
 use Rattle.std.proofs.lemmas.List.{map-set}

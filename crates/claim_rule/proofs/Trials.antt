@@ -2,16 +2,8 @@
 use Rattle.std.specs.Prelude.{◌≡◌, ◌⊎◌, ◌↔◌, ℕ, Bool, true, false, if◌then◌else◌, List, [], ◌∷◌}
 use Rattle.std.specs.List.{filter}
 use Rattle.std.proofs.Common.{refl, sym, ◌∙◌, ap, subst, inl, inr}
-use Rattle.list_laws.proofs.Cited.{
-  among_from,
-  among_true,
-  false_if,
-  filtered_from,
-  filtered_true,
-  from_append,
-  in_left,
-  in_right,
-}
+use Rattle.list_laws.proofs.Cited.{among_from, among_true, false_if, filtered_from, filtered_true, from_append, in_left}
+use Rattle.list_laws.proofs.Cited.{in_right}
 use Rattle.point_order.specs.declared.cell.Cell.{Cell}
 use Rattle.point_order.specs.Complex.{complex}
 use Rattle.point_order.specs.Facets.{points_of}
@@ -20,15 +12,8 @@ use Rattle.point_order.proofs.Cited.{in_with, in_with_new, in_with_old}
 use Rattle.edit_history.specs.declared.history.Edit.{Edit}
 use Rattle.edit_history.specs.declared.history.Edit.TheVariants.{Add, Take, Move}
 use Rattle.edit_history.specs.declared.history.Reply.{Reply}
-use Rattle.edit_history.specs.declared.history.Reply.TheVariants.{
-  Inserted,
-  Duplicate,
-  Removed,
-  Missing,
-  Flat,
-  Moved,
-  Occupied,
-}
+use Rattle.edit_history.specs.declared.history.Reply.TheVariants.{Inserted, Duplicate, Removed, Missing, Flat, Moved}
+use Rattle.edit_history.specs.declared.history.Reply.TheVariants.{Occupied}
 use Rattle.edit_history.specs.Edits.{edit_points, moved_to, reply_to, changed, after}
 use Rattle.edit_history.proofs.Cited.{inserts}
 use Rattle.point_order.specs.Solid.{is_solid}

@@ -1,21 +1,6 @@
 -- All contents of a board that is kept in one hold are shares of its history, whoever holds them.
-use Rattle.std.specs.Prelude.{
-  ◌≡◌,
-  ℕ,
-  Bool,
-  true,
-  false,
-  ◌+◌,
-  ◌<◌,
-  ◌==◌,
-  List,
-  Option,
-  None,
-  Some,
-  IsSome,
-  length,
-  slice_index_or,
-}
+use Rattle.std.specs.Prelude.{◌≡◌, ℕ, Bool, true, false, ◌+◌, ◌<◌, ◌==◌, List, Option, None, Some, IsSome, length}
+use Rattle.std.specs.Prelude.{slice_index_or}
 use Rattle.std.specs.Option.{option_map}
 use Rattle.std.proofs.Common.{sym, ◌∙◌, ap, subst, arith}
 use Rattle.std.proofs.lemmas.Bool.{eq-eqb}

@@ -1,23 +1,6 @@
 -- A table of buckets as plain data: the ticket, a word for each bucket, the buckets at home, and the live passes.
-use Rattle.std.specs.Prelude.{
-  ◌≡◌,
-  ℕ,
-  ◌+◌,
-  ◌<◌,
-  ◌≤◌,
-  Bool,
-  ◌&&◌,
-  List,
-  [],
-  ◌∷◌,
-  Option,
-  None,
-  Some,
-  slice_index_or,
-  drop,
-  leb,
-  ltb,
-}
+use Rattle.std.specs.Prelude.{◌≡◌, ℕ, ◌+◌, ◌<◌, ◌≤◌, Bool, ◌&&◌, List, [], ◌∷◌, Option, None, Some, slice_index_or}
+use Rattle.std.specs.Prelude.{drop, leb, ltb}
 use Rattle.std.specs.List.{filter}
 use Rattle.edit_history.specs.declared.history.Entry.{Entry}
 use Rattle.cell_store.specs.Buckets.{BucketContent, InHand, no_room}

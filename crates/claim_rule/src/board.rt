@@ -1,35 +1,8 @@
 //! Boards.
 
-ghost use Rattle.std.specs.Prelude.{
-  ◌≡◌,
-  ◌≢◌,
-  ◌⊎◌,
-  ◌↔◌,
-  IsTrue,
-  true,
-  false,
-  ℕ,
-  ◌*◌,
-  ◌+◌,
-  ◌-◌,
-  ◌^◌,
-  ◌<◌,
-  ◌≤◌,
-  List,
-  ◌∷◌,
-  None,
-  Some,
-  All,
-  length,
-  replicate,
-  IfOk,
-  OnOk,
-  OnErr,
-  MatchOption,
-  IsSome,
-  IsSomeAnd,
-  slice_index_or,
-};
+ghost use Rattle.std.specs.Prelude.{◌≡◌, ◌≢◌, ◌⊎◌, ◌↔◌, IsTrue, true, false, ℕ, ◌*◌, ◌+◌, ◌-◌, ◌^◌, ◌<◌, ◌≤◌, List};
+ghost use Rattle.std.specs.Prelude.{◌∷◌, None, Some, All, length, replicate, IfOk, OnOk, OnErr, MatchOption, IsSome};
+ghost use Rattle.std.specs.Prelude.{IsSomeAnd, slice_index_or};
 ghost use Rattle.edit_history.specs.declared.history.Entry.{Entry};
 ghost use Rattle.edit_history.specs.Edits.{HasKeys, edit_points, reply_to};
 ghost use Rattle.point_order.specs.Facets.{points_of};

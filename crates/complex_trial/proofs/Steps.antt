@@ -1,28 +1,6 @@
 -- The trial goes on: the lists that begin with a front go on with the next element, or without it.
-use Rattle.std.proofs.Common.{
-  ◌≡◌,
-  refl,
-  sym,
-  ap,
-  ◌∙◌,
-  ℕ,
-  zero,
-  suc,
-  ◌+◌,
-  ◌<◌,
-  List,
-  [],
-  ◌∷◌,
-  ◌++◌,
-  Bool,
-  length,
-  get_or,
-  drop,
-  append_assoc,
-  add-one,
-  drop-cons,
-  arith,
-}
+use Rattle.std.proofs.Common.{◌≡◌, refl, sym, ap, ◌∙◌, ℕ, zero, suc, ◌+◌, ◌<◌, List, [], ◌∷◌, ◌++◌, Bool, length}
+use Rattle.std.proofs.Common.{get_or, drop, append_assoc, add-one, drop-cons, arith}
 use Rattle.std.specs.Prelude.{map}
 use Rattle.std.specs.List.{filter}
 use Rattle.std.proofs.lemmas.List.{map-append}

@@ -4,18 +4,8 @@ use Rattle.std.proofs.Common.{sym}
 use Rattle.whole_ring.specs.Poly.{Expr, var, lit, ◌⊕◌, ◌⊗◌, minus, ◌⊖◌, nothing, given}
 use Rattle.whole_ring.proofs.Cited.{ring, ring_from}
 use Rattle.conv_laws.specs.Places.{Place, orient, lifted, minor, triple}
-use Rattle.conv_laws.specs.Affine.{
-  weighted,
-  WeightsAddUp,
-  WeightsLocate,
-  WeightsOfHeights,
-  OrientCarried,
-  LiftedCarried,
-  ThreeTerms,
-  Pencil,
-  PencilInPlane,
-  Crossing,
-}
+use Rattle.conv_laws.specs.Affine.{weighted, WeightsAddUp, WeightsLocate, WeightsOfHeights, OrientCarried}
+use Rattle.conv_laws.specs.Affine.{LiftedCarried, ThreeTerms, Pencil, PencilInPlane, Crossing}
 use Rattle.conv_laws.proofs.Written.{Written, place, onto, all_of, o, weighted_w, raised}
 use Rattle.conv_laws.proofs.Alternation.{orient_swap23, lifted_swap23}
 

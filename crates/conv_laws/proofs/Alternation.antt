@@ -3,14 +3,8 @@ use Rattle.std.specs.Prelude.{ℤ, pos, neg_ℤ, ◌≡◌, List, [], ◌∷◌}
 use Rattle.whole_ring.specs.Poly.{lit, minus}
 use Rattle.whole_ring.proofs.Cited.{ring}
 use Rattle.conv_laws.specs.Places.{Place, orient, Lifted, lifted, minor, triple}
-use Rattle.conv_laws.specs.Alternation.{
-  OrientSwaps,
-  OrientEvenOrders,
-  OrientRepeats,
-  LiftedSwaps,
-  LiftedOrders,
-  LiftedRepeats,
-}
+use Rattle.conv_laws.specs.Alternation.{OrientSwaps, OrientEvenOrders, OrientRepeats, LiftedSwaps, LiftedOrders}
+use Rattle.conv_laws.specs.Alternation.{LiftedRepeats}
 use Rattle.conv_laws.proofs.Written.{onto, all_of, o, raised}
 
 -- the coordinates of four places

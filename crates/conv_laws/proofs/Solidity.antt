@@ -5,16 +5,8 @@ use Rattle.whole_ring.specs.Poly.{Expr, var, lit, ◌⊕◌, ◌⊗◌, minus, �
 use Rattle.whole_ring.proofs.Cited.{ring, ring_from}
 use Rattle.list_laws.proofs.Cited.{first_factor, not_other, other_factor}
 use Rattle.conv_laws.specs.Places.{Vector, cross, IsZero, Place, step, normal, orient, minor, triple}
-use Rattle.conv_laws.specs.Solidity.{
-  HeightOverPlane,
-  CramersRule,
-  NormalByHeights,
-  OnePlane,
-  OnlyOnLine,
-  LineInPlane,
-  ParallelVectors,
-  OneLine,
-}
+use Rattle.conv_laws.specs.Solidity.{HeightOverPlane, CramersRule, NormalByHeights, OnePlane, OnlyOnLine, LineInPlane}
+use Rattle.conv_laws.specs.Solidity.{ParallelVectors, OneLine}
 use Rattle.conv_laws.proofs.Written.{Written, place, onto, det_w, cross_w, dot_w, step_w, normal_w, o}
 
 -- ---- normals

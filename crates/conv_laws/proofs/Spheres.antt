@@ -3,39 +3,11 @@ use Rattle.std.specs.Prelude.{ℤ, pos, ◌+ℤ◌, ◌*ℤ◌, ◌≡◌, ℕ, 
 use Rattle.whole_ring.specs.Poly.{Expr, var, lit, ◌⊕◌, ◌⊗◌, minus, ◌⊖◌, nothing, given}
 use Rattle.whole_ring.proofs.Cited.{ring, ring_from}
 use Rattle.conv_laws.specs.Places.{square, Place, normal, orient, lifted, sphere, minor, triple}
-use Rattle.conv_laws.specs.Spheres.{
-  HeightsAreLinear,
-  AffineChange,
-  LiftedBySteps,
-  SphereBySteps,
-  SphereAbout,
-  ParaboloidIsConvex,
-  PowerCarried,
-  EdgePower,
-  triangle_vector,
-  triangle_power,
-  TriangleOnSphere,
-  TrianglePower,
-}
-use Rattle.conv_laws.proofs.Written.{
-  Written,
-  place,
-  onto,
-  det_w,
-  cross_w,
-  dot_w,
-  step_w,
-  square_w,
-  distance_w,
-  normal_w,
-  WrittenLifted,
-  on_paraboloid_w,
-  lifted_w,
-  all_of,
-  o,
-  weighted_w,
-  raised,
-}
+use Rattle.conv_laws.specs.Spheres.{HeightsAreLinear, AffineChange, LiftedBySteps, SphereBySteps, SphereAbout}
+use Rattle.conv_laws.specs.Spheres.{ParaboloidIsConvex, PowerCarried, EdgePower, triangle_vector, triangle_power}
+use Rattle.conv_laws.specs.Spheres.{TriangleOnSphere, TrianglePower}
+use Rattle.conv_laws.proofs.Written.{Written, place, onto, det_w, cross_w, dot_w, step_w, square_w, distance_w}
+use Rattle.conv_laws.proofs.Written.{normal_w, WrittenLifted, on_paraboloid_w, lifted_w, all_of, o, weighted_w, raised}
 
 -- the in-sphere polynomial of places 0 to 4
 abbrev sphere_w : Expr

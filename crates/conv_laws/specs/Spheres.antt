@@ -1,21 +1,8 @@
 -- Heights and spheres: what an affine function of place adds to heights, the paraboloid, and the
 -- smallest spheres of an edge and a triangle.
 use Rattle.std.specs.Prelude.{ℤ, pos, ◌+ℤ◌, ◌-ℤ◌, ◌*ℤ◌, neg_ℤ, ◌≡◌}
-use Rattle.conv_laws.specs.Places.{
-  Vector,
-  det,
-  cross,
-  dot,
-  square,
-  Place,
-  step,
-  distance,
-  normal,
-  orient,
-  Lifted,
-  lifted,
-  sphere,
-}
+use Rattle.conv_laws.specs.Places.{Vector, det, cross, dot, square, Place, step, distance, normal, orient, Lifted}
+use Rattle.conv_laws.specs.Places.{lifted, sphere}
 use Rattle.conv_laws.specs.Affine.{weight_c, weight_d, weighted}
 
 -- ---- heights

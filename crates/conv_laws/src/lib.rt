@@ -4,47 +4,14 @@
 //! `proofs/Cited` passes on the lemmas that crates above cite. `docs/GEOMETRY.md` tells the laws in order.
 #![tactic(auto)]
 
-ghost use Rattle.conv_laws.specs.Affine.{
-  WeightsAddUp,
-  WeightsLocate,
-  WeightsOfHeights,
-  OrientCarried,
-  LiftedCarried,
-  ThreeTerms,
-  Pencil,
-  PencilInPlane,
-  Crossing,
-};
-ghost use Rattle.conv_laws.specs.Alternation.{
-  OrientSwaps,
-  OrientEvenOrders,
-  OrientRepeats,
-  LiftedSwaps,
-  LiftedOrders,
-  LiftedRepeats,
-};
-ghost use Rattle.conv_laws.specs.Solidity.{
-  HeightOverPlane,
-  CramersRule,
-  NormalByHeights,
-  OnePlane,
-  OnlyOnLine,
-  LineInPlane,
-  ParallelVectors,
-  OneLine,
-};
-ghost use Rattle.conv_laws.specs.Spheres.{
-  HeightsAreLinear,
-  AffineChange,
-  LiftedBySteps,
-  SphereBySteps,
-  SphereAbout,
-  ParaboloidIsConvex,
-  PowerCarried,
-  EdgePower,
-  TriangleOnSphere,
-  TrianglePower,
-};
+ghost use Rattle.conv_laws.specs.Affine.{WeightsAddUp, WeightsLocate, WeightsOfHeights, OrientCarried, LiftedCarried};
+ghost use Rattle.conv_laws.specs.Affine.{ThreeTerms, Pencil, PencilInPlane, Crossing};
+ghost use Rattle.conv_laws.specs.Alternation.{OrientSwaps, OrientEvenOrders, OrientRepeats, LiftedSwaps, LiftedOrders};
+ghost use Rattle.conv_laws.specs.Alternation.{LiftedRepeats};
+ghost use Rattle.conv_laws.specs.Solidity.{HeightOverPlane, CramersRule, NormalByHeights, OnePlane, OnlyOnLine};
+ghost use Rattle.conv_laws.specs.Solidity.{LineInPlane, ParallelVectors, OneLine};
+ghost use Rattle.conv_laws.specs.Spheres.{HeightsAreLinear, AffineChange, LiftedBySteps, SphereBySteps, SphereAbout};
+ghost use Rattle.conv_laws.specs.Spheres.{ParaboloidIsConvex, PowerCarried, EdgePower, TriangleOnSphere, TrianglePower};
 
 /// The orientation of four places is an alternating function of them.
 pub fn orientation_alternates()

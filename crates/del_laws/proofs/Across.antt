@@ -4,16 +4,8 @@ use Rattle.std.proofs.Common.{inl, inr}
 use Rattle.whole_ring.specs.Signs.{below, at_zero, above}
 use Rattle.whole_ring.proofs.Cited.{sign}
 use Rattle.list_laws.specs.Laws.{HasLeastRatio}
-use Rattle.list_laws.proofs.Cited.{
-  clash,
-  clash_above,
-  find_least,
-  turned_below,
-  turned_most,
-  weak,
-  weak_below,
-  zero_weak,
-}
+use Rattle.list_laws.proofs.Cited.{clash, clash_above, find_least, turned_below, turned_most, weak, weak_below}
+use Rattle.list_laws.proofs.Cited.{zero_weak}
 use Rattle.point_order.specs.Orientation.{orientation}
 use Rattle.point_order.specs.Heights.{lifted}
 use Rattle.point_order.specs.Sets.{IsIn}
@@ -21,22 +13,8 @@ use Rattle.point_order.proofs.Cited.{swap_middle}
 use Rattle.del_laws.specs.Cells.{Full, Open, Vertex, point, far, On}
 use Rattle.del_laws.proofs.Identities.{lifted_swap23, pencil_of}
 use Rattle.del_laws.proofs.Pencils.{beyond, nearest, lowest, mate_sign}
-use Rattle.del_laws.proofs.CellFacts.{
-  full_cell,
-  full_a,
-  full_b,
-  full_c,
-  full_d,
-  full_turned,
-  full_empty,
-  open_by_mate,
-  open_a,
-  open_b,
-  open_c,
-  open_mate,
-  open_bounds,
-  open_ties,
-}
+use Rattle.del_laws.proofs.CellFacts.{full_cell, full_a, full_b, full_c, full_d, full_turned, full_empty, open_by_mate}
+use Rattle.del_laws.proofs.CellFacts.{open_a, open_b, open_c, open_mate, open_bounds, open_ties}
 
 -- across a triple of a Full cell lies another Full cell, or the triple is an Open cell
 pub across_full : {h : ℕ → ℕ} {s : List ℕ} {a b c d : ℕ} → Full h s a b c d → ((f : ℕ) × Full h s a c b f)

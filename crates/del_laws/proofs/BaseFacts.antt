@@ -17,17 +17,8 @@ use Rattle.del_laws.proofs.Existence.{exists_full}
 use Rattle.del_laws.proofs.Smaller.{smaller, held_inside, union}
 use Rattle.del_laws.proofs.Perturbed.{no_ties, is_convex}
 use Rattle.del_laws.proofs.Bools.{cell_true, cell_from}
-use Rattle.del_laws.proofs.PointSets.{
-  keys_of,
-  has_from,
-  has_true,
-  within,
-  solid_from,
-  solid_true,
-  solid_more,
-  in_map,
-  distinct_vertices,
-}
+use Rattle.del_laws.proofs.PointSets.{keys_of, has_from, has_true, within, solid_from, solid_true, solid_more, in_map}
+use Rattle.del_laws.proofs.PointSets.{distinct_vertices}
 
 -- a cell passes the test
 pub test_true : (s : PointSet) (w x y z : Vertex) → Held height s.points w x y z → cell s w x y z ≡ true

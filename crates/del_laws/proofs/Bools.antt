@@ -1,72 +1,18 @@
 -- The test of four vertices of specs/Vertices says that they are a cell, at the perturbed heights.
 --
-use Rattle.std.specs.Prelude.{
-  ℕ,
-  pos,
-  neg_ℤ,
-  ◌≡◌,
-  ◌≤ℤ◌,
-  ◌<ℤ◌,
-  Bool,
-  true,
-  not,
-  ◌&&◌,
-  ◌||◌,
-  List,
-  [],
-  ◌∷◌,
-  ◌⊎◌,
-  Option,
-  None,
-}
+use Rattle.std.specs.Prelude.{ℕ, pos, neg_ℤ, ◌≡◌, ◌≤ℤ◌, ◌<ℤ◌, Bool, true, not, ◌&&◌, ◌||◌, List, [], ◌∷◌, ◌⊎◌, Option}
+use Rattle.std.specs.Prelude.{None}
 use Rattle.std.specs.List.{list_all, find}
 use Rattle.std.specs.Int.Signed.{lt_z, le_z}
 use Rattle.std.proofs.Common.{refl, inl, inr, ap, sym, subst, ◌∙◌}
 use Rattle.whole_ring.specs.Signs.{below, at_zero, above}
 use Rattle.whole_ring.proofs.Cited.{sign}
-use Rattle.list_laws.proofs.Cited.{
-  IsFound,
-  all_from,
-  all_true,
-  among_from,
-  among_true,
-  both_true,
-  false_if,
-  first_true,
-  found_from,
-  high_of,
-  is_at_zero,
-  is_in,
-  left_true,
-  less_from,
-  less_true,
-  low_of,
-  most_from,
-  most_true,
-  not_from,
-  not_true,
-  not_zero,
-  one_true,
-  right_true,
-  searched,
-  second_true,
-  two_signs,
-  weak,
-  zero_weak,
-}
-use Rattle.point_order.specs.Orientation.{
-  orientation,
-  is_flat,
-  is_zero,
-  is_collinear,
-  normal_x,
-  normal_y,
-  normal_z,
-  minor,
-  x_from,
-  y_from,
-  z_from,
-}
+use Rattle.list_laws.proofs.Cited.{IsFound, all_from, all_true, among_from, among_true, both_true, false_if, first_true}
+use Rattle.list_laws.proofs.Cited.{found_from, high_of, is_at_zero, is_in, left_true, less_from, less_true, low_of}
+use Rattle.list_laws.proofs.Cited.{most_from, most_true, not_from, not_true, not_zero, one_true, right_true, searched}
+use Rattle.list_laws.proofs.Cited.{second_true, two_signs, weak, zero_weak}
+use Rattle.point_order.specs.Orientation.{orientation, is_flat, is_zero, is_collinear, normal_x, normal_y, normal_z}
+use Rattle.point_order.specs.Orientation.{minor, x_from, y_from, z_from}
 use Rattle.point_order.specs.Heights.{height, lifted, out}
 use Rattle.point_order.specs.Spheres.{is_outside}
 use Rattle.point_order.specs.Sets.{IsIn, is_among}
@@ -76,20 +22,8 @@ use Rattle.del_laws.specs.Cells.{Full, Open, Vertex, point, far, Held, OneOf}
 use Rattle.del_laws.specs.Keys.{AreKeys}
 use Rattle.del_laws.specs.Vertices.{are_among, is_full_cell, is_open_cell, is_cell}
 use Rattle.del_laws.proofs.Identities.{lifted_swap23}
-use Rattle.del_laws.proofs.CellFacts.{
-  full_cell,
-  full_a,
-  full_b,
-  full_c,
-  full_d,
-  full_turned,
-  open_by_mate,
-  open_a,
-  open_b,
-  open_c,
-  open_mate,
-  open_bounds,
-}
+use Rattle.del_laws.proofs.CellFacts.{full_cell, full_a, full_b, full_c, full_d, full_turned, open_by_mate, open_a}
+use Rattle.del_laws.proofs.CellFacts.{open_b, open_c, open_mate, open_bounds}
 use Rattle.del_laws.proofs.Planes.{IsLine, line_flat, open_not_line}
 use Rattle.del_laws.proofs.Walks.{strict, on}
 use Rattle.del_laws.proofs.Strict.{strict_open, flat_three}

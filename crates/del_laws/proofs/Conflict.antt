@@ -7,22 +7,8 @@ use Rattle.point_order.specs.Heights.{lifted}
 use Rattle.point_order.specs.Sets.{IsIn}
 use Rattle.del_laws.specs.Cells.{Full, Open, IsOutside}
 use Rattle.del_laws.proofs.Identities.{pencil_of}
-use Rattle.del_laws.proofs.CellFacts.{
-  full_cell,
-  full_a,
-  full_b,
-  full_c,
-  full_d,
-  full_turned,
-  full_empty,
-  open_by_mate,
-  open_a,
-  open_b,
-  open_c,
-  open_mate,
-  open_bounds,
-  open_ties,
-}
+use Rattle.del_laws.proofs.CellFacts.{full_cell, full_a, full_b, full_c, full_d, full_turned, full_empty, open_by_mate}
+use Rattle.del_laws.proofs.CellFacts.{open_a, open_b, open_c, open_mate, open_bounds, open_ties}
 use Rattle.del_laws.proofs.Pencils.{mate_sign}
 
 -- it does not matter which mate

@@ -2,38 +2,14 @@
 use Rattle.std.specs.Prelude.{ℕ, pos, ◌≡◌, ◌≤ℤ◌, ◌<ℤ◌, List}
 use Rattle.std.proofs.Common.{refl, ap}
 use Rattle.std.proofs.Math.Decide.{ℕ_discrete}
-use Rattle.list_laws.proofs.Cited.{
-  all_in,
-  both,
-  either,
-  follows,
-  is_at_zero,
-  is_in,
-  is_not_below,
-  is_positive,
-  moved,
-  some_in,
-}
+use Rattle.list_laws.proofs.Cited.{all_in, both, either, follows, is_at_zero, is_in, is_not_below, is_positive, moved}
+use Rattle.list_laws.proofs.Cited.{some_in}
 use Rattle.point_order.specs.Orientation.{orientation}
 use Rattle.point_order.specs.Heights.{lifted}
 use Rattle.point_order.specs.Sets.{IsIn}
 use Rattle.del_laws.specs.Cells.{Full, Open, Vertex, point, far, On, Held}
-use Rattle.del_laws.proofs.CellFacts.{
-  full_cell,
-  full_a,
-  full_b,
-  full_c,
-  full_d,
-  full_turned,
-  full_empty,
-  open_by_mate,
-  open_a,
-  open_b,
-  open_c,
-  open_mate,
-  open_bounds,
-  open_ties,
-}
+use Rattle.del_laws.proofs.CellFacts.{full_cell, full_a, full_b, full_c, full_d, full_turned, full_empty, open_by_mate}
+use Rattle.del_laws.proofs.CellFacts.{open_a, open_b, open_c, open_mate, open_bounds, open_ties}
 
 -- ---- decisions in general
 

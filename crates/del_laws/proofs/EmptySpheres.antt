@@ -16,14 +16,8 @@ use Rattle.del_laws.specs.Cells.{point, Full, Held, OneOf}
 use Rattle.del_laws.specs.Keys.{AreKeys}
 use Rattle.del_laws.specs.Vertices.{is_full_cell}
 use Rattle.del_laws.specs.EmptySpheres.{place, IsOffEdge, IsOffTriangle, CellsAreEmpty, EdgeByCells, TriangleByCells}
-use Rattle.del_laws.proofs.Identities.{
-  orientation_same12,
-  orientation_same13,
-  orientation_same23,
-  lifted_swap23,
-  edge_power_of,
-  triangle_power_of,
-}
+use Rattle.del_laws.proofs.Identities.{orientation_same12, orientation_same13, orientation_same23, lifted_swap23}
+use Rattle.del_laws.proofs.Identities.{edge_power_of, triangle_power_of}
 use Rattle.del_laws.proofs.CellFacts.{full_a, full_b, full_c, full_d, full_turned, full_empty, open_bounds}
 use Rattle.del_laws.proofs.Orders.{full_right}
 use Rattle.del_laws.proofs.Across.{across_full}

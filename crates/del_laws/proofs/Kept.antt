@@ -5,20 +5,8 @@ use Rattle.std.proofs.Common.{arith, inl, inr, sym, subst}
 use Rattle.std.proofs.lemmas.Int.{ints}
 use Rattle.whole_ring.specs.Signs.{Sign, below, at_zero, above}
 use Rattle.whole_ring.proofs.Cited.{sign}
-use Rattle.list_laws.proofs.Cited.{
-  clash,
-  high_of,
-  low_of,
-  negative_of_zero,
-  not_both,
-  not_from,
-  not_true,
-  not_zero,
-  positive,
-  same_test,
-  weak,
-  zero_weak,
-}
+use Rattle.list_laws.proofs.Cited.{clash, high_of, low_of, negative_of_zero, not_both, not_from, not_true, not_zero}
+use Rattle.list_laws.proofs.Cited.{positive, same_test, weak, zero_weak}
 use Rattle.point_order.specs.Coordinates.{IsKey}
 use Rattle.point_order.specs.Orientation.{orientation, is_zero}
 use Rattle.point_order.specs.Heights.{height, lifted, out}
@@ -33,19 +21,8 @@ use Rattle.del_laws.specs.Vertices.{is_full_cell, is_open_cell}
 use Rattle.del_laws.specs.Kept.{FullIsKept, OpenIsKept}
 use Rattle.del_laws.proofs.Identities.{lifted_swap23}
 use Rattle.del_laws.proofs.Lists.{of_four}
-use Rattle.del_laws.proofs.CellFacts.{
-  full_point,
-  full_turned,
-  full_against,
-  full_same,
-  open_a,
-  open_b,
-  open_c,
-  open_bounds,
-  open_ties,
-  open_under,
-  open_same,
-}
+use Rattle.del_laws.proofs.CellFacts.{full_point, full_turned, full_against, full_same, open_a, open_b, open_c}
+use Rattle.del_laws.proofs.CellFacts.{open_bounds, open_ties, open_under, open_same}
 use Rattle.del_laws.proofs.Walks.{strict}
 use Rattle.del_laws.proofs.Conflict.{full_stays, open_stays}
 use Rattle.del_laws.proofs.Perturbed.{no_ties, out_is}

@@ -5,34 +5,11 @@ use Rattle.list_laws.proofs.Cited.{not_both}
 use Rattle.point_order.specs.Orientation.{is_collinear}
 use Rattle.point_order.specs.Heights.{lifted}
 use Rattle.del_laws.specs.Cells.{point, far, Cell, IsOutside}
-use Rattle.del_laws.specs.Laws.{
-  SwapFirst,
-  SwapMiddle,
-  SwapLast,
-  AcrossFull,
-  AcrossOpen,
-  OneFullOnASide,
-  OneOpenOnASide,
-  SmallerSet,
-  BetweenSets,
-  NoFlatTriple,
-  AnyMate,
-  FullStays,
-  OpenStays,
-  KeysHaveNoTies,
-  KeysAreConvex,
-  TestOfCells,
-}
-use Rattle.del_laws.specs.Walks.{
-  CloserAcross,
-  FartherAcross,
-  AwayFromAPoint,
-  SolidHasCells,
-  EveryPoint,
-  SomeFacetBehind,
-  CrossingTowards,
-  FewerAreNearer,
-}
+use Rattle.del_laws.specs.Laws.{SwapFirst, SwapMiddle, SwapLast, AcrossFull, AcrossOpen, OneFullOnASide, OneOpenOnASide}
+use Rattle.del_laws.specs.Laws.{SmallerSet, BetweenSets, NoFlatTriple, AnyMate, FullStays, OpenStays, KeysHaveNoTies}
+use Rattle.del_laws.specs.Laws.{KeysAreConvex, TestOfCells}
+use Rattle.del_laws.specs.Walks.{CloserAcross, FartherAcross, AwayFromAPoint, SolidHasCells, EveryPoint}
+use Rattle.del_laws.specs.Walks.{SomeFacetBehind, CrossingTowards, FewerAreNearer}
 use Rattle.del_laws.proofs.CellFacts.{full_against, open_under}
 use Rattle.del_laws.proofs.Orders.{cell_12, cell_23, cell_34}
 use Rattle.del_laws.proofs.Across.{across_full, across_open}

@@ -1,46 +1,11 @@
 -- Which cells the sorted list of a complex has.
-use Rattle.std.specs.Prelude.{
-  ◌≡◌,
-  refl,
-  ℕ,
-  zero,
-  suc,
-  ◌<◌,
-  Bool,
-  true,
-  false,
-  not,
-  ◌&&◌,
-  ◌||◌,
-  List,
-  [],
-  ◌∷◌,
-  ◌⊎◌,
-  map,
-  length,
-}
+use Rattle.std.specs.Prelude.{◌≡◌, refl, ℕ, zero, suc, ◌<◌, Bool, true, false, not, ◌&&◌, ◌||◌, List, [], ◌∷◌, ◌⊎◌, map}
+use Rattle.std.specs.Prelude.{length}
 use Rattle.std.specs.List.{filter, list_all}
 use Rattle.std.proofs.Common.{arith, inl, inr, sym, subst}
-use Rattle.list_laws.proofs.Cited.{
-  all_from,
-  all_true,
-  among_from,
-  among_true,
-  below_each,
-  both_true,
-  filtered_from,
-  filtered_true,
-  first_below,
-  first_true,
-  from_append,
-  in_left,
-  in_right,
-  less_chain,
-  mapped_from,
-  mapped_true,
-  not_from,
-  second_true,
-}
+use Rattle.list_laws.proofs.Cited.{all_from, all_true, among_from, among_true, below_each, both_true, filtered_from}
+use Rattle.list_laws.proofs.Cited.{filtered_true, first_below, first_true, from_append, in_left, in_right, less_chain}
+use Rattle.list_laws.proofs.Cited.{mapped_from, mapped_true, not_from, second_true}
 use Rattle.point_order.specs.declared.cell.Cell.{Cell}
 use Rattle.point_order.specs.declared.cell.Cell.TheVariants.{Full, Open}
 use Rattle.point_order.specs.Orientation.{is_flat}

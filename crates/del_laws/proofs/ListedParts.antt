@@ -15,15 +15,8 @@ use Rattle.del_laws.specs.Keys.{AreKeys}
 use Rattle.del_laws.specs.Vertices.{is_cell}
 use Rattle.del_laws.specs.Base.{Symmetric}
 use Rattle.del_laws.specs.Listed.{IsListed, cell_of}
-use Rattle.del_laws.specs.ListedParts.{
-  IsClosedListed,
-  ListedStar,
-  ListedPart,
-  ListedAtAPoint,
-  ListedEveryPoint,
-  HasMate,
-  ListedMate,
-}
+use Rattle.del_laws.specs.ListedParts.{IsClosedListed, ListedStar, ListedPart, ListedAtAPoint, ListedEveryPoint}
+use Rattle.del_laws.specs.ListedParts.{HasMate, ListedMate}
 use Rattle.del_laws.proofs.Lists.{of_four}
 use Rattle.del_laws.proofs.CellFacts.{full_d, full_apart}
 use Rattle.del_laws.proofs.Across.{across_open}
@@ -34,19 +27,8 @@ use Rattle.del_laws.proofs.Bools.{cell_true, cell_from}
 use Rattle.del_laws.proofs.PointSets.{solid_from}
 use Rattle.del_laws.proofs.Closed.{star_law}
 use Rattle.del_laws.proofs.Listed.{listed_is_cell}
-use Rattle.del_laws.proofs.Sorting.{
-  turn12,
-  turn23,
-  apart12,
-  apart23,
-  cell_of_swap12,
-  cell_of_swap23,
-  cell_of_swap34,
-  test_is_listed,
-  less,
-  more,
-  compared,
-}
+use Rattle.del_laws.proofs.Sorting.{turn12, turn23, apart12, apart23, cell_of_swap12, cell_of_swap23, cell_of_swap34}
+use Rattle.del_laws.proofs.Sorting.{test_is_listed, less, more, compared}
 use Rattle.del_laws.proofs.Neighbours.{has_facet}
 
 -- ---- listed cells by their vertices

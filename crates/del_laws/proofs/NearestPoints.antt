@@ -1,53 +1,15 @@
 -- The cells at a point show whether it is the nearest of the set: the order by distance and key is one by heights.
-use Rattle.std.specs.Prelude.{
-  ℕ,
-  ℤ,
-  pos,
-  neg_ℤ,
-  ◌+ℤ◌,
-  ◌-ℤ◌,
-  ◌*ℤ◌,
-  ◌≡◌,
-  ◌≤ℤ◌,
-  ◌<ℤ◌,
-  ◌<◌,
-  ◌^◌,
-  Bool,
-  true,
-  false,
-  not,
-  ◌&&◌,
-  ◌||◌,
-  nat_lt,
-  List,
-  [],
-  ◌∷◌,
-  ◌⊎◌,
-}
+use Rattle.std.specs.Prelude.{ℕ, ℤ, pos, neg_ℤ, ◌+ℤ◌, ◌-ℤ◌, ◌*ℤ◌, ◌≡◌, ◌≤ℤ◌, ◌<ℤ◌, ◌<◌, ◌^◌, Bool, true, false, not}
+use Rattle.std.specs.Prelude.{◌&&◌, ◌||◌, nat_lt, List, [], ◌∷◌, ◌⊎◌}
 use Rattle.std.specs.Int.Signed.{lt_z}
 use Rattle.std.proofs.Common.{arith, refl, inl, inr, ap, sym, subst, ◌∙◌}
 use Rattle.std.proofs.lemmas.Int.{ints}
 use Rattle.whole_ring.specs.Poly.{Expr, var, lit, ◌⊕◌, ◌⊗◌, minus, ◌⊖◌, nothing, given}
 use Rattle.whole_ring.specs.Signs.{below, at_zero, above}
 use Rattle.whole_ring.proofs.Cited.{mul_nonneg, mul_pos_neg, ring, ring_from, sign}
-use Rattle.list_laws.proofs.Cited.{
-  not_below,
-  not_zero,
-  less_from,
-  less_true,
-  both_true,
-  false_if,
-  first_true,
-  second_true,
-  left_true,
-  right_true,
-  one_true,
-  not_both,
-  not_from,
-  not_true,
-  below_from,
-  below_true,
-}
+use Rattle.list_laws.proofs.Cited.{not_below, not_zero, less_from, less_true, both_true, false_if, first_true}
+use Rattle.list_laws.proofs.Cited.{second_true, left_true, right_true, one_true, not_both, not_from, not_true}
+use Rattle.list_laws.proofs.Cited.{below_from, below_true}
 use Rattle.conv_laws.specs.Places.{Vector, orient, Lifted, lifted as lifted_determinant, triple, minor}
 use Rattle.conv_laws.specs.Spheres.{sheared}
 use Rattle.conv_laws.proofs.Cited.{affine_change, weights_of_heights}

@@ -19,21 +19,8 @@ use Rattle.del_laws.proofs.Facets.{facing}
 use Rattle.del_laws.proofs.Perturbed.{no_ties}
 use Rattle.del_laws.proofs.Bools.{cell_true, cell_from}
 use Rattle.del_laws.proofs.Listed.{listed_is_cell, same_full, same_open, not_both_kinds}
-use Rattle.del_laws.proofs.Sorting.{
-  turn34,
-  rotate1,
-  rotate2,
-  apart34,
-  apart24,
-  apart14,
-  cell_of_swap12,
-  cell_of_swap23,
-  cell_of_swap34,
-  test_is_listed,
-  less,
-  more,
-  compared,
-}
+use Rattle.del_laws.proofs.Sorting.{turn34, rotate1, rotate2, apart34, apart24, apart14, cell_of_swap12, cell_of_swap23}
+use Rattle.del_laws.proofs.Sorting.{cell_of_swap34, test_is_listed, less, more, compared}
 
 -- ---- a facet and one more vertex
 

@@ -7,17 +7,8 @@ use Rattle.std.specs.Cmp.Lexicographic.{slice_cmp}
 use Rattle.std.specs.declared.cmp.Ordering.TheVariants.{Less}
 use Rattle.std.proofs.Common.{inl, inr, sym, subst, ◌∙◌}
 use Rattle.std.proofs.lemmas.List.Kept.{IsStrictlySortedBy-filter}
-use Rattle.list_laws.proofs.Cited.{
-  below_each,
-  each_by,
-  from_append,
-  less_first,
-  list_against,
-  mapped_from,
-  same_first,
-  sorted_append,
-  sorted_map,
-}
+use Rattle.list_laws.proofs.Cited.{below_each, each_by, from_append, less_first, list_against, mapped_from, same_first}
+use Rattle.list_laws.proofs.Cited.{sorted_append, sorted_map}
 use Rattle.point_order.specs.declared.cell.Cell.{Cell}
 use Rattle.point_order.specs.declared.cell.Cell.TheVariants.{Full, Open}
 use Rattle.point_order.specs.Sets.{IsIn, IsAscending}

@@ -4,22 +4,8 @@ use Rattle.std.specs.Prelude.{ℕ, List}
 use Rattle.std.proofs.Common.{sym, ◌∙◌, inl, inr}
 use Rattle.del_laws.specs.Cells.{Full, Open, Vertex, point, far, Held, Cell}
 use Rattle.del_laws.proofs.Identities.{orientation_bcad, orientation_acdb, lifted_bcad, lifted_acdb}
-use Rattle.del_laws.proofs.CellFacts.{
-  full_cell,
-  full_a,
-  full_b,
-  full_c,
-  full_d,
-  full_turned,
-  full_empty,
-  open_by_mate,
-  open_a,
-  open_b,
-  open_c,
-  open_mate,
-  open_bounds,
-  open_ties,
-}
+use Rattle.del_laws.proofs.CellFacts.{full_cell, full_a, full_b, full_c, full_d, full_turned, full_empty, open_by_mate}
+use Rattle.del_laws.proofs.CellFacts.{open_a, open_b, open_c, open_mate, open_bounds, open_ties}
 
 -- the first three points of a Full cell are turned
 pub full_left : {h : ℕ → ℕ} {s : List ℕ} {a b c d : ℕ} → Full h s a b c d → Full h s b c a d

@@ -5,20 +5,8 @@ use Rattle.std.specs.Prelude.{ℕ, ◌≡◌, Bool, true, false, List, [], ◌�
 use Rattle.std.proofs.Common.{refl, inl, inr, subst, sym, ap}
 use Rattle.list_laws.specs.Lists.{AreDistinct}
 use Rattle.list_laws.specs.Laws.{odd, IsGraph}
-use Rattle.list_laws.proofs.Cited.{
-  HasSome,
-  another,
-  even_degrees,
-  holds_true,
-  is_in,
-  look,
-  none_even,
-  true_if,
-  true_if_no,
-  true_if_same,
-  true_if_yes,
-  two_even,
-}
+use Rattle.list_laws.proofs.Cited.{HasSome, another, even_degrees, holds_true, is_in, look, none_even, true_if}
+use Rattle.list_laws.proofs.Cited.{true_if_no, true_if_same, true_if_yes, two_even}
 use Rattle.point_order.specs.Sets.{IsIn}
 use Rattle.point_order.proofs.Cited.{last_second, last_third}
 use Rattle.del_laws.specs.Cells.{Open, Vertex, point, far, Held, NoTies}

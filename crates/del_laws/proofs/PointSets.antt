@@ -1,53 +1,15 @@
 -- Sets of points: when two are one, the points of a set with and without a point, and solid sets.
-use Rattle.std.specs.Prelude.{
-  ◌≡◌,
-  refl,
-  ℕ,
-  ◌<◌,
-  ◌^◌,
-  Bool,
-  true,
-  false,
-  not,
-  ◌&&◌,
-  ◌||◌,
-  ◌==◌,
-  nat_lt,
-  List,
-  [],
-  ◌∷◌,
-  map,
-}
+use Rattle.std.specs.Prelude.{◌≡◌, refl, ℕ, ◌<◌, ◌^◌, Bool, true, false, not, ◌&&◌, ◌||◌, ◌==◌, nat_lt, List, [], ◌∷◌}
+use Rattle.std.specs.Prelude.{map}
 use Rattle.std.specs.List.{list_any}
 use Rattle.std.proofs.Common.{arith, inl, inr, ap, sym, subst, ◌∙◌}
 use Rattle.std.proofs.lemmas.Bool.Decides.{nat_tests}
 use Rattle.std.proofs.Math.Bool.{Bool-set}
 use Rattle.list_laws.specs.Lists.{AreDistinct}
-use Rattle.list_laws.proofs.Cited.{
-  among_from,
-  among_true,
-  any_from,
-  any_true,
-  below_each,
-  below_from,
-  below_true,
-  both_true,
-  filtered_ascending,
-  filtered_from,
-  filtered_true,
-  first_true,
-  left_true,
-  not_both,
-  not_from,
-  not_true,
-  one_true,
-  right_true,
-  same_from,
-  same_members,
-  same_test,
-  same_true,
-  second_true,
-}
+use Rattle.list_laws.proofs.Cited.{among_from, among_true, any_from, any_true, below_each, below_from, below_true}
+use Rattle.list_laws.proofs.Cited.{both_true, filtered_ascending, filtered_from, filtered_true, first_true, left_true}
+use Rattle.list_laws.proofs.Cited.{not_both, not_from, not_true, one_true, right_true, same_from, same_members}
+use Rattle.list_laws.proofs.Cited.{same_test, same_true, second_true}
 use Rattle.point_order.specs.Coordinates.{IsKey}
 use Rattle.point_order.specs.Orientation.{orientation, is_flat}
 use Rattle.point_order.specs.Sets.{IsIn, IsAscending, IsBelowFirst, is_among, with_point, without_point}
@@ -55,18 +17,8 @@ use Rattle.point_order.specs.Solid.{is_solid}
 use Rattle.point_order.proofs.Cited.{ascending_with, in_with, in_with_new, in_with_old, not_zero_from, zero_false}
 use Rattle.del_laws.specs.Cells.{Vertex, point, far, IsSolid, IsSubset}
 use Rattle.del_laws.specs.Keys.{AreKeys}
-use Rattle.del_laws.specs.PointSets.{
-  is_below_first,
-  is_point_set,
-  PointSet,
-  same_vertex,
-  is_point,
-  set_or,
-  minus,
-  vertices,
-  has_as_point,
-  set_with,
-}
+use Rattle.del_laws.specs.PointSets.{is_below_first, is_point_set, PointSet, same_vertex, is_point, set_or, minus}
+use Rattle.del_laws.specs.PointSets.{vertices, has_as_point, set_with}
 use Rattle.del_laws.specs.Base.{Within}
 use Rattle.del_laws.proofs.Pairs.{same_point, far_point}
 
@@ -307,7 +259,3 @@ pub distinct_vertices : (s : PointSet) → AreDistinct (vertices s)
 distinct_vertices s = (no_far s.points, distinct_map s.points (ascending_of s))
 
 -- ---- a list as a set
-
--- the set of an ascending list of keys
-pub point_set : (s : List ℕ) → IsAscending s → AreKeys s → PointSet
-point_set s a k = record { points = s; valid = set_true s a k.below }

@@ -1,54 +1,15 @@
 -- The order of nearness over listed cells.
-use Rattle.std.specs.Prelude.{
-  ◌≡◌,
-  refl,
-  ℕ,
-  zero,
-  suc,
-  ℤ,
-  pos,
-  negsuc,
-  neg_ℤ,
-  ◌*ℤ◌,
-  ◌≤ℤ◌,
-  ◌<ℤ◌,
-  Bool,
-  true,
-  false,
-  ◌&&◌,
-  ◌||◌,
-  List,
-  [],
-  ◌∷◌,
-  ◌⊎◌,
-  if◌then◌else◌,
-}
+use Rattle.std.specs.Prelude.{◌≡◌, refl, ℕ, zero, suc, ℤ, pos, negsuc, neg_ℤ, ◌*ℤ◌, ◌≤ℤ◌, ◌<ℤ◌, Bool, true, false, ◌&&◌}
+use Rattle.std.specs.Prelude.{◌||◌, List, [], ◌∷◌, ◌⊎◌, if◌then◌else◌}
 use Rattle.std.specs.Int.RustNames.{unsigned_abs}
 use Rattle.std.specs.Int.Signed.{lt_z}
 use Rattle.std.proofs.Common.{arith, inl, inr, ap, sym, subst, ◌∙◌}
 use Rattle.std.proofs.lemmas.Int.{ints}
 use Rattle.whole_ring.specs.Signs.{below, at_zero, above}
 use Rattle.whole_ring.proofs.Cited.{sign}
-use Rattle.list_laws.proofs.Cited.{
-  below_or_not,
-  both_true,
-  clash,
-  false_if,
-  first_true,
-  high_of,
-  left_true,
-  less_from,
-  less_true,
-  low_of,
-  low_turned,
-  one_true,
-  right_true,
-  same_test,
-  second_true,
-  turned_below,
-  two_signs,
-  weak,
-}
+use Rattle.list_laws.proofs.Cited.{below_or_not, both_true, clash, false_if, first_true, high_of, left_true, less_from}
+use Rattle.list_laws.proofs.Cited.{less_true, low_of, low_turned, one_true, right_true, same_test, second_true}
+use Rattle.list_laws.proofs.Cited.{turned_below, two_signs, weak}
 use Rattle.point_order.specs.declared.cell.Cell.TheVariants.{Full, Open}
 use Rattle.point_order.specs.Coordinates.{IsKey}
 use Rattle.point_order.specs.Orientation.{orientation}
@@ -64,33 +25,15 @@ use Rattle.del_laws.specs.Listed.{cell_of}
 use Rattle.del_laws.specs.Walks.{Rank, ratio, is_before}
 use Rattle.del_laws.specs.Nearness.{one_less, ratio_by, open_rank, rank, NearerAcross, SomeTripleTowards, NearerInside}
 use Rattle.del_laws.proofs.Identities.{orientation_bcad, orientation_acdb, lifted_swap12, lifted_swap23, lifted_swap34}
-use Rattle.del_laws.proofs.CellFacts.{
-  full_a,
-  full_b,
-  full_c,
-  full_d,
-  full_point,
-  full_turned,
-  full_apart,
-  open_bounds,
-  open_under,
-}
+use Rattle.del_laws.proofs.CellFacts.{full_a, full_b, full_c, full_d, full_point, full_turned, full_apart, open_bounds}
+use Rattle.del_laws.proofs.CellFacts.{open_under}
 use Rattle.del_laws.proofs.Kept.{with_keys}
 use Rattle.del_laws.proofs.Sides.{unique}
 use Rattle.del_laws.proofs.Walks.{nearer}
 use Rattle.del_laws.proofs.Perturbed.{no_ties, is_convex, out_is}
 use Rattle.del_laws.proofs.Bools.{cell_from, above_from, below_from}
-use Rattle.del_laws.proofs.Sorting.{
-  turn12,
-  turn23,
-  cell_of_swap12,
-  cell_of_swap23,
-  cell_of_swap34,
-  IsSorted4,
-  IsSorted3,
-  sort4,
-  sort3,
-}
+use Rattle.del_laws.proofs.Sorting.{turn12, turn23, cell_of_swap12, cell_of_swap23, cell_of_swap34, IsSorted4}
+use Rattle.del_laws.proofs.Sorting.{IsSorted3, sort4, sort3}
 
 -- ---- the ratio does not depend on the order of the points
 
@@ -139,7 +82,7 @@ out_swap12 : (a b c d e : ℕ) → out b a c d e ≡ neg_ℤ (out a b c d e)
 out_swap12 a b c d e = out_is b a c d e ∙ lifted_swap12 height a b c d e ∙ ap neg_ℤ (sym (out_is a b c d e))
 
 -- the middle two
-out_swap23 : (a b c d e : ℕ) → out a c b d e ≡ neg_ℤ (out a b c d e)
+pub out_swap23 : (a b c d e : ℕ) → out a c b d e ≡ neg_ℤ (out a b c d e)
 out_swap23 a b c d e = out_is a c b d e ∙ lifted_swap23 height a b c d e ∙ ap neg_ℤ (sym (out_is a b c d e))
 
 -- the last two

@@ -8,30 +8,11 @@ use Rattle.point_order.specs.Orientation.{orientation}
 use Rattle.point_order.specs.Heights.{lifted}
 use Rattle.point_order.proofs.Cited.{last_first, last_second, last_third, swap_last}
 use Rattle.del_laws.specs.Cells.{Open, Vertex, point, far, On, Held, NoTies, OneOf}
-use Rattle.del_laws.proofs.Identities.{
-  orientation_same13,
-  orientation_same23,
-  lifted_swap45,
-  lifted_swap35,
-  three_terms_of,
-}
+use Rattle.del_laws.proofs.Identities.{orientation_same13, orientation_same23, lifted_swap45, lifted_swap35}
+use Rattle.del_laws.proofs.Identities.{three_terms_of}
 use Rattle.del_laws.proofs.Lists.{of_four}
-use Rattle.del_laws.proofs.CellFacts.{
-  full_a,
-  full_b,
-  full_c,
-  full_d,
-  full_turned,
-  full_empty,
-  full_against,
-  open_a,
-  open_b,
-  open_c,
-  open_mate,
-  open_bounds,
-  open_ties,
-  open_under,
-}
+use Rattle.del_laws.proofs.CellFacts.{full_a, full_b, full_c, full_d, full_turned, full_empty, full_against, open_a}
+use Rattle.del_laws.proofs.CellFacts.{open_b, open_c, open_mate, open_bounds, open_ties, open_under}
 use Rattle.del_laws.proofs.Across.{across}
 
 -- one of four points, off the plane of the first three: it is the fourth

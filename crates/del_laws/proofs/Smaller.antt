@@ -5,23 +5,8 @@ use Rattle.std.specs.Prelude.{ℕ, List, ◌⊎◌}
 use Rattle.std.proofs.Common.{inl, inr}
 use Rattle.point_order.specs.Sets.{IsIn}
 use Rattle.del_laws.specs.Cells.{Full, Open, Vertex, point, far, Held, IsSolid, IsSubset, IsSymmetric, Inside}
-use Rattle.del_laws.proofs.CellFacts.{
-  full_cell,
-  full_a,
-  full_b,
-  full_c,
-  full_d,
-  full_turned,
-  full_empty,
-  full_against,
-  open_a,
-  open_b,
-  open_c,
-  open_bounds,
-  open_ties,
-  open_under,
-  open_by_mate,
-}
+use Rattle.del_laws.proofs.CellFacts.{full_cell, full_a, full_b, full_c, full_d, full_turned, full_empty, full_against}
+use Rattle.del_laws.proofs.CellFacts.{open_a, open_b, open_c, open_bounds, open_ties, open_under, open_by_mate}
 use Rattle.del_laws.proofs.Planes.{mate_within}
 use Rattle.del_laws.proofs.Parts.{by_triples, held_even, and_even}
 

@@ -15,20 +15,9 @@ use Rattle.del_laws.proofs.Stars.{star}
 use Rattle.del_laws.proofs.Decide.{decide_full}
 use Rattle.del_laws.proofs.Perturbed.{no_ties}
 use Rattle.del_laws.proofs.PointSets.{keys_of, extensional, has_plus, has_minus, finite}
-use Rattle.del_laws.proofs.BaseFacts.{
-  test_true,
-  test_from,
-  no_twice,
-  test_symmetric,
-  test_complex,
-  test_point,
-  test_smaller,
-  test_union,
-  point_finite,
-  test_corner,
-  test_full_solid,
-  test_solid_more,
-}
+use Rattle.del_laws.proofs.BaseFacts.{test_true, test_from, no_twice, test_symmetric, test_complex, test_point}
+use Rattle.del_laws.proofs.BaseFacts.{test_smaller, test_union, point_finite, test_corner, test_full_solid}
+use Rattle.del_laws.proofs.BaseFacts.{test_solid_more}
 
 -- four points are finite
 all_finite : (a b c d : ℕ) → AreFinite (point a) (point b) (point c) (point d)

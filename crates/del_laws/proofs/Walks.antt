@@ -13,17 +13,8 @@ use Rattle.point_order.proofs.Cited.{swap_middle}
 use Rattle.del_laws.specs.Cells.{Full, NoTies, IsConvex, OneOf, HasFullAt}
 use Rattle.del_laws.proofs.Identities.{lifted_at_a, lifted_at_b, lifted_at_c, lifted_at_d, crossing_of}
 use Rattle.del_laws.proofs.Lists.{of_four}
-use Rattle.del_laws.proofs.CellFacts.{
-  full_a,
-  full_b,
-  full_c,
-  full_d,
-  full_turned,
-  full_apart,
-  full_empty,
-  full_against,
-  open_bounds,
-}
+use Rattle.del_laws.proofs.CellFacts.{full_a, full_b, full_c, full_d, full_turned, full_apart, full_empty, full_against}
+use Rattle.del_laws.proofs.CellFacts.{open_bounds}
 use Rattle.del_laws.proofs.Orders.{full_left, full_right}
 use Rattle.del_laws.proofs.Across.{across_full}
 use Rattle.del_laws.proofs.Sides.{fourth}

@@ -4,20 +4,8 @@ use Rattle.std.specs.Prelude.{false, ℕ, pos, true, ◌≡◌, ◌≤ℤ◌, �
 use Rattle.point_order.specs.Orientation.{orientation, is_collinear}
 use Rattle.point_order.specs.Heights.{height, lifted}
 use Rattle.point_order.specs.Sets.{IsIn}
-use Rattle.del_laws.specs.Cells.{
-  Vertex,
-  point,
-  far,
-  Full,
-  Open,
-  Cell,
-  NoTies,
-  IsConvex,
-  IsSubset,
-  IsSolid,
-  Inside,
-  IsOutside,
-}
+use Rattle.del_laws.specs.Cells.{Vertex, point, far, Full, Open, Cell, NoTies, IsConvex, IsSubset, IsSolid, Inside}
+use Rattle.del_laws.specs.Cells.{IsOutside}
 use Rattle.del_laws.specs.Keys.{AreKeys}
 use Rattle.del_laws.specs.Vertices.{is_cell}
 

@@ -9,58 +9,20 @@
 //! says that the heights of the complex are such.
 #![tactic(auto)]
 
-ghost use Rattle.del_laws.specs.Laws.{
-  SwapFirst,
-  SwapMiddle,
-  SwapLast,
-  FacetLaw,
-  NoFlatTriple,
-  AnyMate,
-  AcrossFull,
-  AcrossOpen,
-  OneFullOnASide,
-  OneOpenOnASide,
-  SmallerSet,
-  BetweenSets,
-  FullStays,
-  OpenStays,
-  KeysHaveNoTies,
-  KeysAreConvex,
-  TestOfCells,
-};
-ghost use Rattle.del_laws.specs.Walks.{
-  CloserAcross,
-  FartherAcross,
-  AwayFromAPoint,
-  SolidHasCells,
-  EveryPoint,
-  SomeFacetBehind,
-  CrossingTowards,
-  FewerAreNearer,
-};
+ghost use Rattle.del_laws.specs.Laws.{SwapFirst, SwapMiddle, SwapLast, FacetLaw, NoFlatTriple, AnyMate, AcrossFull};
+ghost use Rattle.del_laws.specs.Laws.{AcrossOpen, OneFullOnASide, OneOpenOnASide, SmallerSet, BetweenSets, FullStays};
+ghost use Rattle.del_laws.specs.Laws.{OpenStays, KeysHaveNoTies, KeysAreConvex, TestOfCells};
+ghost use Rattle.del_laws.specs.Walks.{CloserAcross, FartherAcross, AwayFromAPoint, SolidHasCells, EveryPoint};
+ghost use Rattle.del_laws.specs.Walks.{SomeFacetBehind, CrossingTowards, FewerAreNearer};
 ghost use Rattle.del_laws.specs.Parts.{StarLaw, ClosedPart, CellsAtAVertex, EmptyCells};
 ghost use Rattle.del_laws.specs.Kept.{FullIsKept, OpenIsKept};
 ghost use Rattle.del_laws.specs.EmptySpheres.{CellsAreEmpty, EdgeByCells, TriangleByCells};
 ghost use Rattle.del_laws.specs.Nearness.{NearerAcross, NearerInside, SomeTripleTowards};
 ghost use Rattle.del_laws.specs.Nearest.{NearestByCells};
-ghost use Rattle.del_laws.specs.Listed.{
-  DefinitionIsCell,
-  ListedIsCell,
-  CellIsListed,
-  TestIsListed,
-  ComplexIsSorted,
-  ListedFacets,
-  SameCells,
-};
-ghost use Rattle.del_laws.specs.ListedParts.{
-  ListedStar,
-  ListedPart,
-  ListedAtAPoint,
-  ListedEveryPoint,
-  ListedMate,
-  ClosedListIsComplex,
-  ComplexIsClosedList,
-};
+ghost use Rattle.del_laws.specs.Listed.{DefinitionIsCell, ListedIsCell, CellIsListed, TestIsListed, ComplexIsSorted};
+ghost use Rattle.del_laws.specs.Listed.{ListedFacets, SameCells};
+ghost use Rattle.del_laws.specs.ListedParts.{ListedStar, ListedPart, ListedAtAPoint, ListedEveryPoint, ListedMate};
+ghost use Rattle.del_laws.specs.ListedParts.{ClosedListIsComplex, ComplexIsClosedList};
 ghost use Rattle.del_laws.specs.PointSets.{PointSet, solid, cell, vertices, minus, has_as_point, set_with};
 ghost use Rattle.del_laws.specs.Base.{Base};
 

@@ -1,28 +1,6 @@
 -- The first line of a text and the first field of a line, found by the first place of a byte.
-use Rattle.std.proofs.Common.{
-  ◌≡◌,
-  ◌≢◌,
-  ℕ,
-  zero,
-  suc,
-  ◌+◌,
-  ◌<◌,
-  true,
-  false,
-  eqb,
-  List,
-  [],
-  ◌∷◌,
-  length,
-  get_or,
-  take,
-  drop,
-  refl,
-  ap,
-  arith,
-  eq-eqb,
-  add-one,
-}
+use Rattle.std.proofs.Common.{◌≡◌, ◌≢◌, ℕ, zero, suc, ◌+◌, ◌<◌, true, false, eqb, List, [], ◌∷◌, length, get_or, take}
+use Rattle.std.proofs.Common.{drop, refl, ap, arith, eq-eqb, add-one}
 use Rattle.std.proofs.lemmas.Bool.{ne_eqb}
 use Rattle.std.specs.List.{slice_split, onto_first}
 use Rattle.edit_files.specs.Lines.{lines_of}

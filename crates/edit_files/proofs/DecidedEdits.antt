@@ -1,34 +1,6 @@
 -- The same of edit lines and of radius lines.
-use Rattle.std.proofs.Common.{
-  ◌≡◌,
-  ℕ,
-  ◌<◌,
-  ◌≤◌,
-  Bool,
-  true,
-  false,
-  eqb,
-  ltb,
-  ◌⊎◌,
-  List,
-  [],
-  ◌∷◌,
-  Option,
-  Some,
-  None,
-  Result,
-  Ok,
-  Err,
-  refl,
-  sym,
-  ap,
-  subst,
-  ◌∙◌,
-  arith,
-  inl,
-  inr,
-  lit<,
-}
+use Rattle.std.proofs.Common.{◌≡◌, ℕ, ◌<◌, ◌≤◌, Bool, true, false, eqb, ltb, ◌⊎◌, List, [], ◌∷◌, Option, Some, None}
+use Rattle.std.proofs.Common.{Result, Ok, Err, refl, sym, ap, subst, ◌∙◌, arith, inl, inr, lit<}
 use Rattle.std.specs.Prelude.{IsTrue}
 use Rattle.std.proofs.lemmas.Bool.{cases_lt, lt-ltb, le-ltb}
 use Rattle.std.proofs.lemmas.Bool.Decides.{eqb_tells}
@@ -43,27 +15,10 @@ use Rattle.edit_files.specs.Numbers.{IsNumber}
 use Rattle.edit_files.specs.Forms.{HasPointForm, HasPairForm, HasEditForm, IsEditLine, IsRadiusLine}
 use Rattle.edit_files.specs.Judging.{far, number, point, edit, edit_from, radius, radius_from}
 use Rattle.edit_files.proofs.Values.{number_some, number_none_not, number_of, of_number}
-use Rattle.edit_files.proofs.Decided.{
-  Decides,
-  point_sound,
-  point_complete,
-  point_field,
-  point_range,
-  point_only,
-  err_same,
-  ok_same,
-}
-use Rattle.edit_files.proofs.Pairs.{
-  from_ok,
-  from_err,
-  move_line,
-  pair_sound,
-  pair_complete,
-  pair_field,
-  pair_range,
-  pair_only,
-  refused_same,
-}
+use Rattle.edit_files.proofs.Decided.{Decides, point_sound, point_complete, point_field, point_range, point_only}
+use Rattle.edit_files.proofs.Decided.{err_same, ok_same}
+use Rattle.edit_files.proofs.Pairs.{from_ok, from_err, move_line, pair_sound, pair_complete, pair_field, pair_range}
+use Rattle.edit_files.proofs.Pairs.{pair_only, refused_same}
 
 -- ---- edits
 

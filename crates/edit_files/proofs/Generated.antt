@@ -1,58 +1,13 @@
 -- The lines of a generated file, one after another, and its laws.
-use Rattle.std.proofs.Common.{
-  ◌≡◌,
-  ◌≢◌,
-  ◌∙◌,
-  refl,
-  sym,
-  ap,
-  subst,
-  ℕ,
-  suc,
-  ◌+◌,
-  ◌-◌,
-  ◌*◌,
-  ◌/◌,
-  ◌%◌,
-  ◌<◌,
-  ◌≤◌,
-  Bool,
-  true,
-  false,
-  cond,
-  eqb,
-  List,
-  [],
-  ◌∷◌,
-  ◌++◌,
-  map,
-  get_or,
-  length,
-  arith,
-  eq-eqb,
-  inl,
-  inr,
-  Some,
-  lit<,
-  lit≤,
-  slice_index,
-  add-one,
-}
+use Rattle.std.proofs.Common.{◌≡◌, ◌≢◌, ◌∙◌, refl, sym, ap, subst, ℕ, suc, ◌+◌, ◌-◌, ◌*◌, ◌/◌, ◌%◌, ◌<◌, ◌≤◌, Bool}
+use Rattle.std.proofs.Common.{true, false, cond, eqb, List, [], ◌∷◌, ◌++◌, map, get_or, length, arith, eq-eqb, inl, inr}
+use Rattle.std.proofs.Common.{Some, lit<, lit≤, slice_index, add-one}
 use Rattle.std.specs.List.{range_with_len, AllByRecursion}
 use Rattle.std.proofs.lemmas.Bool.{both_ways, ne_eqb}
 use Rattle.std.proofs.lemmas.List.FromFn.{map-range_with_len_more, get_or-map-range_with_len, length-map-range_with_len}
 use Rattle.point_order.specs.Coordinates.{x_of, y_of, z_of, IsKey}
-use Rattle.point_order.specs.Orientation.{
-  x_from,
-  y_from,
-  z_from,
-  minor,
-  triple,
-  orientation,
-  normal_x,
-  normal_y,
-  normal_z,
-}
+use Rattle.point_order.specs.Orientation.{x_from, y_from, z_from, minor, triple, orientation, normal_x, normal_y}
+use Rattle.point_order.specs.Orientation.{normal_z}
 use Rattle.point_order.specs.Sets.{is_among, IsIn}
 use Rattle.point_order.specs.Solid.{is_solid}
 use Rattle.edit_history.specs.declared.history.Edit.{Edit}
@@ -66,21 +21,8 @@ use Rattle.edit_files.specs.Grammar.{up_to}
 use Rattle.edit_files.specs.declared.version.Version.TheVariants.{One}
 use Rattle.edit_files.specs.Writing.{IsEditOf, IsWithinLimits}
 use Rattle.edit_files.specs.Keys.{coordinate_count, key_of}
-use Rattle.edit_files.specs.Generator.{
-  next_state,
-  state_after,
-  draw,
-  draw_of,
-  drawn_point,
-  most_edits,
-  point_behind,
-  draws_before,
-  drawn_by,
-  corners,
-  back_to,
-  edit_line,
-  generated,
-}
+use Rattle.edit_files.specs.Generator.{next_state, state_after, draw, draw_of, drawn_point, most_edits, point_behind}
+use Rattle.edit_files.specs.Generator.{draws_before, drawn_by, corners, back_to, edit_line, generated}
 
 -- ---- draws
 
@@ -200,12 +142,6 @@ line_still start i = by (eqb (i % 4) 0)
     by : (b : Bool) → is_move (cond b (back_to (drawn_by start (i - 2))) (Add (drawn_by start i))) ≡ false
     by true = back (drawn_by start (i - 2)) (is_among (drawn_by start (i - 2)) corners)
     by false = refl
-
--- no edit of a generated file moves a point
-pub generated_still : (count start : ℕ) → All (λ e. is_move e ≡ false) (generated count start).edits
-generated_still count start = all_of_each (λ e. is_move e ≡ false) (map (edit_line start) (range_with_len 1 count))
-    (λ e i. let r = mapped_from (edit_line start) e (range_with_len 1 count) i in sym (ap is_move r.2)
-    ∙ line_still start r.0)
 
 -- so none of some lines is a move
 none_moves : (start p q : ℕ) (is : List ℕ) → IsIn (Move p q) (map (edit_line start) is) → ⊥

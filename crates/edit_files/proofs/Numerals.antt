@@ -1,27 +1,6 @@
 -- Numbers, points and edits as they are read.
-use Rattle.std.proofs.Common.{
-  ◌≡◌,
-  ℕ,
-  ◌+◌,
-  ◌*◌,
-  ◌-◌,
-  ◌<◌,
-  min,
-  true,
-  false,
-  cond,
-  ltb,
-  ◌&&◌,
-  ap,
-  List,
-  [],
-  ◌∷◌,
-  length,
-  Some,
-  None,
-  refl,
-  arith,
-}
+use Rattle.std.proofs.Common.{◌≡◌, ℕ, ◌+◌, ◌*◌, ◌-◌, ◌<◌, min, true, false, cond, ltb, ◌&&◌, ap, List, [], ◌∷◌, length}
+use Rattle.std.proofs.Common.{Some, None, refl, arith}
 use Rattle.std.specs.Char.{is_ascii_digit}
 use Rattle.std.specs.Str.Parse.{starts_with_minus}
 use Rattle.edit_files.specs.Numbers.{after_minus}

@@ -1,33 +1,6 @@
 -- Lines of two places, as a move has them.
-use Rattle.std.proofs.Common.{
-  ◌≡◌,
-  ℕ,
-  ◌+◌,
-  ◌-◌,
-  ◌<◌,
-  ◌≤◌,
-  ◌⊎◌,
-  List,
-  [],
-  ◌∷◌,
-  ◌++◌,
-  length,
-  take,
-  Option,
-  Some,
-  None,
-  Result,
-  Ok,
-  Err,
-  refl,
-  sym,
-  ap,
-  subst,
-  ◌∙◌,
-  arith,
-  inl,
-  inr,
-}
+use Rattle.std.proofs.Common.{◌≡◌, ℕ, ◌+◌, ◌-◌, ◌<◌, ◌≤◌, ◌⊎◌, List, [], ◌∷◌, ◌++◌, length, take, Option, Some, None}
+use Rattle.std.proofs.Common.{Result, Ok, Err, refl, sym, ap, subst, ◌∙◌, arith, inl, inr}
 use Rattle.std.specs.List.{join_with_byte}
 use Rattle.std.proofs.Math.Seq.{take-append_seam}
 use Rattle.std.proofs.lemmas.List.{length-append}
@@ -39,15 +12,8 @@ use Rattle.edit_files.specs.declared.fault.Why.TheVariants.{Section, Field, Rang
 use Rattle.edit_files.specs.Forms.{HasPointForm, HasPairForm, IsPairLine, three_spaced}
 use Rattle.edit_files.specs.Judging.{point, fields_of, halves, halves_of, worse, move_from, move_of, edit_from}
 use Rattle.edit_files.proofs.Points.{some_field}
-use Rattle.edit_files.proofs.Decided.{
-  four_fields,
-  from_four,
-  point_sound,
-  point_complete,
-  point_field,
-  point_range,
-  point_only,
-}
+use Rattle.edit_files.proofs.Decided.{four_fields, from_four, point_sound, point_complete, point_field, point_range}
+use Rattle.edit_files.proofs.Decided.{point_only}
 
 -- ---- two places
 

@@ -1,37 +1,6 @@
 -- The point of a line, from its fields.
-use Rattle.std.proofs.Common.{
-  ◌≡◌,
-  ◌≢◌,
-  ℕ,
-  suc,
-  ◌+◌,
-  ◌*◌,
-  ◌<◌,
-  ◌≤◌,
-  ltb,
-  length,
-  get_or,
-  drop,
-  arith,
-  Bor,
-  eq-eqb,
-  Bool,
-  true,
-  false,
-  cond,
-  eqb,
-  List,
-  [],
-  ◌∷◌,
-  Option,
-  Some,
-  None,
-  Ok,
-  Err,
-  refl,
-  ap,
-  ◌∙◌,
-}
+use Rattle.std.proofs.Common.{◌≡◌, ◌≢◌, ℕ, suc, ◌+◌, ◌*◌, ◌<◌, ◌≤◌, ltb, length, get_or, drop, arith, Bor, eq-eqb, Bool}
+use Rattle.std.proofs.Common.{true, false, cond, eqb, List, [], ◌∷◌, Option, Some, None, Ok, Err, refl, ap, ◌∙◌}
 use Rattle.std.specs.Prelude.{MatchOption, is_some}
 use Rattle.point_order.specs.Coordinates.{x_of, y_of, z_of, IsKey}
 use Rattle.std.proofs.lemmas.Bool.{ne_eqb, lt-ltb}
@@ -39,18 +8,8 @@ use Rattle.std.specs.List.{onto_first}
 use Rattle.edit_files.specs.declared.fault.Why.TheVariants.{Field}
 use Rattle.edit_files.specs.declared.version.Version.{Version}
 use Rattle.edit_files.specs.Versions.{row}
-use Rattle.edit_files.specs.Judging.{
-  number,
-  point,
-  point_at,
-  point_from,
-  point_from_fields,
-  fields_of,
-  halves,
-  move_of,
-  edit,
-  edit_at,
-}
+use Rattle.edit_files.specs.Judging.{number, point, point_at, point_from, point_from_fields, fields_of, halves, move_of}
+use Rattle.edit_files.specs.Judging.{edit, edit_at}
 
 -- a line with one field is no point line
 pub point_one : (line x : List ℕ) → fields_of line ≡ x ∷ [] → point line ≡ Err Field

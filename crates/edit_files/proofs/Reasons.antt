@@ -1,37 +1,6 @@
 -- Why a line that is not taken is bad.
-use Rattle.std.proofs.Common.{
-  ◌≡◌,
-  ℕ,
-  ◌+◌,
-  ◌≤◌,
-  Bool,
-  true,
-  false,
-  cond,
-  leb,
-  not,
-  ◌⊎◌,
-  List,
-  [],
-  ◌∷◌,
-  ◌++◌,
-  length,
-  drop,
-  Option,
-  Some,
-  None,
-  Result,
-  Ok,
-  Err,
-  refl,
-  sym,
-  ap,
-  subst,
-  ◌∙◌,
-  arith,
-  inl,
-  inr,
-}
+use Rattle.std.proofs.Common.{◌≡◌, ℕ, ◌+◌, ◌≤◌, Bool, true, false, cond, leb, not, ◌⊎◌, List, [], ◌∷◌, ◌++◌, length}
+use Rattle.std.proofs.Common.{drop, Option, Some, None, Result, Ok, Err, refl, sym, ap, subst, ◌∙◌, arith, inl, inr}
 use Rattle.std.specs.Prelude.{codes}
 use Rattle.std.specs.List.{count_by}
 use Rattle.std.specs.Str.{bytes_eq}
@@ -52,45 +21,14 @@ use Rattle.edit_files.specs.Grammar.{Limits, query_limit, query_section, radius_
 use Rattle.edit_files.specs.Versions.{row, titled}
 use Rattle.edit_files.specs.declared.version.Version.{Version}
 use Rattle.edit_files.specs.declared.version.Version.TheVariants.{One, Two, Three, Four}
-use Rattle.edit_files.specs.Faults.{
-  is_word,
-  lines_after,
-  told_or_first,
-  version_in,
-  IsForWords,
-  HasForm,
-  IsReason,
-  has_line,
-  is_list_full,
-}
-use Rattle.edit_files.specs.Judging.{
-  State,
-  step_at,
-  with_title,
-  with_edit,
-  with_radius,
-  with_query,
-  word_behind,
-  place_behind,
-  point,
-  edit,
-  radius,
-  after_line,
-  taking_point,
-}
+use Rattle.edit_files.specs.Faults.{is_word, lines_after, told_or_first, version_in, IsForWords, HasForm, IsReason}
+use Rattle.edit_files.specs.Faults.{has_line, is_list_full}
+use Rattle.edit_files.specs.Judging.{State, step_at, with_title, with_edit, with_radius, with_query, word_behind}
+use Rattle.edit_files.specs.Judging.{place_behind, point, edit, radius, after_line, taking_point}
 use Rattle.edit_files.proofs.Decided.{err_same, points_decided}
 use Rattle.edit_files.proofs.DecidedEdits.{edits_decided, radii_decided}
-use Rattle.edit_files.proofs.Words.{
-  HaveNoWord,
-  IsNone,
-  said_no_word,
-  has_none,
-  count_all,
-  lines_after_at,
-  point_no_word,
-  edit_no_word,
-  radius_no_word,
-}
+use Rattle.edit_files.proofs.Words.{HaveNoWord, IsNone, said_no_word, has_none, count_all, lines_after_at}
+use Rattle.edit_files.proofs.Words.{point_no_word, edit_no_word, radius_no_word}
 use Rattle.edit_files.proofs.Completes.{at, of_version, titled_title}
 use Rattle.edit_files.proofs.Fronts.{Leads, to_points, to_edits, to_radii}
 

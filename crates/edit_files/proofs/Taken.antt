@@ -1,37 +1,7 @@
 -- A line that is taken leads on.
-use Rattle.std.proofs.Common.{
-  ◌≡◌,
-  ℕ,
-  ◌+◌,
-  ◌<◌,
-  Bool,
-  true,
-  false,
-  cond,
-  leb,
-  ◌≤◌,
-  ◌⊎◌,
-  List,
-  [],
-  ◌∷◌,
-  ◌++◌,
-  length,
-  Option,
-  Some,
-  None,
-  Result,
-  Ok,
-  Err,
-  refl,
-  sym,
-  ap,
-  subst,
-  ◌∙◌,
-  arith,
-  inl,
-  inr,
-  append_assoc,
-}
+use Rattle.std.proofs.Common.{◌≡◌, ℕ, ◌+◌, ◌<◌, Bool, true, false, cond, leb, ◌≤◌, ◌⊎◌, List, [], ◌∷◌, ◌++◌, length}
+use Rattle.std.proofs.Common.{Option, Some, None, Result, Ok, Err, refl, sym, ap, subst, ◌∙◌, arith, inl, inr}
+use Rattle.std.proofs.Common.{append_assoc}
 use Rattle.std.specs.Prelude.{codes}
 use Rattle.std.specs.Str.{bytes_eq}
 use Rattle.std.proofs.lemmas.Bool.{both_ways, leb-false, leb-true}
@@ -51,22 +21,8 @@ use Rattle.edit_files.specs.Versions.{row, titled}
 use Rattle.edit_files.specs.declared.version.Version.{Version}
 use Rattle.edit_files.specs.declared.version.Version.TheVariants.{One, Two, Three, Four}
 use Rattle.edit_files.specs.Faults.{is_word}
-use Rattle.edit_files.specs.Judging.{
-  State,
-  step_at,
-  with_title,
-  with_edit,
-  with_radius,
-  with_query,
-  word_behind,
-  place_behind,
-  point,
-  edit,
-  radius,
-  after_line,
-  list_line,
-  taking_point,
-}
+use Rattle.edit_files.specs.Judging.{State, step_at, with_title, with_edit, with_radius, with_query, word_behind}
+use Rattle.edit_files.specs.Judging.{place_behind, point, edit, radius, after_line, list_line, taking_point}
 use Rattle.edit_files.proofs.Decided.{points_decided}
 use Rattle.edit_files.proofs.DecidedEdits.{edits_decided, radii_decided}
 use Rattle.edit_files.proofs.Completes.{at, of_version, more_points, more_edits, more_radii, more_queries}

@@ -1,23 +1,6 @@
 -- Lines with no line feed are the lines of the text that is made of them; those of a file have none.
-use Rattle.std.proofs.Common.{
-  ◌≡◌,
-  ℕ,
-  Bool,
-  true,
-  false,
-  cond,
-  eqb,
-  List,
-  [],
-  ◌∷◌,
-  ◌++◌,
-  refl,
-  sym,
-  ap,
-  subst,
-  ◌∙◌,
-  arith,
-}
+use Rattle.std.proofs.Common.{◌≡◌, ℕ, Bool, true, false, cond, eqb, List, [], ◌∷◌, ◌++◌, refl, sym, ap, subst, ◌∙◌}
+use Rattle.std.proofs.Common.{arith}
 use Rattle.std.specs.Prelude.{codes}
 use Rattle.std.specs.List.{AllByRecursion, AllZip}
 use Rattle.edit_history.specs.declared.history.Edit.{Edit}
@@ -52,7 +35,7 @@ lines_of_text [] h = refl
 lines_of_text (l ∷ ls) h = line_first l (text_of ls) h.0 ∙ ap (λ (ms : List (List ℕ)). l ∷ ms) (lines_of_text ls h.1)
 
 -- a point line has none
-point_no_feed : (line : List ℕ) (p : ℕ) → IsPointLine line p → HasNo 10 line
+pub point_no_feed : (line : List ℕ) (p : ℕ) → IsPointLine line p → HasNo 10 line
 point_no_feed line p s =
     let x : HasNo 10 s.x = number_without 10 s.x (omega arith) s.x_value.number in
     let y : HasNo 10 s.y = number_without 10 s.y (omega arith) s.y_value.number in

@@ -1,34 +1,6 @@
 -- A number that is read is a number, and its value is what was read.
-use Rattle.std.proofs.Common.{
-  ◌≡◌,
-  ℕ,
-  ◌+◌,
-  ◌*◌,
-  ◌-◌,
-  ◌<◌,
-  ◌≤◌,
-  min,
-  Bool,
-  true,
-  false,
-  cond,
-  ltb,
-  leb,
-  ◌&&◌,
-  List,
-  [],
-  ◌∷◌,
-  Option,
-  Some,
-  None,
-  refl,
-  sym,
-  ap,
-  ◌∙◌,
-  arith,
-  inl,
-  inr,
-}
+use Rattle.std.proofs.Common.{◌≡◌, ℕ, ◌+◌, ◌*◌, ◌-◌, ◌<◌, ◌≤◌, min, Bool, true, false, cond, ltb, leb, ◌&&◌, List, []}
+use Rattle.std.proofs.Common.{◌∷◌, Option, Some, None, refl, sym, ap, ◌∙◌, arith, inl, inr}
 use Rattle.std.specs.Char.{is_ascii_digit, digit_value}
 use Rattle.std.specs.Str.Parse.{AllDigits, IsNumeral, digits_value, digits_value_after, starts_with_minus}
 use Rattle.std.proofs.lemmas.Bool.{cases_lt, cases_Bool, and_parts, and_from, leb-true, le-leb, lt-ltb, le-ltb}
@@ -36,14 +8,8 @@ use Rattle.std.proofs.lemmas.Str.Parse.{digit_from_value}
 use Rattle.list_laws.proofs.Cited.{one_value}
 use Rattle.edit_files.specs.Numbers.{after_minus, IsNumber, IsNumberOf}
 use Rattle.edit_files.specs.Judging.{far, digits, digits_from, signed, number}
-use Rattle.edit_files.proofs.Numerals.{
-  digits_from_nil,
-  digits_from_digit,
-  digits_from_other,
-  digits_is,
-  digits_nil,
-  number_is,
-}
+use Rattle.edit_files.proofs.Numerals.{digits_from_nil, digits_from_digit, digits_from_other, digits_is, digits_nil}
+use Rattle.edit_files.proofs.Numerals.{number_is}
 
 -- ---- digits
 

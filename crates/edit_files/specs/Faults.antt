@@ -1,30 +1,6 @@
 -- The one fault of a text that is of no file.
-use Rattle.std.specs.Prelude.{
-  ◌≡◌,
-  ℕ,
-  Bool,
-  true,
-  false,
-  List,
-  [],
-  ◌∷◌,
-  ◌++◌,
-  ◌+◌,
-  ◌<◌,
-  ◌⊎◌,
-  length,
-  codes,
-  drop,
-  not,
-  ◌||◌,
-  ◌&&◌,
-  nat_le,
-  IsTrue,
-  Option,
-  Some,
-  None,
-  if◌then◌else◌,
-}
+use Rattle.std.specs.Prelude.{◌≡◌, ℕ, Bool, true, false, List, [], ◌∷◌, ◌++◌, ◌+◌, ◌<◌, ◌⊎◌, length, codes, drop, not}
+use Rattle.std.specs.Prelude.{◌||◌, ◌&&◌, nat_le, IsTrue, Option, Some, None, if◌then◌else◌}
 use Rattle.std.specs.List.{list_any, count_by}
 use Rattle.std.specs.Str.{bytes_eq}
 use Rattle.edit_files.specs.declared.fault.Why.{Why}

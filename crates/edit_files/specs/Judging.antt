@@ -1,31 +1,6 @@
 -- Judging a text line by line, as the reader does. That this decides the grammar and finds its fault is proved.
-use Rattle.std.specs.Prelude.{
-  ◌≡◌,
-  ℕ,
-  Bool,
-  List,
-  [],
-  ◌∷◌,
-  ◌++◌,
-  ◌+◌,
-  ◌*◌,
-  ◌-◌,
-  ◌^◌,
-  ◌&&◌,
-  length,
-  codes,
-  min,
-  nat_lt,
-  nat_le,
-  ◌==◌,
-  if◌then◌else◌,
-  Option,
-  Some,
-  None,
-  Result,
-  Ok,
-  Err,
-}
+use Rattle.std.specs.Prelude.{◌≡◌, ℕ, Bool, List, [], ◌∷◌, ◌++◌, ◌+◌, ◌*◌, ◌-◌, ◌^◌, ◌&&◌, length, codes, min, nat_lt}
+use Rattle.std.specs.Prelude.{nat_le, ◌==◌, if◌then◌else◌, Option, Some, None, Result, Ok, Err}
 use Rattle.std.specs.List.{join_with_byte, slice_split}
 use Rattle.std.specs.Char.{is_ascii_digit}
 use Rattle.std.specs.Str.{bytes_eq}

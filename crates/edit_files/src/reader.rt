@@ -5,23 +5,8 @@ ghost use Rattle.std.specs.Str.{bytes_eq};
 ghost use Rattle.edit_files.specs.Content.{Content, content};
 ghost use Rattle.edit_files.specs.Grammar.{IsFile, line_limit, up_to};
 ghost use Rattle.edit_files.specs.Faults.{IsFault, is_word};
-ghost use Rattle.edit_files.specs.Judging.{
-  State,
-  state,
-  step_at,
-  move,
-  judged,
-  ended,
-  start,
-  refused_at,
-  Gives,
-  Steps,
-  with_title,
-  word_behind,
-  place_behind,
-  after_line,
-  list_line,
-};
+ghost use Rattle.edit_files.specs.Judging.{State, state, step_at, move, judged, ended, start, refused_at, Gives, Steps};
+ghost use Rattle.edit_files.specs.Judging.{with_title, word_behind, place_behind, after_line, list_line};
 ghost use Rattle.edit_files.specs.Versions.{titled};
 ghost use Rattle.edit_files.specs.declared.version.Version.{Version};
 ghost use Rattle.edit_files.specs.declared.version.Version.TheVariants.{Four};

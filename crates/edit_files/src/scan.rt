@@ -1,20 +1,7 @@
 //! Lines, fields and numbers of a text.
 
-ghost use Rattle.std.specs.Prelude.{
-  ◌≡◌,
-  ◌≢◌,
-  ◌<◌,
-  ◌+◌,
-  ℕ,
-  ◌∷◌,
-  [],
-  length,
-  slice_index,
-  MatchOption,
-  IfSome,
-  ◌==◌,
-  ◌≤◌,
-};
+ghost use Rattle.std.specs.Prelude.{◌≡◌, ◌≢◌, ◌<◌, ◌+◌, ℕ, ◌∷◌, [], length, slice_index, MatchOption, IfSome, ◌==◌};
+ghost use Rattle.std.specs.Prelude.{◌≤◌};
 ghost use Rattle.edit_files.specs.Lines.{lines_of};
 ghost use Rattle.std.specs.Str.Parse.{starts_with_minus};
 ghost use Rattle.edit_files.specs.Numbers.{after_minus};

@@ -1,26 +1,6 @@
 -- The search for three points that are independent with one that is given.
-use Rattle.std.specs.Prelude.{
-  ◌≡◌,
-  ℕ,
-  suc,
-  ◌+◌,
-  ◌-◌,
-  true,
-  false,
-  not,
-  ◌==◌,
-  ◌&&◌,
-  List,
-  ◌∷◌,
-  length,
-  take,
-  drop,
-  slice_index,
-  Option,
-  None,
-  Some,
-  is_some,
-}
+use Rattle.std.specs.Prelude.{◌≡◌, ℕ, suc, ◌+◌, ◌-◌, true, false, not, ◌==◌, ◌&&◌, List, ◌∷◌, length, take, drop}
+use Rattle.std.specs.Prelude.{slice_index, Option, None, Some, is_some}
 use Rattle.std.specs.List.{position_from}
 use Rattle.std.specs.Option.{option_map}
 use Rattle.std.proofs.Common.{refl, sym, ◌∙◌, ap, subst, arith}

@@ -1,24 +1,6 @@
 -- The history of one thread is legal, and what it leaves.
-use Rattle.std.specs.Prelude.{
-  ◌≡◌,
-  ℕ,
-  ◌+◌,
-  Bool,
-  true,
-  false,
-  cond,
-  not,
-  List,
-  [],
-  ◌∷◌,
-  ◌++◌,
-  ◌⊎◌,
-  map,
-  Option,
-  None,
-  Some,
-  IfSome,
-}
+use Rattle.std.specs.Prelude.{◌≡◌, ℕ, ◌+◌, Bool, true, false, cond, not, List, [], ◌∷◌, ◌++◌, ◌⊎◌, map, Option, None}
+use Rattle.std.specs.Prelude.{Some, IfSome}
 use Rattle.std.specs.List.{enumerate_from, filter}
 use Rattle.std.proofs.Common.{refl, sym, ◌∙◌, ap, subst, inl, inr, append-nil}
 use Rattle.list_laws.proofs.Cited.{among_from, filtered_true, from_append, in_filtered, in_left, in_right}
@@ -28,15 +10,8 @@ use Rattle.edit_history.specs.declared.history.Edit.{Edit}
 use Rattle.edit_history.specs.declared.history.Edit.TheVariants.{Add, Take, Move}
 use Rattle.edit_history.specs.declared.history.Entry.{Entry}
 use Rattle.edit_history.specs.declared.history.Reply.{Reply}
-use Rattle.edit_history.specs.declared.history.Reply.TheVariants.{
-  Inserted,
-  Duplicate,
-  Removed,
-  Missing,
-  Flat,
-  Moved,
-  Occupied,
-}
+use Rattle.edit_history.specs.declared.history.Reply.TheVariants.{Inserted, Duplicate, Removed, Missing, Flat, Moved}
+use Rattle.edit_history.specs.declared.history.Reply.TheVariants.{Occupied}
 use Rattle.edit_history.specs.Edits.{point_of, reply_to, arrived, changed, after}
 use Rattle.edit_history.specs.Histories.{replay_from, replay, entries_from, IsLegalFrom}
 use Rattle.edit_history.specs.Opening.{opening_four, FourPlaces}
@@ -74,7 +49,7 @@ ascending_changed s p Moved a = ascending_without p s a
 ascending_changed s p Occupied a = a
 
 -- and when the new place of a move is put in
-ascending_arrived : (s : List ℕ) (edit : Edit) (r : Reply) → IsAscending s → IsAscending (arrived s edit r)
+pub ascending_arrived : (s : List ℕ) (edit : Edit) (r : Reply) → IsAscending s → IsAscending (arrived s edit r)
 ascending_arrived s (Add p) r h = h
 ascending_arrived s (Take p) r h = h
 ascending_arrived s (Move a b) Moved h = ascending_with b s h

@@ -1,51 +1,13 @@
 -- The history of one thread keeps the file.
-use Rattle.std.specs.Prelude.{
-  ◌≡◌,
-  ℕ,
-  suc,
-  ◌+◌,
-  ◌-◌,
-  ◌<◌,
-  ◌≤◌,
-  Bool,
-  true,
-  false,
-  not,
-  ◌==◌,
-  ◌||◌,
-  List,
-  [],
-  ◌∷◌,
-  ◌++◌,
-  map,
-  length,
-  take,
-  slice_index,
-  Option,
-  None,
-  Some,
-  IfSome,
-  IsPermutation,
-}
+use Rattle.std.specs.Prelude.{◌≡◌, ℕ, suc, ◌+◌, ◌-◌, ◌<◌, ◌≤◌, Bool, true, false, not, ◌==◌, ◌||◌, List, [], ◌∷◌, ◌++◌}
+use Rattle.std.specs.Prelude.{map, length, take, slice_index, Option, None, Some, IfSome, IsPermutation}
 use Rattle.std.specs.List.{enumerate_from, filter}
 use Rattle.std.proofs.Common.{refl, sym, ◌∙◌, ap, subst, inl, inr, arith, get_or, length-append}
 use Rattle.std.proofs.lemmas.List.{take-map, take-append-le, length-map, take_all}
 use Rattle.std.proofs.lemmas.List.Sorted.{IsPermutation-filter_both}
 use Rattle.std.proofs.lemmas.Bool.{cases_order}
-use Rattle.list_laws.proofs.Cited.{
-  EachLater,
-  among_from,
-  among_true,
-  at_in,
-  in_filtered,
-  later_append,
-  later_filter,
-  later_pairs,
-  not_from,
-  numbered_from,
-  passes,
-  same_from,
-}
+use Rattle.list_laws.proofs.Cited.{EachLater, among_from, among_true, at_in, in_filtered, later_append, later_filter}
+use Rattle.list_laws.proofs.Cited.{later_pairs, not_from, numbered_from, passes, same_from}
 use Rattle.point_order.specs.Sets.{IsIn, IsAscending, is_among}
 use Rattle.edit_history.specs.declared.history.Edit.{Edit}
 use Rattle.edit_history.specs.declared.history.Edit.TheVariants.{Add}

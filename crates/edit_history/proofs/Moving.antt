@@ -100,12 +100,6 @@ arrived_still s (Add p) r e = refl
 arrived_still s (Take p) r e = refl
 arrived_still s (Move a b) r e = absurd cc
 
--- and its point is all
-pub still_keys : (edit : Edit) → is_move edit ≡ false → IsKey (point_of edit) → HasKeys edit
-still_keys (Add p) e k = k
-still_keys (Take p) e k = k
-still_keys (Move a b) e k = absurd cc
-
 -- the set then
 pub after_moved : (a b : ℕ) (s : List ℕ) → reply_to s (Move a b) ≡ Moved → after s (Move a b) ≡ moved_to a b s
 after_moved a b s e = ap (λ (r : Reply). changed (arrived s (Move a b) r) a r) e

@@ -5,13 +5,8 @@ use Rattle.std.specs.List.Sorted.{IsPermutation, IsNonDecreasing, IsNonDecreasin
 use Rattle.std.proofs.Common.{sym, ◌∙◌, ap, arith, get_or, append-nil}
 use Rattle.std.proofs.lemmas.Grind.{flat_map-append}
 use Rattle.std.proofs.lemmas.List.{length-map, get_or-map, take_more}
-use Rattle.std.proofs.lemmas.List.Sorted.{
-  IsPermutation-map,
-  IsPermutation-sym,
-  IsPermutation-trans,
-  list_any-IsPermutation,
-  length_permutation,
-}
+use Rattle.std.proofs.lemmas.List.Sorted.{IsPermutation-map, IsPermutation-sym, IsPermutation-trans}
+use Rattle.std.proofs.lemmas.List.Sorted.{list_any-IsPermutation, length_permutation}
 use Rattle.std.proofs.lemmas.Map.Keys.{IsDistinct-IsPermutation}
 use Rattle.std.proofs.lemmas.Bool.Decides.{nat_tests}
 use Rattle.list_laws.proofs.Cited.{among_from, among_true, distinct_by_test, range_ascending, rising, same_members}

@@ -1,38 +1,7 @@
 -- The search for four points, as a whole.
-use Rattle.std.specs.Prelude.{
-  ◌≡◌,
-  ◌≢◌,
-  ℕ,
-  ◌+◌,
-  ◌-◌,
-  ◌<◌,
-  Bool,
-  true,
-  false,
-  not,
-  ◌==◌,
-  ◌&&◌,
-  List,
-  [],
-  ◌∷◌,
-  length,
-  take,
-  drop,
-  slice_index_or,
-  Option,
-  None,
-  Some,
-  slice_index,
-  MatchOption,
-  IfSome,
-  is_some,
-  All,
-  Result,
-  Ok,
-  Err,
-  IfOk,
-  IsErr,
-}
+use Rattle.std.specs.Prelude.{◌≡◌, ◌≢◌, ℕ, ◌+◌, ◌-◌, ◌<◌, Bool, true, false, not, ◌==◌, ◌&&◌, List, [], ◌∷◌, length}
+use Rattle.std.specs.Prelude.{take, drop, slice_index_or, Option, None, Some, slice_index, MatchOption, IfSome, is_some}
+use Rattle.std.specs.Prelude.{All, Result, Ok, Err, IfOk, IsErr}
 use Rattle.std.specs.List.{position_from}
 use Rattle.std.specs.Option.{option_and_then, option_map}
 use Rattle.std.proofs.Common.{refl, sym, ◌∙◌, ap, subst, arith}
@@ -48,17 +17,8 @@ use Rattle.std.specs.Result.{result_ok}
 use Rattle.edit_history.specs.OneThread.{places}
 use Rattle.edit_history.specs.Laws.{AreIndependent, OpeningLaw, FourLaw}
 use Rattle.edit_history.proofs.Places.{IsFirst, IsNowhere, next_is, position_shift}
-use Rattle.edit_history.proofs.OpeningLaws.{
-  is_other,
-  empty_flat,
-  one_before,
-  one_flat,
-  line_before,
-  line_flat,
-  plane_before,
-  plane_flat,
-  four_solid,
-}
+use Rattle.edit_history.proofs.OpeningLaws.{is_other, empty_flat, one_before, one_flat, line_before, line_flat}
+use Rattle.edit_history.proofs.OpeningLaws.{plane_before, plane_flat, four_solid}
 
 -- ---- the stages of the search
 

@@ -8,20 +8,8 @@ use Rattle.whole_ring.proofs.Cited.{ring, ring_from, within_fits}
 use Rattle.whole_ring.specs.Poly.{Expr, Given, var, lit, ◌⊕◌, ◌⊖◌, ◌⊗◌, minus, given, nothing}
 use Rattle.list_laws.proofs.Cited.{other_factor}
 use Rattle.point_order.specs.Coordinates.{x_of, y_of, z_of, IsKey}
-use Rattle.point_order.specs.Orientation.{
-  is_zero,
-  is_flat,
-  is_collinear,
-  x_from,
-  y_from,
-  z_from,
-  minor,
-  triple,
-  orientation,
-  normal_x,
-  normal_y,
-  normal_z,
-}
+use Rattle.point_order.specs.Orientation.{is_zero, is_flat, is_collinear, x_from, y_from, z_from, minor, triple}
+use Rattle.point_order.specs.Orientation.{orientation, normal_x, normal_y, normal_z}
 use Rattle.point_order.proofs.Cited.{key_is, not_zero, zero_from, zero_true}
 
 -- ---- the words of orientation, written: point i of a list has the variables 3i, 3i + 1 and 3i + 2

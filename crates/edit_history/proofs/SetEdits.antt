@@ -1,31 +1,6 @@
 -- Edits of an ascending list, by place.
-use Rattle.std.specs.Prelude.{
-  ◌≡◌,
-  ℕ,
-  zero,
-  suc,
-  ◌<◌,
-  ◌≤◌,
-  Bool,
-  true,
-  false,
-  cond,
-  not,
-  ◌==◌,
-  List,
-  [],
-  ◌∷◌,
-  ◌⊎◌,
-  length,
-  slice_index,
-  Result,
-  Ok,
-  Err,
-  MatchResult,
-  IfOk,
-  IfErr,
-  is_ok,
-}
+use Rattle.std.specs.Prelude.{◌≡◌, ℕ, zero, suc, ◌<◌, ◌≤◌, Bool, true, false, cond, not, ◌==◌, List, [], ◌∷◌, ◌⊎◌}
+use Rattle.std.specs.Prelude.{length, slice_index, Result, Ok, Err, MatchResult, IfOk, IfErr, is_ok}
 use Rattle.std.specs.List.{insert, remove}
 use Rattle.std.proofs.Common.{refl, sym, ◌∙◌, ap, subst, inl, inr, arith}
 use Rattle.std.proofs.lemmas.Bool.Decides.{nat_tests}

@@ -1,16 +1,7 @@
 //! Laws of the opening four and of histories. Each function does nothing, and its contract is a law.
 
-ghost use Rattle.edit_history.specs.Laws.{
-  OpeningLaw,
-  FourLaw,
-  SetLaw,
-  LeavesSet,
-  MoreLeaves,
-  MoreIsLegal,
-  LegalLaw,
-  KeepsLaw,
-  ReplayLaw,
-};
+ghost use Rattle.edit_history.specs.Laws.{OpeningLaw, FourLaw, SetLaw, LeavesSet, MoreLeaves, MoreIsLegal, LegalLaw};
+ghost use Rattle.edit_history.specs.Laws.{KeepsLaw, ReplayLaw};
 
 /// The points of a list have an opening four exactly where they are solid, and the four are independent points of the
 /// list, each at the first place of its point.

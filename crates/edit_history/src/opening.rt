@@ -1,35 +1,12 @@
 //! The opening four: the points that a mesh begins with.
 
-ghost use Rattle.std.specs.Prelude.{
-  ◌≡◌,
-  ◌∷◌,
-  true,
-  ◌↔◌,
-  ◌+◌,
-  ◌<◌,
-  Bool,
-  false,
-  not,
-  ◌==◌,
-  ◌&&◌,
-  Option,
-  None,
-  Some,
-  length,
-  slice_index,
-  is_some,
-  IfOk,
-  IfSome,
-  IsErr,
-};
+ghost use Rattle.std.specs.Prelude.{◌≡◌, ◌∷◌, true, ◌↔◌, ◌+◌, ◌<◌, Bool, false, not, ◌==◌, ◌&&◌, Option, None, Some};
+ghost use Rattle.std.specs.Prelude.{length, slice_index, is_some, IfOk, IfSome, IsErr};
 ghost use Rattle.std.specs.Option.{option_map};
 ghost use Rattle.std.specs.List.{position_from};
 ghost use Rattle.point_order.specs.Coordinates.{IsKey};
-ghost use Rattle.point_order.specs.Orientation.{
-  is_flat as is_flat_of,
-  is_collinear as is_collinear_of,
-  is_zero as is_zero_of,
-};
+ghost use Rattle.point_order.specs.Orientation.{is_flat as is_flat_of, is_collinear as is_collinear_of};
+ghost use Rattle.point_order.specs.Orientation.{is_zero as is_zero_of};
 ghost use Rattle.point_order.specs.Solid.{is_solid};
 ghost use Rattle.edit_history.specs.Opening.{opening_four};
 ghost use Rattle.edit_history.specs.OneThread.{places};

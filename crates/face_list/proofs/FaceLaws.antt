@@ -6,20 +6,8 @@ use Rattle.std.specs.Ordering.{nat_cmp}
 use Rattle.std.specs.Cmp.Lexicographic.{slice_cmp}
 use Rattle.std.specs.declared.cmp.Ordering.TheVariants.{Less, Equal, Greater}
 use Rattle.std.proofs.lemmas.Cmp.{nat_cmp_total, nat_list_cmp_total}
-use Rattle.list_laws.proofs.Cited.{
-  ascending_sorted,
-  filtered_from,
-  fold_comes,
-  from_append,
-  in_fold,
-  in_left,
-  in_right,
-  mapped_from,
-  ordered,
-  same_list,
-  same_members,
-  sorted_fold,
-}
+use Rattle.list_laws.proofs.Cited.{ascending_sorted, filtered_from, fold_comes, from_append, in_fold, in_left, in_right}
+use Rattle.list_laws.proofs.Cited.{mapped_from, ordered, same_list, same_members, sorted_fold}
 use Rattle.point_order.specs.declared.cell.Cell.{Cell}
 use Rattle.point_order.specs.declared.cell.Cell.TheVariants.{Full, Open}
 use Rattle.point_order.specs.Sets.{IsIn}
@@ -27,15 +15,8 @@ use Rattle.point_order.specs.Complex.{complex, is_full, is_open}
 use Rattle.point_order.specs.Subsets.{subsets}
 use Rattle.del_laws.proofs.Cited.{listed_every_point, not_both_kinds, part_inside}
 use Rattle.face_list.specs.Faces.{full_cells, points_in}
-use Rattle.face_list.specs.Laws.{
-  PointsInOrder,
-  PointIsListed,
-  ListedIsPoint,
-  PartsInOrder,
-  PartIsListed,
-  ListedIsPart,
-  PointsOfComplex,
-}
+use Rattle.face_list.specs.Laws.{PointsInOrder, PointIsListed, ListedIsPoint, PartsInOrder, PartIsListed, ListedIsPart}
+use Rattle.face_list.specs.Laws.{PointsOfComplex}
 
 -- ---- equal elements
 

@@ -1,33 +1,6 @@
 -- The lists of faces: what is gathered under the parts of cells are the faces, each with its cells.
-use Rattle.std.proofs.Common.{
-  ◌≡◌,
-  refl,
-  sym,
-  ap,
-  subst,
-  ◌∙◌,
-  ℕ,
-  zero,
-  suc,
-  ◌+◌,
-  ◌<◌,
-  inl,
-  inr,
-  Bool,
-  true,
-  false,
-  cond,
-  List,
-  [],
-  ◌∷◌,
-  ◌++◌,
-  map,
-  take,
-  length,
-  get_or,
-  arith,
-  append_assoc,
-}
+use Rattle.std.proofs.Common.{◌≡◌, refl, sym, ap, subst, ◌∙◌, ℕ, zero, suc, ◌+◌, ◌<◌, inl, inr, Bool, true, false, cond}
+use Rattle.std.proofs.Common.{List, [], ◌∷◌, ◌++◌, map, take, length, get_or, arith, append_assoc}
 use Rattle.std.specs.List.{filter, list_all}
 use Rattle.std.specs.List.Sorted.{IsStrictlySortedBy}
 use Rattle.std.specs.Cmp.{IsTotalOrder}
@@ -38,22 +11,8 @@ use Rattle.std.specs.declared.cmp.Ordering.TheVariants.{Less}
 use Rattle.std.proofs.lemmas.Cmp.{nat_cmp_total, nat_list_cmp_total}
 use Rattle.std.proofs.lemmas.Map.Lookups.{CmpEqualImpliesEq, exact_unsigned, exact_bytes}
 use Rattle.std.proofs.lemmas.List.{map-append, take_more}
-use Rattle.list_laws.proofs.Cited.{
-  all_by,
-  all_from,
-  all_true,
-  among_from,
-  among_true,
-  at_in,
-  cmp_less,
-  contains_in,
-  from_append,
-  in_left,
-  in_right,
-  mapped_from,
-  mapped_true,
-  one_order,
-}
+use Rattle.list_laws.proofs.Cited.{all_by, all_from, all_true, among_from, among_true, at_in, cmp_less, contains_in}
+use Rattle.list_laws.proofs.Cited.{from_append, in_left, in_right, mapped_from, mapped_true, one_order}
 use Rattle.point_order.specs.declared.cell.Cell.{Cell}
 use Rattle.point_order.specs.declared.cell.Cell.TheVariants.{Full, Open}
 use Rattle.point_order.specs.Facets.{points_of}
@@ -64,14 +23,8 @@ use Rattle.face_list.specs.declared.table.Table.{Table}
 use Rattle.face_list.specs.Faces.{points_in, parts_in, points_with_cells, with_cells_around}
 use Rattle.face_list.specs.Gather.{numbers_of, items_from, AreAscending, AreItems, is_a_full_cell, GathersItems}
 use Rattle.face_list.specs.Tables.{cell_at, paired, table_seen, cells_numbered}
-use Rattle.face_list.proofs.FaceLaws.{
-  points_in_order,
-  point_is_listed,
-  listed_is_point,
-  parts_in_order,
-  part_is_listed,
-  listed_is_part,
-}
+use Rattle.face_list.proofs.FaceLaws.{points_in_order, point_is_listed, listed_is_point, parts_in_order, part_is_listed}
+use Rattle.face_list.proofs.FaceLaws.{listed_is_part}
 use Rattle.face_list.proofs.Gathering.{numbers_rise, number_from, number_true, full_from, full_true}
 
 -- ---- cells by their numbers

@@ -1,30 +1,6 @@
 -- Laws of tables that are gathered point by point.
-use Rattle.std.proofs.Common.{
-  ◌≡◌,
-  refl,
-  sym,
-  ap,
-  subst,
-  ◌∙◌,
-  ℕ,
-  ◌+◌,
-  ◌<◌,
-  ◌≤◌,
-  ◌⊎◌,
-  inl,
-  inr,
-  true,
-  false,
-  List,
-  [],
-  ◌∷◌,
-  ◌++◌,
-  map,
-  take,
-  length,
-  get_or,
-  arith,
-}
+use Rattle.std.proofs.Common.{◌≡◌, refl, sym, ap, subst, ◌∙◌, ℕ, ◌+◌, ◌<◌, ◌≤◌, ◌⊎◌, inl, inr, true, false, List, []}
+use Rattle.std.proofs.Common.{◌∷◌, ◌++◌, map, take, length, get_or, arith}
 use Rattle.std.specs.Prelude.{◌↔◌}
 use Rattle.std.specs.List.{filter, list_any}
 use Rattle.std.specs.List.Sorted.{IsStrictlySortedBy}
@@ -37,22 +13,8 @@ use Rattle.std.proofs.lemmas.List.{length-append, length-map, map-append, take_m
 use Rattle.std.proofs.lemmas.List.Elements.{filter-append}
 use Rattle.std.proofs.lemmas.Map.Keys.{Less-from_sorted}
 use Rattle.list_laws.specs.Lists.{AreDistinct}
-use Rattle.list_laws.proofs.Cited.{
-  any_from,
-  any_true,
-  at_most,
-  each_by,
-  from_append,
-  in_left,
-  in_right,
-  is_equal,
-  itself,
-  level,
-  ordered,
-  sorted_append,
-  sorted_none,
-  true_or_false,
-}
+use Rattle.list_laws.proofs.Cited.{any_from, any_true, at_most, each_by, from_append, in_left, in_right, is_equal}
+use Rattle.list_laws.proofs.Cited.{itself, level, ordered, sorted_append, sorted_none, true_or_false}
 use Rattle.point_order.specs.declared.cell.Cell.{Cell}
 use Rattle.point_order.specs.Sets.{IsIn}
 use Rattle.face_list.specs.declared.around.Gathering.{Gathering}

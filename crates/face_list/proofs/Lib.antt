@@ -4,7 +4,6 @@ pub mod Stretches
 pub mod Gathering
 pub mod Putting
 pub mod Growing
-pub mod OnePart
 pub mod FaceLists
 pub mod FaceLaws
 pub mod FullCells

@@ -1,32 +1,7 @@
 -- Laws of the loops that put numbers under keys, over plain variables: what holds as `put_numbers` passes items, and
 -- as `put_lists` passes keys.
-use Rattle.std.proofs.Common.{
-  ◌≡◌,
-  sym,
-  ap,
-  subst,
-  ◌∙◌,
-  ℕ,
-  ◌+◌,
-  ◌<◌,
-  ◌≤◌,
-  ◌⊎◌,
-  inl,
-  inr,
-  List,
-  [],
-  ◌∷◌,
-  ◌++◌,
-  map,
-  take,
-  drop,
-  length,
-  get_or,
-  arith,
-  refl,
-  append_assoc,
-  append-nil,
-}
+use Rattle.std.proofs.Common.{◌≡◌, sym, ap, subst, ◌∙◌, ℕ, ◌+◌, ◌<◌, ◌≤◌, ◌⊎◌, inl, inr, List, [], ◌∷◌, ◌++◌, map, take}
+use Rattle.std.proofs.Common.{drop, length, get_or, arith, refl, append_assoc, append-nil}
 use Rattle.std.specs.List.Sorted.{IsStrictlySortedBy}
 use Rattle.std.specs.Cmp.{IsTotalOrder}
 use Rattle.std.specs.declared.cmp.Ordering.{Ordering}
@@ -36,16 +11,8 @@ use Rattle.list_laws.proofs.Cited.{before_others, from_append}
 use Rattle.point_order.specs.Sets.{IsIn}
 use Rattle.face_list.specs.Gather.{item_cmp, numbers_of}
 use Rattle.face_list.specs.Tables.{AreStops, stretches}
-use Rattle.face_list.proofs.Gathering.{
-  other_key,
-  same_key,
-  none_behind,
-  before_later,
-  sorted_rest,
-  end_joined,
-  end_none,
-  number_of_item,
-}
+use Rattle.face_list.proofs.Gathering.{other_key, same_key, none_behind, before_later, sorted_rest, end_joined}
+use Rattle.face_list.proofs.Gathering.{end_none, number_of_item}
 use Rattle.face_list.proofs.Stretches.{one_more, stops_more}
 
 -- ---- items that are passed for one key

@@ -1,20 +1,14 @@
 //! Cells gathered under keys, by sorting.
 
-ghost use Rattle.std.specs.Prelude.{◌≡◌, ◌<◌, ◌≤◌, ◌^◌, ◌+◌, ◌++◌, ◌⊎◌, ◌↔◌, ℕ, [], ◌∷◌, false};
-ghost use Rattle.std.specs.Prelude.{length, map, IfOk, OnOk};
+ghost use Rattle.std.specs.Prelude.{◌≡◌, ◌<◌, ◌≤◌, ◌^◌, ◌+◌, ◌++◌, ◌⊎◌, ◌↔◌, ℕ, [], ◌∷◌, false, length, map, IfOk};
+ghost use Rattle.std.specs.Prelude.{OnOk};
 ghost use Rattle.std.specs.List.Sorted.{IsSorted, IsStrictlySortedBy};
 ghost use Rattle.std.specs.Ordering.{is_gt, is_lt};
 ghost use Rattle.std.specs.declared.cmp.Ordering.TheVariants.{Less};
 ghost use Rattle.std.proofs.lemmas.Map.Lookups.{CmpEqualImpliesEq};
 ghost use Rattle.point_order.specs.Sets.{IsIn};
-ghost use Rattle.face_list.specs.Gather.{
-  item_cmp,
-  numbers_of,
-  full_keys,
-  AreItems,
-  is_a_full_cell as is_full_cell,
-  GathersItems,
-};
+ghost use Rattle.face_list.specs.Gather.{item_cmp, numbers_of, full_keys, AreItems, is_a_full_cell as is_full_cell};
+ghost use Rattle.face_list.specs.Gather.{GathersItems};
 ghost use Rattle.face_list.specs.Tables.{AreStops, IsTable, stretches};
 
 use crate::counts::number_of;

@@ -1,18 +1,8 @@
 //! Laws of the lists of faces. The functions here do nothing: each contract is a law.
 
-ghost use Rattle.face_list.specs.Laws.{
-  PointsInOrder,
-  PointIsListed,
-  ListedIsPoint,
-  PartsInOrder,
-  PartIsListed,
-  ListedIsPart,
-  FullCellsInOrder,
-  FullCellIsListed,
-  ListedIsFullCell,
-  FullCellsOfComplex,
-  PointsOfComplex,
-};
+ghost use Rattle.face_list.specs.Laws.{PointsInOrder, PointIsListed, ListedIsPoint, PartsInOrder, PartIsListed};
+ghost use Rattle.face_list.specs.Laws.{ListedIsPart, FullCellsInOrder, FullCellIsListed, ListedIsFullCell};
+ghost use Rattle.face_list.specs.Laws.{FullCellsOfComplex, PointsOfComplex};
 
 /// The points of a list of cells ascend, none twice, and a point is among them exactly where a Full
 /// cell has it. The pairs and triples are in lexicographic order, none twice, and one is listed

@@ -2,19 +2,8 @@
 use Rattle.std.specs.Prelude.{◌≡◌, refl, ℕ, true, not, List, [], ◌∷◌}
 use Rattle.std.specs.List.{flat_map, list_all}
 use Rattle.std.proofs.Common.{ap, inl, inr, sym, subst}
-use Rattle.list_laws.proofs.Cited.{
-  all_true,
-  among_from,
-  among_true,
-  distinct_ascending,
-  false_if,
-  filtered_from,
-  filtered_true,
-  flat_from,
-  in_flat,
-  not_true,
-  of_three,
-}
+use Rattle.list_laws.proofs.Cited.{all_true, among_from, among_true, distinct_ascending, false_if, filtered_from}
+use Rattle.list_laws.proofs.Cited.{filtered_true, flat_from, in_flat, not_true, of_three}
 use Rattle.point_order.specs.declared.cell.Cell.TheVariants.{Full}
 use Rattle.point_order.specs.Sets.{IsIn, IsAscending, is_among, ascending}
 use Rattle.point_order.specs.Facets.{points_of}
@@ -23,19 +12,8 @@ use Rattle.point_order.proofs.Cited.{in_ascending_from}
 use Rattle.del_laws.specs.Cells.{point, OneOf}
 use Rattle.del_laws.specs.Keys.{AreKeys}
 use Rattle.del_laws.specs.Vertices.{is_full_cell}
-use Rattle.del_laws.proofs.Cited.{
-  apart12,
-  apart14,
-  apart23,
-  apart24,
-  apart34,
-  listed_inside,
-  listed_is_cell,
-  part_ascending,
-  part_inside,
-  test_is_listed,
-  turn23,
-}
+use Rattle.del_laws.proofs.Cited.{apart12, apart14, apart23, apart24, apart34, listed_inside, listed_is_cell}
+use Rattle.del_laws.proofs.Cited.{part_ascending, part_inside, test_is_listed, turn23}
 use Rattle.face_list.specs.Faces.{cells_with}
 use Rattle.face_list.proofs.Cited.{listed_is_part}
 use Rattle.gabriel_faces.specs.Links.{link_of}

@@ -3,16 +3,8 @@ use Rattle.std.specs.Prelude.{◌≡◌, refl, ℕ, suc, true, not, List, [], �
 use Rattle.std.specs.List.{flat_map, list_all}
 use Rattle.std.proofs.Common.{arith, inl, inr, sym, subst, ap, ◌∙◌}
 use Rattle.list_laws.specs.Lists.{AreDistinct}
-use Rattle.list_laws.proofs.Cited.{
-  all_from,
-  among_from,
-  among_true,
-  filtered_from,
-  flat_from,
-  none_in,
-  not_both,
-  not_from,
-}
+use Rattle.list_laws.proofs.Cited.{all_from, among_from, among_true, filtered_from, flat_from, none_in, not_both}
+use Rattle.list_laws.proofs.Cited.{not_from}
 use Rattle.point_order.specs.declared.cell.Cell.{Cell}
 use Rattle.point_order.specs.declared.cell.Cell.TheVariants.{Full, Open}
 use Rattle.point_order.specs.Sets.{IsIn, IsAscending, is_among}

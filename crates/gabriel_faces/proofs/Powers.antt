@@ -3,28 +3,10 @@ use Rattle.std.specs.Prelude.{◌≡◌, refl, ℕ, true, not, pos, ◌<ℤ◌}
 use Rattle.std.proofs.Common.{subst, sym}
 use Rattle.list_laws.proofs.Cited.{clash, false_if, less_from, less_true, not_below, not_both, not_from, not_true}
 use Rattle.conv_laws.specs.Spheres.{edge_power as edge_power_at, triangle_power as triangle_power_at}
-use Rattle.point_order.specs.Orientation.{
-  x_from,
-  y_from,
-  z_from,
-  minor,
-  normal_x,
-  normal_y,
-  normal_z,
-  square_of_step,
-  distance,
-}
-use Rattle.small_spheres.specs.Inside.{
-  dot,
-  edge_power,
-  is_inside_edge,
-  square_of_normal,
-  centre_x,
-  centre_y,
-  centre_z,
-  triangle_power,
-  is_inside_triangle,
-}
+use Rattle.point_order.specs.Orientation.{x_from, y_from, z_from, minor, normal_x, normal_y, normal_z, square_of_step}
+use Rattle.point_order.specs.Orientation.{distance}
+use Rattle.small_spheres.specs.Inside.{dot, edge_power, is_inside_edge, square_of_normal, centre_x, centre_y, centre_z}
+use Rattle.small_spheres.specs.Inside.{triangle_power, is_inside_triangle}
 use Rattle.del_laws.specs.EmptySpheres.{place, IsOffEdge, IsOffTriangle}
 
 -- the power to the smallest sphere of an edge

@@ -1,28 +1,6 @@
 -- The mesh of four independent points stands for the history that begins with them.
-use Rattle.std.specs.Prelude.{
-  ◌≡◌,
-  refl,
-  ℕ,
-  zero,
-  suc,
-  map,
-  ◌+◌,
-  ◌<◌,
-  true,
-  false,
-  Bool,
-  cond,
-  List,
-  [],
-  ◌∷◌,
-  ◌++◌,
-  length,
-  Option,
-  Some,
-  slice_index_or,
-  pos,
-  ◌==◌,
-}
+use Rattle.std.specs.Prelude.{◌≡◌, refl, ℕ, zero, suc, map, ◌+◌, ◌<◌, true, false, Bool, cond, List, [], ◌∷◌, ◌++◌}
+use Rattle.std.specs.Prelude.{length, Option, Some, slice_index_or, pos, ◌==◌}
 use Rattle.std.specs.List.{filter}
 use Rattle.std.proofs.Common.{inl, inr, ap, sym, subst, ◌∙◌, arith}
 use Rattle.std.proofs.lemmas.Int.{ints}
@@ -33,22 +11,9 @@ use Rattle.point_order.specs.Coordinates.{IsKey}
 use Rattle.point_order.specs.Orientation.{orientation, is_flat}
 use Rattle.point_order.specs.Sets.{IsIn, IsAscending, AreFour, ascending, is_among, with_point}
 use Rattle.point_order.specs.Solid.{is_solid}
-use Rattle.point_order.proofs.Cited.{
-  ascending_ascending,
-  ascending_is,
-  ascending_with,
-  in_ascending,
-  in_ascending_from,
-  in_with,
-  in_with_new,
-  in_with_old,
-  last_first,
-  last_second,
-  last_third,
-  swap_first,
-  swap_middle,
-  zero_true,
-}
+use Rattle.point_order.proofs.Cited.{ascending_ascending, ascending_is, ascending_with, in_ascending, in_ascending_from}
+use Rattle.point_order.proofs.Cited.{in_with, in_with_new, in_with_old, last_first, last_second, last_third, swap_first}
+use Rattle.point_order.proofs.Cited.{swap_middle, zero_true}
 use Rattle.edit_history.specs.declared.history.Entry.{Entry}
 use Rattle.edit_history.specs.declared.history.Reply.TheVariants.{Inserted}
 use Rattle.edit_history.specs.Edits.{is_move, point_of, reply_to, changed}
@@ -60,24 +25,10 @@ use Rattle.cell_store.specs.Swaps.{swapped, touches}
 use Rattle.cell_store.specs.Buckets.{BucketContent, InHand, bucket_at, at_place}
 use Rattle.cell_store.specs.Shares.{Stands, IsShare, points_share, cells_share, entries_share}
 use Rattle.cell_store.specs.Changes.{IsChange, IsNoted, noted_in, swapped_in}
-use Rattle.cell_store.proofs.Cited.{
-  cells_after,
-  entries_after,
-  entries_stay,
-  mapped_some,
-  points_after,
-  points_stay,
-  replay_next,
-}
-use Rattle.insertion.specs.Opening.{
-  inserted,
-  inserted_from,
-  opening_history,
-  AreFourIndependent,
-  IsBare,
-  HasCellsOfFour,
-  bare_bucket,
-}
+use Rattle.cell_store.proofs.Cited.{cells_after, entries_after, entries_stay, mapped_some, points_after, points_stay}
+use Rattle.cell_store.proofs.Cited.{replay_next}
+use Rattle.insertion.specs.Opening.{inserted, inserted_from, opening_history, AreFourIndependent, IsBare}
+use Rattle.insertion.specs.Opening.{HasCellsOfFour, bare_bucket}
 use Rattle.hole_laws.specs.FiveCells.{five_cells}
 use Rattle.hole_laws.proofs.Cited.{four_have_five}
 
@@ -166,15 +117,6 @@ four_new a b c d f =
         ),
       ),
     )
-
--- so the history with which a mesh begins is legal
-pub opening_legal : (four : List (ℕ × ℕ)) → AreFourIndependent four → IsLegal (opening_history four)
-opening_legal (a ∷ b ∷ c ∷ d ∷ []) f = legal_from 0 [] (a ∷ b ∷ c ∷ d ∷ []) (four_new a b c d f)
-opening_legal [] f = absurd f
-opening_legal (a ∷ []) f = absurd f
-opening_legal (a ∷ b ∷ []) f = absurd f
-opening_legal (a ∷ b ∷ c ∷ []) f = absurd f
-opening_legal (a ∷ b ∷ c ∷ d ∷ e ∷ l) f = absurd f
 
 -- what the opening leaves: the four in order
 pub leaves_four : (a b c d : ℕ × ℕ) → is_flat a.1 b.1 c.1 d.1 ≡ false → replay (opening_history (a ∷ b ∷ c ∷ d ∷ []))

@@ -1,29 +1,7 @@
 -- Lists in which no element stands twice.
 use Rattle.std.specs.List.{AllByRecursion, IsDistinct, filter}
-use Rattle.std.specs.Prelude.{
-  Bool,
-  List,
-  [],
-  cond,
-  false,
-  length,
-  map,
-  nat_eq,
-  not,
-  slice_index_or,
-  suc,
-  take,
-  true,
-  zero,
-  ℕ,
-  ◌++◌,
-  ◌+◌,
-  ◌<◌,
-  ◌==◌,
-  ◌∷◌,
-  ◌≡◌,
-  ◌≤◌,
-}
+use Rattle.std.specs.Prelude.{Bool, List, [], cond, false, length, map, nat_eq, not, slice_index_or, suc, take, true}
+use Rattle.std.specs.Prelude.{zero, ℕ, ◌++◌, ◌+◌, ◌<◌, ◌==◌, ◌∷◌, ◌≡◌, ◌≤◌}
 use Rattle.std.proofs.Common.{ap, arith, eq-eqb, inl, inr, ne_eqb, refl, subst, sym, ◌∙◌}
 use Rattle.std.proofs.lemmas.Bool.Decides.{nat_tests}
 use Rattle.list_laws.specs.Lists.{AreDistinct, IsAscending, IsIn}

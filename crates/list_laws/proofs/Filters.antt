@@ -164,17 +164,6 @@ in_filtered t xs y m = (filtered_from t xs y m).0
 pub passes : {X : Type 0} (t : X → Bool) (xs : List X) (y : X) → IsIn y (filter t xs) → t y ≡ true
 passes t xs y m = (filtered_from t xs y m).1
 
--- a test of the images keeps the images of those that pass it through the function
-pub filter_map : {X Y : Type 0} (f : X → Y) (t : Y → Bool) (xs : List X) →
-    filter t (map f xs) ≡ map f (filter (λ x. t (f x)) xs)
-filter_map f t [] = refl
-filter_map {X} {Y} f t (x ∷ xs) = rw (filter_map f t xs) (by (t (f x)))
-  where
-    by : (b : Bool) → cond b (f x ∷ map f (filter (λ x. t (f x)) xs)) (map f (filter (λ x. t (f x)) xs))
-        ≡ map f (cond b (x ∷ filter (λ x. t (f x)) xs) (filter (λ x. t (f x)) xs))
-    by true = refl
-    by false = refl
-
 -- two that pass together
 pub record HasPair {X : Type 0} (f : X → X → Bool) : Type 0 where
   pub a : X

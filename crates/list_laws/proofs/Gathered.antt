@@ -49,33 +49,6 @@ pub gather_all : {X Y : Type 0} (R : X → Y → Type 0) (xs : List X) (n : ℕ)
     Gathered R xs n old list → (x : X) → IsIn x xs → (y : Y) → R x y → IsIn y list
 gather_all {X} {Y} R xs n old list h s = each_taken (λ x. (y : Y) → R x y → IsIn y list) xs n h s.all
 
--- What was made of the first n elements, one of each.
-pub record Made {X Y : Type 0} (R : X → Y → Type 0) (xs : List X) (n : ℕ) (list : List Y) : Type 0 where
-  pub each : (y : Y) → IsIn y list → (x : X) × IsIn x xs × R x y
-  pub some : (x : X) → IsIn x (take n xs) → (y : Y) × IsIn y list × R x y
-
--- at the start nothing is made
-pub made_none : {X Y : Type 0} (R : X → Y → Type 0) (xs : List X) (list : List Y) → list ≡ [] → Made R xs 0 list
-made_none {X} {Y} R xs list e =
-    record { each = λ y m. absurd (subst (IsIn y) e m); some = each_none (λ x. (y : Y) × IsIn y list × R x y) xs }
-
--- one is made of the next element
-pub made_more : {X Y : Type 0} (R : X → Y → Type 0) (xs : List X) (n : ℕ) (list new : List Y) (x d : X) (y : Y) →
-    n < length xs → x ≡ slice_index_or xs n d → R x y → new ≡ list ++ y ∷ [] → Made R xs n list → Made R xs (n + 1) new
-made_more {X} {Y} R xs n list new x d y h e r p s = record {
-  each = λ z m. elim (in_pushed list new y z p m) [
-    | inl k ↦ s.each z k
-    | inr q ↦ (x, at_place xs n x d h e, subst (R x) q r)
-  ];
-  some = each_more (λ x. (y : Y) × IsIn y new × R x y) xs n x d h e
-      (λ z m. (let t = s.some z m in (t.0, pushed_old list new y t.0 p t.1, t.2))) (y, pushed_new list new y p, r);
-}
-
--- at the end one is made of each
-pub made_all : {X Y : Type 0} (R : X → Y → Type 0) (xs : List X) (n : ℕ) (list : List Y) → length xs ≤ n →
-    Made R xs n list → (x : X) → IsIn x xs → (y : Y) × IsIn y list × R x y
-made_all {X} {Y} R xs n list h s = each_taken (λ x. (y : Y) × IsIn y list × R x y) xs n h s.some
-
 -- what was gathered of all elements is gathered of the list
 pub gathers : {X Y : Type 0} (R : X → Y → Type 0) (xs : List X) (n : ℕ) (old list : List Y) → length xs ≤ n →
     Gathered R xs n old list → Gathers R xs old list

@@ -1,27 +1,7 @@
 -- What holds of each element and each later one, and lists with numbered elements.
 use Rattle.std.specs.List.{enumerate_from, filter, range_with_len}
-use Rattle.std.specs.Prelude.{
-  AllPairs,
-  Bool,
-  List,
-  [],
-  cond,
-  false,
-  length,
-  map,
-  suc,
-  take,
-  true,
-  zero,
-  ℕ,
-  ◌++◌,
-  ◌+◌,
-  ◌<◌,
-  ◌∷◌,
-  ◌≡◌,
-  ◌≤◌,
-  ◌⊎◌,
-}
+use Rattle.std.specs.Prelude.{AllPairs, Bool, List, [], cond, false, length, map, suc, take, true, zero, ℕ, ◌++◌, ◌+◌}
+use Rattle.std.specs.Prelude.{◌<◌, ◌∷◌, ◌≡◌, ◌≤◌, ◌⊎◌}
 use Rattle.std.proofs.Common.{ap, arith, get_or, inl, inr, refl, subst, sym, ◌∙◌}
 use Rattle.list_laws.specs.Lists.{IsIn}
 use Rattle.list_laws.proofs.Filters.{in_filtered}

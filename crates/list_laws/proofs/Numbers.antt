@@ -2,26 +2,8 @@
 use Rattle.std.specs.Cmp.{nat_cmp_is}
 use Rattle.std.specs.Cmp.Lexicographic.{slice_cmp}
 use Rattle.std.specs.Ordering.{is_eq, is_lt, nat_cmp}
-use Rattle.std.specs.Prelude.{
-  List,
-  false,
-  nat_lt,
-  refl,
-  suc,
-  true,
-  zero,
-  ℕ,
-  ◌%◌,
-  ◌*◌,
-  ◌+◌,
-  ◌-◌,
-  ◌<◌,
-  ◌==◌,
-  ◌≡◌,
-  ◌≢◌,
-  ◌≤◌,
-  ◌⊎◌,
-}
+use Rattle.std.specs.Prelude.{List, false, nat_lt, refl, suc, true, zero, ℕ, ◌%◌, ◌*◌, ◌+◌, ◌-◌, ◌<◌, ◌==◌, ◌≡◌, ◌≢◌}
+use Rattle.std.specs.Prelude.{◌≤◌, ◌⊎◌}
 use Rattle.std.specs.declared.cmp.Ordering.{Ordering}
 use Rattle.std.specs.declared.cmp.Ordering.TheVariants.{Equal, Greater, Less}
 use Rattle.std.proofs.Common.{Bool, ap, arith, inl, inr, sym, ◌∙◌}

@@ -1,34 +1,8 @@
 -- Options and results: what is in them.
 use Rattle.std.specs.Option.{option_map}
-use Rattle.std.specs.Prelude.{
-  Err,
-  IfSome,
-  IsSome,
-  IsSomeAnd,
-  List,
-  MatchOption,
-  None,
-  Ok,
-  OnErr,
-  Option,
-  Result,
-  Some,
-  [],
-  false,
-  is_some,
-  length,
-  replicate,
-  slice_index_or,
-  suc,
-  true,
-  unwrap_or,
-  zero,
-  ℕ,
-  ◌<◌,
-  ◌∷◌,
-  ◌≡◌,
-  ◌≤◌,
-}
+use Rattle.std.specs.Prelude.{Err, IfSome, IsSome, IsSomeAnd, List, MatchOption, None, Ok, OnErr, Option, Result, Some}
+use Rattle.std.specs.Prelude.{[], false, is_some, length, replicate, slice_index_or, suc, true, unwrap_or, zero, ℕ, ◌<◌}
+use Rattle.std.specs.Prelude.{◌∷◌, ◌≡◌, ◌≤◌}
 use Rattle.std.proofs.Common.{ap, arith, refl, subst, sym}
 
 -- an option of which something is said is there
@@ -115,10 +89,6 @@ pub if_some : {X : Type 0} (P Q : X → Type 0) (o : Option X) → ((x : X) → 
 if_some P Q None f h = tt
 if_some P Q (Some x) f h = f x h
 
--- of nothing all is said
-pub if_none : {X : Type 0} (P : X → Type 0) (o : Option X) → o ≡ None → IfSome o P
-if_none P o e = rw e tt
-
 -- what holds of the value, where there is one
 pub some_holds : {X : Type 0} (P : X → Type 0) (o : Option X) (x : X) → Some x ≡ o → IfSome o P → P x
 some_holds P o x e h = subst (λ o. IfSome o P) (sym e) h
@@ -138,11 +108,6 @@ same_pair {X} {Y} a c b d e = (
   ap (λ (o : Option (X × Y)). unwrap_or (option_map (λ p. p.0) o) a) e,
   ap (λ (o : Option (X × Y)). unwrap_or (option_map (λ p. p.1) o) b) e,
 )
-
--- an option of whose value something is known is there
-pub and_known : {X : Type 0} (P : X → Type 0) (o : Option X) → IsSomeAnd o P → IsSome o
-and_known P None h = absurd h
-and_known P (Some x) h = refl
 
 -- what holds in any case holds where there is an error
 pub on_err : {T E P : Type 0} (r : Result T E) → P → OnErr r P

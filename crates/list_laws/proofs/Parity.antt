@@ -2,23 +2,14 @@
 use Rattle.std.specs.Prelude.{◌≡◌, Bool, true, false, List, [], ◌∷◌, ◌⊎◌}
 use Rattle.std.proofs.Common.{refl, ap, ap₂, sym, ◌∙◌, inl, inr, subst}
 use Rattle.list_laws.specs.Lists.{IsIn, AreDistinct}
-use Rattle.list_laws.specs.Laws.{
-  xor,
-  odd,
-  IsGraph,
-  HasAnother,
-  Handshake,
-  AnotherOfEven,
-  NoneIsEven,
-  OneIsOdd,
-  TwoAreEven,
-}
+use Rattle.list_laws.specs.Laws.{xor, odd, IsGraph, HasAnother, Handshake, AnotherOfEven, NoneIsEven, OneIsOdd}
+use Rattle.list_laws.specs.Laws.{TwoAreEven}
 use Rattle.list_laws.proofs.Booleans.{true_or_false}
 
 -- ---- exclusive or
 
 -- four tests may be taken in another order
-shuffle : (a b c d : Bool) → xor (xor a b) (xor c d) ≡ xor (xor a c) (xor b d)
+pub shuffle : (a b c d : Bool) → xor (xor a b) (xor c d) ≡ xor (xor a c) (xor b d)
 shuffle true true true d = refl
 shuffle true true false true = refl
 shuffle true true false false = refl

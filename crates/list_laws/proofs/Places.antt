@@ -1,28 +1,6 @@
 -- Elements by their places: the first ones of a list, one more, and a list with one place written.
-use Rattle.std.specs.Prelude.{
-  List,
-  None,
-  Option,
-  Some,
-  [],
-  length,
-  map,
-  slice_index,
-  slice_index_or,
-  slice_set,
-  suc,
-  take,
-  zero,
-  ℕ,
-  ◌++◌,
-  ◌+◌,
-  ◌<◌,
-  ◌∷◌,
-  ◌≡◌,
-  ◌≢◌,
-  ◌≤◌,
-  ◌⊎◌,
-}
+use Rattle.std.specs.Prelude.{List, None, Option, Some, [], length, map, slice_index, slice_index_or, slice_set, suc}
+use Rattle.std.specs.Prelude.{take, zero, ℕ, ◌++◌, ◌+◌, ◌<◌, ◌∷◌, ◌≡◌, ◌≢◌, ◌≤◌, ◌⊎◌}
 use Rattle.std.proofs.Common.{ap, arith, inl, inr, refl, subst, sym, ◌∙◌}
 use Rattle.std.proofs.Math.Seq.{take-append_seam}
 use Rattle.std.proofs.lemmas.List.{take_more}
@@ -129,15 +107,6 @@ pub len_set : {X : Type 0} (l : List X) (i : ℕ) (x : X) → length (slice_set 
 len_set [] i x = refl
 len_set (y ∷ l) zero x = refl
 len_set (y ∷ l) (suc i) x = ap suc (len_set l i x)
-
--- nor does setting it twice
-pub len_twice : {X : Type 0} (l : List X) (i : ℕ) (x y : X) → length (slice_set (slice_set l i x) i y) ≡ length l
-len_twice l i x y = len_set (slice_set l i x) i y ∙ len_set l i x
-
--- where the length has a name
-pub len_twice_is : {X : Type 0} (l : List X) (i n : ℕ) (x y : X) → length l ≡ n →
-    length (slice_set (slice_set l i x) i y) ≡ n
-len_twice_is l i n x y e = len_twice l i x y ∙ e
 
 -- what is there is set
 pub set_there : {X : Type 0} (l : List (Option X)) (b : ℕ) (x : X) → slice_index_or l b None ≡ Some x →

@@ -7,42 +7,16 @@ use Rattle.std.specs.Ordering.{eq_by_cmp, is_eq, is_gt, is_lt, nat_cmp, ordering
 use Rattle.std.specs.Prelude.{List, [], map, refl, ℕ, ◌++◌, ◌<◌, ◌==◌, ◌∷◌, ◌≡◌}
 use Rattle.std.specs.declared.cmp.Ordering.{Ordering}
 use Rattle.std.specs.declared.cmp.Ordering.TheVariants.{Equal, Greater, Less}
-use Rattle.std.proofs.Common.{
-  Bool,
-  ap,
-  arith,
-  drop,
-  false,
-  get_or,
-  inl,
-  inr,
-  length,
-  subst,
-  suc,
-  sym,
-  take,
-  zero,
-  ◌+◌,
-  ◌∙◌,
-  ◌⊎◌,
-}
+use Rattle.std.proofs.Common.{Bool, ap, arith, drop, false, get_or, inl, inr, length, subst, suc, sym, take, zero, ◌+◌}
+use Rattle.std.proofs.Common.{◌∙◌, ◌⊎◌}
 use Rattle.std.proofs.lemmas.Bool.Decides.{nat_tests}
 use Rattle.std.proofs.lemmas.Cmp.{eq_by_cmp_equiv, nat_list_cmp_total}
 use Rattle.std.proofs.lemmas.List.Kept.{Contains-dedup, Contains-from_dedup, IsStrictlySortedBy-dedup}
 use Rattle.std.proofs.lemmas.List.Sorted.{Contains-permutation, IsPermutation-sym}
 use Rattle.std.proofs.lemmas.Map.Lookups.{CmpEqualImpliesEq}
 use Rattle.list_laws.specs.Lists.{IsIn}
-use Rattle.list_laws.proofs.Members.{
-  all_by,
-  at_in,
-  contains_in,
-  each_by,
-  from_append,
-  in_contained,
-  in_left,
-  in_right,
-  mapped_from,
-}
+use Rattle.list_laws.proofs.Members.{all_by, at_in, contains_in, each_by, from_append, in_contained, in_left, in_right}
+use Rattle.list_laws.proofs.Members.{mapped_from}
 use Rattle.list_laws.proofs.Numbers.{cmp_less, cmp_same, is_equal}
 
 -- nothing is before itself

@@ -1,7 +1,7 @@
 -- The laws that the crate promises: lists of the same members, a member of least ratio, the handshake lemma, and the
 -- count of a part.
-use Rattle.std.specs.Prelude.{ℕ, ℤ, pos, ◌*ℤ◌, ◌≡◌, ◌≤ℤ◌, ◌<ℤ◌, ◌<◌, ◌≤◌, Bool, true, false, List, [], ◌∷◌, ◌⊎◌}
-use Rattle.std.specs.Prelude.{length, count_by}
+use Rattle.std.specs.Prelude.{ℕ, ℤ, pos, ◌*ℤ◌, ◌≡◌, ◌≤ℤ◌, ◌<ℤ◌, ◌<◌, ◌≤◌, Bool, true, false, List, [], ◌∷◌, ◌⊎◌, length}
+use Rattle.std.specs.Prelude.{count_by}
 use Rattle.list_laws.specs.Lists.{IsIn, AreDistinct, IsAscending}
 
 -- ---- lists of the same members

@@ -5,18 +5,8 @@
 //! `proofs/`, a file for each topic, and those that crates above cite are passed on by `proofs/Cited`.
 #![tactic(auto)]
 
-ghost use Rattle.list_laws.specs.Laws.{
-  SameMembers,
-  FewerMembers,
-  LeastRatio,
-  Handshake,
-  AnotherOfEven,
-  NoneIsEven,
-  OneIsOdd,
-  TwoAreEven,
-  CountOfPart,
-  CountOfLess,
-};
+ghost use Rattle.list_laws.specs.Laws.{SameMembers, FewerMembers, LeastRatio, Handshake, AnotherOfEven, NoneIsEven};
+ghost use Rattle.list_laws.specs.Laws.{OneIsOdd, TwoAreEven, CountOfPart, CountOfLess};
 
 /// Ascending lists of the same numbers are one list.
 pub fn same_members()

@@ -8,34 +8,15 @@ use Rattle.whole_ring.specs.Signs.{below, at_zero, above}
 use Rattle.whole_ring.specs.Poly.{Expr, var, lit, ◌⊕◌, ◌⊗◌, minus, ◌⊖◌}
 use Rattle.whole_ring.proofs.Cited.{mul_neg_pos, mul_nonneg, mul_pos_neg, ring, sign, square_nonneg}
 use Rattle.list_laws.proofs.Cited.{both_true, left_true, less_true, right_true}
-use Rattle.point_order.specs.Orientation.{
-  orientation,
-  distance,
-  square_of_step,
-  normal_x,
-  normal_y,
-  normal_z,
-  minor,
-  triple,
-  x_from,
-  y_from,
-  z_from,
-}
+use Rattle.point_order.specs.Orientation.{orientation, distance, square_of_step, normal_x, normal_y, normal_z, minor}
+use Rattle.point_order.specs.Orientation.{triple, x_from, y_from, z_from}
 use Rattle.point_order.specs.Heights.{out, sphere_polynomial}
 use Rattle.point_order.specs.Coordinates.{x_of, y_of, z_of}
 use Rattle.point_order.specs.Laws.{AreFiveKeys}
 use Rattle.point_order.specs.Spheres.{is_outside}
 use Rattle.point_order.proofs.Cited.{out_sign, sphere_from_first}
-use Rattle.mesh_check.specs.Boxes.{
-  FarBoxIsOutside,
-  FarIsOutside,
-  IsGap,
-  cell_centre_x,
-  cell_centre_y,
-  cell_centre_z,
-  past,
-  squared,
-}
+use Rattle.mesh_check.specs.Boxes.{FarBoxIsOutside, FarIsOutside, IsGap, cell_centre_x, cell_centre_y, cell_centre_z}
+use Rattle.mesh_check.specs.Boxes.{past, squared}
 
 -- ---- the square completed
 

@@ -18,18 +18,8 @@ use Rattle.point_order.proofs.Cited.{cell_self}
 use Rattle.mesh_check.specs.declared.gaps.Side.{Side}
 use Rattle.mesh_check.specs.declared.gaps.Part.{Part}
 use Rattle.mesh_check.specs.Flaws.{facet_cmp, IsFacet, IsInTwo}
-use Rattle.mesh_check.specs.Sides.{
-  side_cmp,
-  AreSidesIn,
-  IsLeastOpenIn,
-  OpenIn,
-  IsPair,
-  IsUnpaired,
-  alone,
-  apart,
-  third,
-  is_in,
-}
+use Rattle.mesh_check.specs.Sides.{side_cmp, AreSidesIn, IsLeastOpenIn, OpenIn, IsPair, IsUnpaired, alone, apart, third}
+use Rattle.mesh_check.specs.Sides.{is_in}
 
 -- ---- the order of facets
 

@@ -1,22 +1,6 @@
 -- Quadruples and triples, each in order, as one list of cells.
-use Rattle.std.specs.Prelude.{
-  ◌≡◌,
-  ◌+◌,
-  ◌-◌,
-  ◌<◌,
-  ◌≤◌,
-  ◌⊎◌,
-  [],
-  ◌∷◌,
-  length,
-  slice_index_or,
-  refl,
-  ℕ,
-  zero,
-  suc,
-  List,
-  map,
-}
+use Rattle.std.specs.Prelude.{◌≡◌, ◌+◌, ◌-◌, ◌<◌, ◌≤◌, ◌⊎◌, [], ◌∷◌, length, slice_index_or, refl, ℕ, zero, suc, List}
+use Rattle.std.specs.Prelude.{map}
 use Rattle.std.specs.List.{AllAdjacentBelow}
 use Rattle.std.specs.List.Sorted.{IsStrictlySortedBy}
 use Rattle.std.specs.Cmp.Lexicographic.{slice_cmp}

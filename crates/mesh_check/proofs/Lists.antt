@@ -1,23 +1,6 @@
 -- The first flaw of a list of cells, cell by cell.
-use Rattle.std.specs.Prelude.{
-  ◌≡◌,
-  refl,
-  ℕ,
-  ◌+◌,
-  ◌<◌,
-  ◌≤◌,
-  List,
-  [],
-  ◌∷◌,
-  None,
-  Some,
-  map,
-  length,
-  drop,
-  slice_index_or,
-  zero,
-  suc,
-}
+use Rattle.std.specs.Prelude.{◌≡◌, refl, ℕ, ◌+◌, ◌<◌, ◌≤◌, List, [], ◌∷◌, None, Some, map, length, drop, slice_index_or}
+use Rattle.std.specs.Prelude.{zero, suc}
 use Rattle.std.proofs.Common.{arith, ap, sym, ◌∙◌}
 use Rattle.point_order.specs.declared.cell.Cell.{Cell}
 use Rattle.point_order.specs.declared.cell.Cell.TheVariants.{Full, Open}

@@ -1,42 +1,14 @@
 -- The facets part by part: what is found in the parts so far is found of all.
-use Rattle.std.specs.Prelude.{
-  ◌≡◌,
-  ◌<◌,
-  ◌≤◌,
-  ◌⊎◌,
-  refl,
-  ℕ,
-  true,
-  not,
-  nat_lt,
-  List,
-  [],
-  ◌∷◌,
-  Option,
-  None,
-  Some,
-  IfOk,
-  Result,
-  Ok,
-  Err,
-}
+use Rattle.std.specs.Prelude.{◌≡◌, ◌<◌, ◌≤◌, ◌⊎◌, refl, ℕ, true, not, nat_lt, List, [], ◌∷◌, Option, None, Some, IfOk}
+use Rattle.std.specs.Prelude.{Result, Ok, Err}
 use Rattle.std.specs.Ordering.{ordering_then, nat_cmp}
 use Rattle.std.specs.Cmp.Lexicographic.{slice_cmp}
 use Rattle.std.specs.declared.cmp.Ordering.{Ordering}
 use Rattle.std.specs.declared.cmp.Ordering.TheVariants.{Less, Greater}
 use Rattle.std.proofs.Common.{arith, inl, inr, subst}
 use Rattle.std.proofs.lemmas.Bool.{cases_lt}
-use Rattle.list_laws.proofs.Cited.{
-  below_from,
-  below_true,
-  both_true,
-  false_if,
-  not_both,
-  not_from,
-  not_true,
-  ordered,
-  second_true,
-}
+use Rattle.list_laws.proofs.Cited.{below_from, below_true, both_true, false_if, not_both, not_from, not_true, ordered}
+use Rattle.list_laws.proofs.Cited.{second_true}
 use Rattle.point_order.specs.declared.cell.Cell.{Cell}
 use Rattle.point_order.specs.declared.cell.Facet.{Facet}
 use Rattle.point_order.specs.declared.cell.Facet.TheVariants.{Three, Two}
@@ -61,13 +33,6 @@ not_less : (a low : ℕ) → low ≤ a → not (nat_lt a low) ≡ true
 not_less a low h = not_true (nat_lt a low) (false_if (nat_lt a low)
     (λ t. (let l = below_from a low t in let g : ⊥ = omega (arith, h, l) in g)))
 
--- it is at least that
-at_least : (a low : ℕ) → not (nat_lt a low) ≡ true → low ≤ a
-at_least a low t = elim (cases_lt a low) [
-  | inl l ↦ absurd (not_both (nat_lt a low) (below_true a low l) (not_from (nat_lt a low) t))
-  | inr l ↦ l
-]
-
 -- of two triples in order the first point of the first is no later
 front_order : (u t : List ℕ) → slice_cmp nat_cmp u t ≡ Less → front u ≤ front t
 front_order [] [] e = absurd (cc)
@@ -81,18 +46,6 @@ front_order (a ∷ u) (b ∷ t) e = elim (ordered a b) [
   where
     clash : Greater ≡ Less → ⊥
     clash e = cc
-
--- one part more
-pub two_more : (l : List Cell) (low high : ℕ) → TwoBelow l low → OpenIn (Between low high) l None →
-    (max : ℕ) → (max ≡ low) ⊎ (max ≡ high) → TwoBelow l max
-two_more l low high b o max m t i h = elim (cases_lt (front t) low) [
-  | inl k ↦ b t i k
-  | inr k ↦ elim m [
-    | inl e ↦ absurd (let g : ⊥ = omega (arith, h, k, e) in g)
-    | inr e ↦ o (Three t) i (both_true (not (nat_lt (front t) low)) (nat_lt (front t) high) (not_less (front t) low k)
-        (below_true (front t) high (omega (arith, h, e))))
-  ]
-]
 
 -- where the last part has none that is open, no facet is
 pub two_all : (l : List Cell) (low : ℕ) → TwoBelow l low → OpenIn (From low) l None → TwoAll l
@@ -116,19 +69,6 @@ least_between l low high (Three t) b o = record { is = o.is; open_facet = o.open
           (let w = below_from (front t) high (second_true (not (nat_lt (front t) low)) (nat_lt (front t) high) o.within)
           in
           let v = front_order u t e in omega (arith, w, v)))) e
-    ]
-
--- and the least that is open in a part behind such parts is the least of all
-pub least_from : (l : List Cell) (low : ℕ) (f : Facet) → TwoBelow l low → IsLeastOpenIn (From low) l f →
-    IsLeastOpen l f
-least_from l low (Two p) b o = absurd (cc)
-least_from l low (Three t) b o = record { is = o.is; open_facet = o.open_facet; least = least }
-  where
-    least : (g : Facet) → IsFacet l g → facet_cmp g (Three t) ≡ Less → IsInTwo l g
-    least (Two p) i e = absurd (cc)
-    least (Three u) i e = elim (cases_lt (front u) low) [
-      | inl k ↦ b u i k
-      | inr k ↦ o.least (Three u) i (not_less (front u) low k) e
     ]
 
 -- behind all triples the pairs

@@ -1,39 +1,13 @@
 -- The first flaw of a triple by the first point off its plane.
-use Rattle.std.specs.Prelude.{
-  ◌≡◌,
-  ◌≢◌,
-  refl,
-  ℕ,
-  ℤ,
-  pos,
-  Bool,
-  true,
-  false,
-  not,
-  ◌&&◌,
-  ◌||◌,
-  List,
-  [],
-  ◌∷◌,
-  ◌⊎◌,
-  None,
-  Some,
-  if◌then◌else◌,
-}
+use Rattle.std.specs.Prelude.{◌≡◌, ◌≢◌, refl, ℕ, ℤ, pos, Bool, true, false, not, ◌&&◌, ◌||◌, List, [], ◌∷◌, ◌⊎◌, None}
+use Rattle.std.specs.Prelude.{Some, if◌then◌else◌}
 use Rattle.std.specs.Int.Signed.{lt_z}
 use Rattle.std.specs.List.{find, list_any}
 use Rattle.std.proofs.Common.{arith, inl, inr, ap, sym, subst}
 use Rattle.std.proofs.lemmas.Option.{none-some}
 use Rattle.std.proofs.lemmas.Bool.Decides.{nat_tests}
-use Rattle.list_laws.proofs.Cited.{
-  any_from,
-  any_true,
-  false_if,
-  not_both,
-  one_true,
-  first_true as first_of_two,
-  second_true,
-}
+use Rattle.list_laws.proofs.Cited.{any_from, any_true, false_if, not_both, one_true, first_true as first_of_two}
+use Rattle.list_laws.proofs.Cited.{second_true}
 use Rattle.point_order.specs.declared.cell.Cell.TheVariants.{Open}
 use Rattle.point_order.specs.Orientation.{orientation, is_flat, is_zero, is_collinear}
 use Rattle.point_order.specs.Conflicts.{are_opposite}

@@ -1,23 +1,6 @@
 -- The order of sides, and the sides of cells in order.
-use Rattle.std.specs.Prelude.{
-  ◌≡◌,
-  ◌<◌,
-  ◌+◌,
-  ℕ,
-  Bool,
-  true,
-  false,
-  refl,
-  List,
-  [],
-  ◌∷◌,
-  ◌++◌,
-  map,
-  ◌↔◌,
-  length,
-  take,
-  slice_index_or,
-}
+use Rattle.std.specs.Prelude.{◌≡◌, ◌<◌, ◌+◌, ℕ, Bool, true, false, refl, List, [], ◌∷◌, ◌++◌, map, ◌↔◌, length, take}
+use Rattle.std.specs.Prelude.{slice_index_or}
 use Rattle.std.specs.Cmp.{IsTotalOrder}
 use Rattle.std.specs.List.{flat_map}
 use Rattle.std.specs.Ordering.{ordering_then, ordering_reverse}
@@ -70,10 +53,6 @@ side_same x y e = by (facet_cmp x.facet y.facet) refl e
         both : x.facet ≡ y.facet → x.cell ≡ y.cell → x ≡ y
         both f c = ap (λ v. side v x.cell) f ∙ ap (λ v. side y.facet v) c
     by Greater h k = cc
-
--- a side ties with itself
-pub side_self : (x : Side) → side_cmp x x ≡ Equal
-side_self x = rw (facet_self x.facet, cell_self x.cell) refl
 
 -- before what is before
 side_before : (x y z : Side) → side_cmp x y ≡ Less → side_cmp y z ≡ Less → side_cmp x z ≡ Less
@@ -165,28 +144,3 @@ four_sides f (o ∷ p ∷ q ∷ r ∷ []) a b c d old n = in_a_row old (f o) (f 
 four_sides f (o ∷ p ∷ q ∷ r ∷ s ∷ facets) a b c d old n = absurd (omega (arith, n))
 
 -- ---- one more cell
-
--- with one more behind, its parts behind
-flat_end : {X Y : Type 0} (f : X → List Y) (l : List X) (x : X) → flat_map f (l ++ x ∷ []) ≡ flat_map f l ++ f x
-flat_end f [] x = no_end (f x)
-  where
-    -- nothing behind
-    no_end : {Y : Type 0} (l : List Y) → l ++ [] ≡ l
-    no_end [] = refl
-    no_end (y ∷ l) = ap (λ v. y ∷ v) (no_end l)
-flat_end f (y ∷ l) x = ap (λ v. f y ++ v) (flat_end f l x) ∙ sym (append_assoc (f y) (flat_map f l) (f x))
-
--- the same of what is made of each
-map_end : {X Y : Type 0} (f : X → Y) (l : List X) (x : X) → map f (l ++ x ∷ []) ≡ map f l ++ f x ∷ []
-map_end f [] x = refl
-map_end f (y ∷ l) x = ap (λ v. f y ∷ v) (map_end f l x)
-
--- the sides of some cells, and of the first of a list, with those of the next
-pub one_more : (part : Part) (front : List Cell) (k : List ℕ → Cell) (l : List (List ℕ)) (i : ℕ) (q : List ℕ)
-    (sides new : List Side) → i < length l → q ≡ slice_index_or l i q →
-    sides ≡ flat_map (sides_in part) (front ++ map k (take i l)) → new ≡ sides ++ sides_in part (k q) →
-    new ≡ flat_map (sides_in part) (front ++ map k (take (i + 1) l))
-one_more part front k l i q sides new h e a b =
-    b ∙ ap (λ v. v ++ sides_in part (k q)) a ∙ sym (flat_end (sides_in part) (front ++ map k (take i l)) (k q))
-    ∙ ap (flat_map (sides_in part)) (append_assoc front (map k (take i l)) (k q ∷ [])
-    ∙ ap (λ v. front ++ v) (sym (map_end k (take i l) q) ∙ ap (map k) (sym (take_next l i q h e))))

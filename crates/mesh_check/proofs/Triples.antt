@@ -1,55 +1,15 @@
 -- An Open cell by the tests of its flaws.
-use Rattle.std.specs.Prelude.{
-  ◌≡◌,
-  refl,
-  ℕ,
-  ℤ,
-  pos,
-  neg_ℤ,
-  ◌≤ℤ◌,
-  ◌<ℤ◌,
-  Bool,
-  true,
-  false,
-  not,
-  ◌&&◌,
-  ◌||◌,
-  List,
-  [],
-  ◌∷◌,
-  Option,
-  None,
-  Some,
-}
+use Rattle.std.specs.Prelude.{◌≡◌, refl, ℕ, ℤ, pos, neg_ℤ, ◌≤ℤ◌, ◌<ℤ◌, Bool, true, false, not, ◌&&◌, ◌||◌, List, []}
+use Rattle.std.specs.Prelude.{◌∷◌, Option, None, Some}
 use Rattle.std.specs.Int.Signed.{lt_z, le_z}
 use Rattle.std.specs.List.{find, list_all}
 use Rattle.std.proofs.Common.{arith, inl, inr, ap, sym, subst, ◌∙◌}
 use Rattle.std.proofs.lemmas.Int.{ints}
 use Rattle.whole_ring.specs.Signs.{below, at_zero, above}
 use Rattle.whole_ring.proofs.Cited.{sign}
-use Rattle.list_laws.proofs.Cited.{
-  IsFound,
-  all_from,
-  all_true,
-  both_true,
-  clash,
-  false_if,
-  first_true as first_of_two,
-  found_from,
-  left_true,
-  less_from,
-  less_true,
-  most_from,
-  most_true,
-  not_below,
-  not_both,
-  not_from,
-  not_true,
-  one_true,
-  right_true,
-  second_true,
-  two_signs,
-}
+use Rattle.list_laws.proofs.Cited.{IsFound, all_from, all_true, both_true, clash, false_if, first_true as first_of_two}
+use Rattle.list_laws.proofs.Cited.{found_from, left_true, less_from, less_true, most_from, most_true, not_below}
+use Rattle.list_laws.proofs.Cited.{not_both, not_from, not_true, one_true, right_true, second_true, two_signs}
 use Rattle.point_order.specs.declared.cell.Cell.TheVariants.{Open}
 use Rattle.point_order.specs.Orientation.{orientation, is_flat, is_zero, is_collinear}
 use Rattle.point_order.specs.Heights.{out}
@@ -126,7 +86,7 @@ not_false true e = refl
 not_false false e = cc
 
 -- what is true is not false
-true_not : (p : Bool) → p ≡ true → not p ≡ false
+pub true_not : (p : Bool) → p ≡ true → not p ≡ false
 true_not true e = refl
 true_not false e = cc
 

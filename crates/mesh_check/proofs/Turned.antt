@@ -1,23 +1,6 @@
 -- The tests of a triple do not depend on whether its last two points are exchanged.
-use Rattle.std.specs.Prelude.{
-  ◌≡◌,
-  refl,
-  ℕ,
-  ℤ,
-  pos,
-  neg_ℤ,
-  ◌<ℤ◌,
-  Bool,
-  false,
-  not,
-  ◌&&◌,
-  ◌||◌,
-  ◌==◌,
-  List,
-  Option,
-  None,
-  Some,
-}
+use Rattle.std.specs.Prelude.{◌≡◌, refl, ℕ, ℤ, pos, neg_ℤ, ◌<ℤ◌, Bool, false, not, ◌&&◌, ◌||◌, ◌==◌, List, Option, None}
+use Rattle.std.specs.Prelude.{Some}
 use Rattle.std.specs.Int.Signed.{lt_z}
 use Rattle.std.specs.List.{find}
 use Rattle.std.proofs.Common.{arith, ap, sym, ◌∙◌}
@@ -31,6 +14,7 @@ use Rattle.point_order.proofs.Cited.{swap_first, swap_last, swap_middle}
 use Rattle.del_laws.proofs.Cited.{lifted_swap23, out_is}
 use Rattle.mesh_check.specs.Flaws.{is_inside_with}
 use Rattle.mesh_check.proofs.Flaws.{find_same}
+use Rattle.del_laws.proofs.Cited.{out_swap23 as out_turned}
 
 -- ---- signs
 
@@ -112,10 +96,6 @@ opposite_turned a b c m p = rw (
   swap_middle a b c m,
   swap_middle a b c p,
 ) (signs_turned (orientation a b c m) (orientation a b c p))
-
--- the lifted determinant turns its sign
-out_turned : (a b c f e : ℕ) → out a c b f e ≡ neg_ℤ (out a b c f e)
-out_turned a b c f e = out_is a c b f e ∙ lifted_swap23 height a b c f e ∙ ap neg_ℤ (sym (out_is a b c f e))
 
 -- outside
 pub outside_turned : (a b c f e : ℕ) → is_outside a c b f e ≡ is_outside a b c f e

@@ -1,38 +1,11 @@
 -- What a verdict on lists says of them.
-use Rattle.std.specs.Prelude.{
-  ◌≡◌,
-  refl,
-  ℕ,
-  Bool,
-  true,
-  false,
-  not,
-  ◌||◌,
-  List,
-  [],
-  ◌∷◌,
-  Option,
-  None,
-  Some,
-  Result,
-  Ok,
-  ◌==◌,
-  length,
-  slice_index_or,
-}
+use Rattle.std.specs.Prelude.{◌≡◌, refl, ℕ, Bool, true, false, not, ◌||◌, List, [], ◌∷◌, Option, None, Some, Result, Ok}
+use Rattle.std.specs.Prelude.{◌==◌, length, slice_index_or}
 use Rattle.std.specs.declared.alloc.AllocError.{AllocError}
 use Rattle.std.specs.List.{list_all}
 use Rattle.std.proofs.Common.{inl, inr, ap, sym, subst, ◌∙◌}
-use Rattle.list_laws.proofs.Cited.{
-  all_from,
-  all_true,
-  both_true,
-  not_both,
-  not_from,
-  not_true,
-  second_true,
-  first_true as first_of_two,
-}
+use Rattle.list_laws.proofs.Cited.{all_from, all_true, both_true, not_both, not_from, not_true, second_true}
+use Rattle.list_laws.proofs.Cited.{first_true as first_of_two}
 use Rattle.point_order.specs.declared.cell.Cell.{Cell}
 use Rattle.point_order.specs.declared.cell.Cell.TheVariants.{Full, Open}
 use Rattle.point_order.specs.declared.cell.Facet.{Facet}
@@ -52,22 +25,13 @@ use Rattle.mesh_check.specs.declared.flaw.Flaw.{Flaw}
 use Rattle.mesh_check.specs.declared.flaw.Flaw.TheVariants.{Empty, FlatCell, Sides, Inside, OpenFacet}
 use Rattle.mesh_check.specs.declared.flaw.Verdict.{Verdict}
 use Rattle.mesh_check.specs.declared.flaw.Verdict.TheVariants.{Good, Bad}
-use Rattle.mesh_check.specs.Flaws.{
-  AreCells,
-  IsFacet,
-  IsFlaw,
-  IsInTwo,
-  IsVerdict,
-  are_apart,
-  first_flaw,
-  is_flat_cell,
-  is_inside,
-  as_cells,
-}
+use Rattle.mesh_check.specs.Flaws.{AreCells, IsFacet, IsFlaw, IsInTwo, IsVerdict, are_apart, first_flaw, is_flat_cell}
+use Rattle.mesh_check.specs.Flaws.{is_inside, as_cells}
 use Rattle.mesh_check.specs.Laws.{AreInComplex, AreSound, FlawIsTrue, FlawShows, GoodIsComplex, IsComplex}
 use Rattle.mesh_check.proofs.Flaws.{IsSound, first_of_cell, first_true, none_flawed, sound}
 use Rattle.mesh_check.proofs.Triples.{open_is_sound, sound_is_open}
 use Rattle.mesh_check.proofs.Turned.{flat_front, flat_second, flat_third}
+use Rattle.mesh_check.proofs.Triples.{true_not}
 
 -- the law FlawIsTrue
 pub flaw_is_true : FlawIsTrue
@@ -78,11 +42,6 @@ flaw_is_true s l (Inside c p) v = first_true s l l (Inside c p) (λ c m. m) v
 flaw_is_true s l (OpenFacet f) v = (v.1.is, v.1.open_facet)
 
 -- ---- the complex has no flaw
-
--- what is true is not false
-true_not : (p : Bool) → p ≡ true → not p ≡ false
-true_not true e = refl
-true_not false e = cc
 
 -- four points that are a cell
 full_sound : (s : List ℕ) (a b c d : ℕ) → is_full_cell s a b c d ≡ true → IsSound s (Full (a ∷ b ∷ c ∷ d ∷ []))

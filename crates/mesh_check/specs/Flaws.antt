@@ -1,24 +1,7 @@
 -- What is wrong with lists that are to be the complex of a set of points, and which flaw is the first.
 -- The two lists are one list of cells: the Full cells, and the triples as Open cells.
-use Rattle.std.specs.Prelude.{
-  ◌≡◌,
-  ℕ,
-  Bool,
-  true,
-  false,
-  not,
-  ◌||◌,
-  List,
-  [],
-  ◌∷◌,
-  ◌⊎◌,
-  Option,
-  None,
-  Some,
-  if◌then◌else◌,
-  map,
-  ◌++◌,
-}
+use Rattle.std.specs.Prelude.{◌≡◌, ℕ, Bool, true, false, not, ◌||◌, List, [], ◌∷◌, ◌⊎◌, Option, None, Some}
+use Rattle.std.specs.Prelude.{if◌then◌else◌, map, ◌++◌}
 use Rattle.std.specs.List.{find, list_any}
 use Rattle.std.specs.List.Sorted.{IsStrictlySortedBy}
 use Rattle.std.specs.declared.cmp.Ordering.{Ordering}

@@ -10,17 +10,8 @@ ghost use Rattle.point_order.specs.declared.cell.Cell.TheVariants.{Full, Open};
 ghost use Rattle.mesh_check.specs.declared.gaps.Part.{Part as PartOf};
 ghost use Rattle.mesh_check.specs.declared.gaps.Side.{Side as SideParts};
 ghost use Rattle.mesh_check.specs.Flaws.{as_cells};
-ghost use Rattle.mesh_check.specs.Sides.{
-  AreSidesIn,
-  IsPair,
-  IsUnpaired,
-  OpenIn,
-  OpenIs,
-  is_in as is_in_part,
-  side_cmp,
-  side_of,
-  sides_in,
-};
+ghost use Rattle.mesh_check.specs.Sides.{AreSidesIn, IsPair, IsUnpaired, OpenIn, OpenIs, is_in as is_in_part, side_cmp};
+ghost use Rattle.mesh_check.specs.Sides.{side_of, sides_in};
 
 use cell_lists::QuadList;
 use point_order::{Cell, Facet, Tri};

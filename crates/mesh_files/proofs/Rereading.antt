@@ -1,33 +1,6 @@
 -- The text of a report of a mesh alone leads, line by line, to the mesh.
-use Rattle.std.proofs.Common.{
-  ◌≡◌,
-  ℕ,
-  zero,
-  suc,
-  ◌+◌,
-  ◌<◌,
-  ◌≤◌,
-  ◌^◌,
-  true,
-  false,
-  ltb,
-  List,
-  [],
-  ◌∷◌,
-  ◌++◌,
-  length,
-  map,
-  refl,
-  sym,
-  ap,
-  subst,
-  ◌∙◌,
-  arith,
-  inl,
-  inr,
-  append_assoc,
-  append-nil,
-}
+use Rattle.std.proofs.Common.{◌≡◌, ℕ, zero, suc, ◌+◌, ◌<◌, ◌≤◌, ◌^◌, true, false, ltb, List, [], ◌∷◌, ◌++◌, length, map}
+use Rattle.std.proofs.Common.{refl, sym, ap, subst, ◌∙◌, arith, inl, inr, append_assoc, append-nil}
 use Rattle.std.specs.Prelude.{◌⊎◌, ⊤, codes, decimal, slice_index_or, None, Option}
 use Rattle.std.specs.List.{AllByRecursion, concat, join_with_byte}
 use Rattle.std.specs.List.Sorted.{IsStrictlySortedBy}
@@ -41,15 +14,8 @@ use Rattle.list_laws.specs.Lists.{IsIn, IsAscending}
 use Rattle.list_laws.proofs.Cited.{below_each, in_left, in_right}
 use Rattle.point_order.specs.Coordinates.{x_of, y_of, z_of, IsKey}
 use Rattle.edit_history.specs.declared.history.Reply.{Reply}
-use Rattle.edit_history.specs.declared.history.Reply.TheVariants.{
-  Inserted,
-  Duplicate,
-  Removed,
-  Missing,
-  Flat,
-  Moved,
-  Occupied,
-}
+use Rattle.edit_history.specs.declared.history.Reply.TheVariants.{Inserted, Duplicate, Removed, Missing, Flat, Moved}
+use Rattle.edit_history.specs.declared.history.Reply.TheVariants.{Occupied}
 use Rattle.edit_files.specs.Lines.{lines_of}
 use Rattle.edit_files.specs.Numbers.{IsNumber, IsNumberOf}
 use Rattle.edit_files.specs.Forms.{IsPointLine}
@@ -61,41 +27,15 @@ use Rattle.mesh_reader.specs.declared.place.Part.{Part}
 use Rattle.mesh_reader.specs.declared.place.Part.TheVariants.{Replies, Points, Cells, Hull}
 use Rattle.mesh_reader.specs.declared.place.Due.{Due}
 use Rattle.mesh_reader.specs.declared.place.Due.TheVariants.{Title, Head, Body, Last, Nothing}
-use Rattle.mesh_reader.specs.Grammar.{
-  AllLead,
-  AreIndices,
-  IsAfter,
-  IsHead,
-  IsIndexLine,
-  IsIndexOf,
-  IsLess,
-  IsMeshText,
-  IsTaken,
-  Leads,
-  MeshParts,
-  Reached,
-  at_end,
-  at_title,
-  behind,
-  lines_due,
-  most_of,
-  no_parts,
-  point_limit,
-  head_word,
-}
-use Rattle.mesh_reader.specs.Grammar.{reply_word as read_word}
+use Rattle.mesh_reader.specs.Grammar.{AllLead, AreIndices, IsAfter, IsHead, IsIndexLine, IsIndexOf, IsLess, IsMeshText}
+use Rattle.mesh_reader.specs.Grammar.{IsTaken, Leads, MeshParts, Reached, at_end, at_title, behind, lines_due, most_of}
+use Rattle.mesh_reader.specs.Grammar.{no_parts, point_limit, head_word, reply_word as read_word}
 use Rattle.mesh_reader.specs.Order.{AreInOrder, IsInOrder}
-use Rattle.mesh_files.specs.Text.{
-  ReportParts,
-  full_corners,
-  hull_corners,
-  mesh_blocks,
-  order_block,
-  report_text,
-  shape_blocks,
-}
+use Rattle.mesh_files.specs.Text.{ReportParts, full_corners, hull_corners, mesh_blocks, order_block, report_text}
+use Rattle.mesh_files.specs.Text.{shape_blocks}
 use Rattle.mesh_reader.specs.Grammar.{reply_word}
 use Rattle.mesh_files.specs.Reading.{IsOfMesh, WrittenIsRead, mesh_of}
+use Rattle.edit_files.proofs.Cited.{point_no_feed as point_feed}
 
 -- a place by its parts
 abbrev at : Due → MeshParts → Reached
@@ -239,15 +179,6 @@ point_read : (p : ℕ) → IsKey p → IsPointLine (shown_point p) p
 point_read p key = subst (λ (l : List ℕ). IsPointLine l p) (sym (spaced_three (x_of p) (y_of p) (z_of p)))
     (point_line p key)
 
--- a point line has no line feed
-point_feed : (line : List ℕ) (p : ℕ) → IsPointLine line p → HasNo 10 line
-point_feed line p s =
-    let x : HasNo 10 s.x = number_without 10 s.x (omega arith) s.x_value.number in
-    let y : HasNo 10 s.y = number_without 10 s.y (omega arith) s.y_value.number in
-    let z : HasNo 10 s.z = number_without 10 s.z (omega arith) s.z_value.number in
-    let both : HasNo 10 (s.x ++ 32 ∷ s.y) = without_append 10 s.x (32 ∷ s.y) x (refl, y) in
-    subst (λ (l : List ℕ). HasNo 10 l) (sym s.fields) (without_append 10 (s.x ++ 32 ∷ s.y) (32 ∷ s.z) both (refl, z))
-
 -- the last of a front of ascending numbers
 last_below : (l m : List ℕ) (x : ℕ) → IsAscending (l ++ x ∷ m) → IsAfter (λ r q. r < q) l x
 last_below [] m x a = tt
@@ -298,10 +229,6 @@ index_at (x ∷ s) p a m = elim (cases_lt x p) [
       ] in
       rw e (omega arith, same)
 ]
-
--- numbers as they are written
-abbrev shown_numbers : List ℕ → List (List ℕ)
-shown_numbers ns = map decimal ns
 
 -- numbers with a space between two are their texts so joined
 spaced_joined : (ns : List ℕ) → spaced ns ≡ join_with_byte 32 (map decimal ns)

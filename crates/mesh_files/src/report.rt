@@ -9,16 +9,8 @@ ghost use Rattle.text_sheets.specs.Lines.{block};
 ghost use Rattle.text_sheets.specs.Sheets.{Puts};
 ghost use Rattle.mesh_files.specs.Report.{AreCountedInOrder, parts_of, shapes_seen};
 ghost use Rattle.text_sheets.specs.Indices.{indices_line};
-ghost use Rattle.mesh_files.specs.Text.{
-  reply_line,
-  point_line,
-  full_corners,
-  hull_corners,
-  tag_line,
-  order_block,
-  mesh_blocks,
-  report_text,
-};
+ghost use Rattle.mesh_files.specs.Text.{reply_line, point_line, full_corners, hull_corners, tag_line, order_block};
+ghost use Rattle.mesh_files.specs.Text.{mesh_blocks, report_text};
 ghost use Rattle.mesh_reader.specs.Grammar.{reply_word};
 
 use crate::rows::{Beside, InTurn, RowLines, Rows, Way};

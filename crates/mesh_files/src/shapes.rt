@@ -1,21 +1,7 @@
 //! The block of a radius: the faces of an alpha complex.
 
-ghost use Rattle.std.specs.Prelude.{
-  ◌≡◌,
-  ◌<◌,
-  ◌++◌,
-  [],
-  ◌∷◌,
-  None,
-  codes,
-  decimal,
-  length,
-  map,
-  slice_index_or,
-  IfOk,
-  OnOk,
-  OnErr,
-};
+ghost use Rattle.std.specs.Prelude.{◌≡◌, ◌<◌, ◌++◌, [], ◌∷◌, None, codes, decimal, length, map, slice_index_or, IfOk};
+ghost use Rattle.std.specs.Prelude.{OnOk, OnErr};
 ghost use Rattle.std.specs.List.{concat};
 ghost use Rattle.point_order.specs.Sets.{IsAscending};
 ghost use Rattle.std.specs.Io.KnownBytes.{Appends};
@@ -26,15 +12,8 @@ ghost use Rattle.text_sheets.specs.Lines.{block, held_line};
 ghost use Rattle.text_sheets.specs.Sheets.{Puts};
 ghost use Rattle.mesh_files.specs.Report.{AreCountedInOrder, shapes_seen};
 ghost use Rattle.text_sheets.specs.Indices.{index_of, indices_line};
-ghost use Rattle.mesh_files.specs.Text.{
-  kind_word,
-  face_line,
-  face_blocks,
-  shape_text as shape_text_of,
-  shape_blocks,
-  points_of_faces,
-  counted_points,
-};
+ghost use Rattle.mesh_files.specs.Text.{kind_word, face_line, face_blocks, shape_text as shape_text_of, shape_blocks};
+ghost use Rattle.mesh_files.specs.Text.{points_of_faces, counted_points};
 
 use crate::rows::{InTurn, RowLines, Rows, Way, put_face};
 use alpha_complex::Shape;

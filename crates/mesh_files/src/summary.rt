@@ -7,13 +7,8 @@ ghost use Rattle.byte_ends.specs.Ends.{HasCause};
 ghost use Rattle.alpha_complex.specs.Shapes.{shape_seen};
 ghost use Rattle.text_sheets.specs.Sheets.{Puts};
 ghost use Rattle.mesh_files.specs.Report.{parts_of, shapes_seen};
-ghost use Rattle.mesh_files.specs.Summary.{
-  replies_with as count_of_word,
-  reply_count_line,
-  mesh_counts,
-  shape_line,
-  summary_text as summary_text_of,
-};
+ghost use Rattle.mesh_files.specs.Summary.{replies_with as count_of_word, reply_count_line, mesh_counts, shape_line};
+ghost use Rattle.mesh_files.specs.Summary.{summary_text as summary_text_of};
 
 use crate::report::{Report, full_count, hull_count, word_of};
 use alpha_complex::Shape;

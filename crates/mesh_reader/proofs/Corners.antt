@@ -1,34 +1,6 @@
 -- The lines of cells and triples: indices in range, of points that ascend.
-use Rattle.std.proofs.Common.{
-  ◌≡◌,
-  ℕ,
-  suc,
-  ◌<◌,
-  Bool,
-  true,
-  false,
-  cond,
-  ltb,
-  ◌&&◌,
-  List,
-  [],
-  ◌∷◌,
-  length,
-  Option,
-  Some,
-  None,
-  Result,
-  Ok,
-  Err,
-  refl,
-  sym,
-  ap,
-  subst,
-  ◌∙◌,
-  arith,
-  inl,
-  inr,
-}
+use Rattle.std.proofs.Common.{◌≡◌, ℕ, suc, ◌<◌, Bool, true, false, cond, ltb, ◌&&◌, List, [], ◌∷◌, length, Option, Some}
+use Rattle.std.proofs.Common.{None, Result, Ok, Err, refl, sym, ap, subst, ◌∙◌, arith, inl, inr}
 use Rattle.std.specs.Prelude.{◌⊎◌, slice_index_or, MatchOption}
 use Rattle.std.proofs.lemmas.Bool.{and_parts, and_from, ltb-true, lt-ltb}
 use Rattle.list_laws.specs.Lists.{IsAscending}
@@ -39,28 +11,10 @@ use Rattle.edit_files.specs.Numbers.{IsNumber}
 use Rattle.edit_files.specs.Judging.{fields_of, number}
 use Rattle.edit_files.proofs.Cited.{Decides, number_of, of_number}
 use Rattle.mesh_reader.specs.Grammar.{AreIndices, HasNumbers, IsIndexLine, IsIndexOf, point_limit}
-use Rattle.mesh_reader.specs.Judging.{
-  ascends,
-  corners_from,
-  field_numbers,
-  in_front,
-  in_order,
-  indexed_corners,
-  indexed_point,
-  indexed_points,
-}
-use Rattle.mesh_reader.proofs.Fields.{
-  AreNumbers,
-  AreRead,
-  form_read,
-  front_some,
-  joined_fields,
-  not_none,
-  numbers_some,
-  read_form,
-  read_numbers,
-  same_value,
-}
+use Rattle.mesh_reader.specs.Judging.{ascends, corners_from, field_numbers, in_front, in_order, indexed_corners}
+use Rattle.mesh_reader.specs.Judging.{indexed_point, indexed_points}
+use Rattle.mesh_reader.proofs.Fields.{AreNumbers, AreRead, form_read, front_some, joined_fields, not_none, numbers_some}
+use Rattle.mesh_reader.proofs.Fields.{read_form, read_numbers, same_value}
 
 -- ---- the order of the points
 

@@ -1,35 +1,6 @@
 -- Judging a line finds whether it leads on where a reading is, and why it does not.
-use Rattle.std.proofs.Common.{
-  ◌≡◌,
-  ℕ,
-  ◌<◌,
-  ◌≤◌,
-  Bool,
-  true,
-  false,
-  cond,
-  eqb,
-  leb,
-  List,
-  [],
-  ◌∷◌,
-  ◌++◌,
-  Option,
-  Some,
-  None,
-  Result,
-  Ok,
-  Err,
-  refl,
-  sym,
-  ap,
-  subst,
-  ◌∙◌,
-  arith,
-  inl,
-  inr,
-  eq-eqb,
-}
+use Rattle.std.proofs.Common.{◌≡◌, ℕ, ◌<◌, ◌≤◌, Bool, true, false, cond, eqb, leb, List, [], ◌∷◌, ◌++◌, Option, Some}
+use Rattle.std.proofs.Common.{None, Result, Ok, Err, refl, sym, ap, subst, ◌∙◌, arith, inl, inr, eq-eqb}
 use Rattle.std.specs.Prelude.{◌⊎◌, ◌≢◌, codes, MatchOption}
 use Rattle.std.specs.Borrow.{Bor}
 use Rattle.std.specs.Str.{bytes_eq}
@@ -43,29 +14,11 @@ use Rattle.mesh_reader.specs.declared.place.Part.{Part}
 use Rattle.mesh_reader.specs.declared.place.Part.TheVariants.{Replies, Points, Cells, Hull}
 use Rattle.mesh_reader.specs.declared.place.Due.{Due}
 use Rattle.mesh_reader.specs.declared.place.Due.TheVariants.{Title, Head, Body, Last, Nothing}
-use Rattle.mesh_reader.specs.Grammar.{
-  HasFormOf,
-  HasHeadForm,
-  IsHead,
-  IsTaken,
-  Leads,
-  MeshParts,
-  Reached,
-  lines_due,
-  most_of,
-  head_word,
-}
+use Rattle.mesh_reader.specs.Grammar.{HasFormOf, HasHeadForm, IsHead, IsTaken, Leads, MeshParts, Reached, lines_due}
+use Rattle.mesh_reader.specs.Grammar.{most_of, head_word}
 use Rattle.mesh_reader.specs.Faults.{IsMeshReason}
-use Rattle.mesh_reader.specs.Judging.{
-  announced,
-  head_count,
-  headed,
-  stripped,
-  taken,
-  then_due,
-  transition,
-  transition_at,
-}
+use Rattle.mesh_reader.specs.Judging.{announced, head_count, headed, stripped, taken, then_due, transition}
+use Rattle.mesh_reader.specs.Judging.{transition_at}
 use Rattle.mesh_reader.proofs.Fields.{not_none, same_value}
 use Rattle.mesh_reader.proofs.Taken.{err_one, ok_err, ok_one, taken_decided, taken_form}
 

@@ -1,40 +1,14 @@
 -- The numbers of a line's fields.
-use Rattle.std.proofs.Common.{
-  ◌≡◌,
-  ℕ,
-  zero,
-  suc,
-  List,
-  [],
-  ◌∷◌,
-  length,
-  Option,
-  Some,
-  None,
-  refl,
-  sym,
-  ap,
-  subst,
-  ◌∙◌,
-  arith,
-  inl,
-  inr,
-}
+use Rattle.std.proofs.Common.{◌≡◌, ℕ, zero, suc, List, [], ◌∷◌, length, Option, Some, None, refl, sym, ap, subst, ◌∙◌}
+use Rattle.std.proofs.Common.{arith, inl, inr}
 use Rattle.std.specs.Prelude.{⊤}
 use Rattle.std.specs.List.{join_with_byte}
 use Rattle.std.proofs.lemmas.List.Splits.{join_with_byte-slice_split}
 use Rattle.list_laws.specs.Lists.{IsIn}
 use Rattle.edit_files.specs.Numbers.{IsNumber}
 use Rattle.edit_files.specs.Judging.{fields_of, number}
-use Rattle.edit_files.proofs.Cited.{
-  fields_front,
-  fields_last,
-  number_no_space,
-  number_read,
-  number_some,
-  reading,
-  some_field,
-}
+use Rattle.edit_files.proofs.Cited.{fields_front, fields_last, number_no_space, number_read, number_some, reading}
+use Rattle.edit_files.proofs.Cited.{some_field}
 use Rattle.mesh_reader.specs.Grammar.{HasNumbers}
 use Rattle.mesh_reader.specs.Judging.{field_numbers, in_front}
 

@@ -18,22 +18,8 @@ use Rattle.mesh_reader.specs.declared.place.Due.TheVariants.{Title, Head, Body, 
 use Rattle.edit_files.specs.Lines.{lines_of}
 use Rattle.edit_files.specs.declared.fault.ReadRefused.{ReadRefused}
 use Rattle.mesh_reader.specs.declared.mesh_file.PackedMesh.{PackedMesh}
-use Rattle.mesh_reader.specs.Grammar.{
-  AllLead,
-  AreIndices,
-  IsAfter,
-  IsIndexLine,
-  IsLess,
-  IsMeshText,
-  IsTaken,
-  Leads,
-  MeshParts,
-  Reached,
-  at_end,
-  at_title,
-  no_parts,
-  parts,
-}
+use Rattle.mesh_reader.specs.Grammar.{AllLead, AreIndices, IsAfter, IsIndexLine, IsLess, IsMeshText, IsTaken, Leads}
+use Rattle.mesh_reader.specs.Grammar.{MeshParts, Reached, at_end, at_title, no_parts, parts}
 use Rattle.mesh_reader.specs.Order.{AreInOrder, IsInOrder}
 
 -- all of a list in order are before what its last is before

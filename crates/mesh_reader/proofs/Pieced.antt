@@ -1,41 +1,7 @@
 -- A text that comes in pieces: its lines are counted, and what is left of it is judged as all of it.
-use Rattle.std.proofs.Common.{
-  ◌≡◌,
-  ℕ,
-  zero,
-  suc,
-  ◌+◌,
-  ◌<◌,
-  ◌≤◌,
-  ◌≢◌,
-  List,
-  [],
-  ◌∷◌,
-  ◌++◌,
-  append_assoc,
-  append-nil,
-  add-one,
-  length,
-  take,
-  drop,
-  take-append-drop,
-  get_or,
-  eqb,
-  ◌==◌,
-  ne_eqb,
-  false,
-  true,
-  vec_len,
-  Result,
-  Ok,
-  Err,
-  refl,
-  sym,
-  ap,
-  subst,
-  ◌∙◌,
-  arith,
-}
+use Rattle.std.proofs.Common.{◌≡◌, ℕ, zero, suc, ◌+◌, ◌<◌, ◌≤◌, ◌≢◌, List, [], ◌∷◌, ◌++◌, append_assoc, append-nil}
+use Rattle.std.proofs.Common.{add-one, length, take, drop, take-append-drop, get_or, eqb, ◌==◌, ne_eqb, false, true}
+use Rattle.std.proofs.Common.{vec_len, Result, Ok, Err, refl, sym, ap, subst, ◌∙◌, arith}
 use Rattle.std.specs.List.{onto_first}
 use Rattle.std.proofs.lemmas.Bool.{eqb-false, eqb-true}
 use Rattle.std.proofs.Math.Seq.{drop-cons, take-suc}
@@ -115,21 +81,6 @@ wrong_line (line_refusals.Bad why) n a line fault h e lines =
 
 -- ---- lines of bytes
 
--- a front without a line feed, and one byte more
-pub no_feed_more : (bytes : List ℕ) (i : ℕ) → i < length bytes → HasNoFeed (take i bytes) → get_or bytes i 0 ≢ 10
-    → HasNoFeed (take (i + 1) bytes)
-no_feed_more bytes i l h n =
-    rw (add-one, take-suc bytes i 0 l)
-    (without_append 10 (take i bytes) (get_or bytes i 0 ∷ []) h (ne_eqb (get_or bytes i 0) 10 n, tt))
-
--- bytes about a line feed
-pub feed_at : (bytes : List ℕ) (i : ℕ) → i < length bytes → get_or bytes i 0 ≡ 10
-    → bytes ≡ take i bytes ++ 10 ∷ drop (i + 1) bytes
-feed_at bytes i l e =
-    sym (take-append-drop i bytes)
-    ∙ ap (λ (rest : List ℕ). take i bytes ++ rest) (drop-cons bytes i 0 l ∙ ap (λ (b : ℕ). b ∷ drop (suc i) bytes) e)
-    ∙ ap (λ (k : ℕ). take i bytes ++ 10 ∷ drop k bytes) (sym (add-one i))
-
 -- bytes without a line feed are one line
 pub last_line : (bytes : List ℕ) → HasNoFeed bytes → 0 < length bytes → lines_of bytes ≡ bytes ∷ []
 last_line [] h l = absurd (omega arith)
@@ -196,20 +147,6 @@ piece_ignored r now piece any s b bytes h =
       same = λ more.
           ap (λ (v : State). comes_to v (lines_of (now.begun.items ++ more))) s
           ∙ any (lines_of (now.begun.items ++ more)) (lines_of (r.begun.items ++ (piece ++ more)))
-          ∙ h.same (piece ++ more)
-          ∙ ap (λ (l : List ℕ). judge_mesh 1 at_title (lines_of l)) (sym (append_assoc bytes piece more));
-    }
-
--- a piece that ends no line
-pub piece_begun : (r now : MeshReader) (piece : List ℕ) → HasNoFeed piece → ◌≡◌ {A = State} now.state r.state
-    → now.begun.items ≡ r.begun.items ++ piece → (bytes : List ℕ) → HasTaken r bytes → HasTaken now (bytes ++ piece)
-piece_begun r now piece n s b bytes h =
-    record {
-      begun = subst HasNoFeed (sym b) (without_append 10 r.begun.items piece h.begun n);
-      same = λ more.
-          ap (λ (v : State). comes_to v (lines_of (now.begun.items ++ more))) s
-          ∙ ap (λ (l : List ℕ). comes_to r.state (lines_of (l ++ more))) b
-          ∙ ap (λ (l : List ℕ). comes_to r.state (lines_of l)) (append_assoc r.begun.items piece more)
           ∙ h.same (piece ++ more)
           ∙ ap (λ (l : List ℕ). judge_mesh 1 at_title (lines_of l)) (sym (append_assoc bytes piece more));
     }

@@ -1,28 +1,6 @@
 -- What is taken of a line of a list, and why it is not.
-use Rattle.std.proofs.Common.{
-  ◌≡◌,
-  ℕ,
-  ◌<◌,
-  Bool,
-  true,
-  false,
-  cond,
-  ltb,
-  List,
-  [],
-  ◌∷◌,
-  ◌++◌,
-  Result,
-  Ok,
-  Err,
-  refl,
-  sym,
-  ap,
-  ◌∙◌,
-  arith,
-  inl,
-  inr,
-}
+use Rattle.std.proofs.Common.{◌≡◌, ℕ, ◌<◌, Bool, true, false, cond, ltb, List, [], ◌∷◌, ◌++◌, Result, Ok, Err, refl}
+use Rattle.std.proofs.Common.{sym, ap, ◌∙◌, arith, inl, inr}
 use Rattle.std.specs.Prelude.{◌⊎◌, nat_lt}
 use Rattle.std.specs.Str.{bytes_eq}
 use Rattle.std.specs.Cmp.Lexicographic.{slice_cmp}
@@ -33,15 +11,8 @@ use Rattle.std.specs.Cmp.{nat_cmp_is}
 use Rattle.std.proofs.lemmas.Bool.{cases_lt, le-ltb, ltb-true, lt-ltb}
 use Rattle.std.proofs.lemmas.Slice.Eq.{bytes_eq-Decides}
 use Rattle.edit_history.specs.declared.history.Reply.{Reply}
-use Rattle.edit_history.specs.declared.history.Reply.TheVariants.{
-  Inserted,
-  Duplicate,
-  Removed,
-  Missing,
-  Flat,
-  Moved,
-  Occupied,
-}
+use Rattle.edit_history.specs.declared.history.Reply.TheVariants.{Inserted, Duplicate, Removed, Missing, Flat, Moved}
+use Rattle.edit_history.specs.declared.history.Reply.TheVariants.{Occupied}
 use Rattle.edit_files.specs.declared.fault.Why.{Why}
 use Rattle.edit_files.specs.declared.fault.Why.TheVariants.{Field, Range}
 use Rattle.edit_files.specs.Forms.{HasPointForm, IsPointLine}
@@ -49,18 +20,11 @@ use Rattle.edit_files.specs.Judging.{point}
 use Rattle.edit_files.proofs.Cited.{Decides, points_decided}
 use Rattle.mesh_reader.specs.declared.place.Part.{Part}
 use Rattle.mesh_reader.specs.declared.place.Part.TheVariants.{Replies, Points, Cells, Hull}
-use Rattle.mesh_reader.specs.Grammar.{
-  HasFormOf,
-  HasNumbers,
-  IsAfter,
-  IsIndexLine,
-  IsLess,
-  IsTaken,
-  MeshParts,
-  reply_word,
-}
+use Rattle.mesh_reader.specs.Grammar.{HasFormOf, HasNumbers, IsAfter, IsIndexLine, IsLess, IsTaken, MeshParts}
+use Rattle.mesh_reader.specs.Grammar.{reply_word}
 use Rattle.mesh_reader.specs.Judging.{indexed_corners, is_after_last, is_less, reply_among, reply_of, taken, with_one}
 use Rattle.mesh_reader.proofs.Corners.{corners_decided, index_form}
+use Rattle.list_laws.proofs.Cited.{is_less as less_from}
 
 -- an answer is not a refusal
 pub ok_err : {A E : Type 0} (a : A) (e : E) → ◌≡◌ {A = Result A E} (Ok a) (Err e) → ⊥
@@ -93,12 +57,6 @@ pub says_after : {X : Type 0} (before : X → X → Bool) (Before : X → X → 
 says_after before Before f [] q h = refl
 says_after before Before f (r ∷ []) q h = f r q h
 says_after before Before f (r ∷ o ∷ l) q h = says_after before Before f (o ∷ l) q h
-
--- the test of an order says it
-less_from : (o : Ordering) → is_lt o ≡ true → o ≡ Less
-less_from Less h = refl
-less_from Equal h = absurd cc
-less_from Greater h = absurd cc
 
 -- a list that is found less is less
 less_says : (a b : List ℕ) → is_less a b ≡ true → IsLess a b

@@ -37,12 +37,3 @@ judge_bad n a why lines line rest e h =
 pub judge_end : (n : ℕ) (a : Reached) (lines : List (List ℕ)) → lines ≡ []
     → judge_mesh n a lines ≡ judged_end n a.due a.taken
 judge_end n a lines e = ap (judge_mesh n a) e ∙ judge_nil n a
-
--- a line that was not taken
-pub judge_refused : (e : LineRefused) (n : ℕ) (a : Reached) (lines : List (List ℕ)) (line : List ℕ) (rest : List
-    (List ℕ)) (whole : Result MeshParts Fault) → lines ≡ line ∷ rest → IsRefusal e (transition a line)
-    → judge_mesh n a lines
-    ≡ whole → Fails (refusal_at n e) whole
-judge_refused line_refusals.Memory n a lines line rest whole e h so_far = tt
-judge_refused (line_refusals.Bad why) n a lines line rest whole e h so_far = sym so_far
-    ∙ judge_bad n a why lines line rest e h

@@ -1,38 +1,14 @@
 //! The lines of a mesh's text: heads, replies, and cells by the indices of their points.
 
-ghost use Rattle.std.specs.Prelude.{
-  ◌≡◌,
-  ◌<◌,
-  [],
-  ◌∷◌,
-  ◌&&◌,
-  nat_lt,
-  true,
-  false,
-  Some,
-  None,
-  Ok,
-  Err,
-  MatchOption,
-  slice_index_or,
-  length,
-  if◌then◌else◌,
-};
+ghost use Rattle.std.specs.Prelude.{◌≡◌, ◌<◌, [], ◌∷◌, ◌&&◌, nat_lt, true, false, Some, None, Ok, Err, MatchOption};
+ghost use Rattle.std.specs.Prelude.{slice_index_or, length, if◌then◌else◌};
 ghost use Rattle.std.specs.Str.{bytes_eq};
 ghost use Rattle.edit_files.specs.Judging.{fields_of};
 ghost use Rattle.edit_files.specs.declared.fault.Why.TheVariants.{Range};
 ghost use Rattle.mesh_reader.specs.Grammar.{point_limit};
-ghost use Rattle.mesh_reader.specs.Judging.{
-  announced as announced_by,
-  ascends,
-  field_numbers,
-  in_order,
-  indexed_corners,
-  indexed_point as point_at_index,
-  indexed_points,
-  reply_of as reply_in,
-  stripped,
-};
+ghost use Rattle.mesh_reader.specs.Judging.{announced as announced_by, ascends, field_numbers, in_order};
+ghost use Rattle.mesh_reader.specs.Judging.{indexed_corners, indexed_point as point_at_index, indexed_points};
+ghost use Rattle.mesh_reader.specs.Judging.{reply_of as reply_in, stripped};
 
 use crate::place::{POINT_LIMIT, Part, word_of};
 use cell_lists::Places;

@@ -1,25 +1,13 @@
 //! Reading the text of a mesh, line by line.
 
-ghost use Rattle.std.specs.Prelude.{◌≡◌, IfSome, Err, nat_lt};
-ghost use Rattle.std.specs.Prelude.{if◌then◌else◌};
+ghost use Rattle.std.specs.Prelude.{◌≡◌, IfSome, Err, nat_lt, if◌then◌else◌};
 ghost use Rattle.std.specs.Str.{bytes_eq};
 ghost use Rattle.edit_files.specs.Judging.{Gives};
 ghost use Rattle.edit_files.specs.declared.fault.Why.TheVariants.{Section};
 ghost use Rattle.mesh_reader.specs.declared.place.Part.TheVariants as lists;
 ghost use Rattle.mesh_reader.specs.Grammar.{at_title, parts};
-ghost use Rattle.mesh_reader.specs.Judging.{
-  IsTransition,
-  announced as announced_by,
-  headed,
-  is_after_last,
-  is_less,
-  judged_end,
-  now_due,
-  reached,
-  refusal_at,
-  taken,
-  transition,
-};
+ghost use Rattle.mesh_reader.specs.Judging.{IsTransition, announced as announced_by, headed, is_after_last, is_less};
+ghost use Rattle.mesh_reader.specs.Judging.{judged_end, now_due, reached, refusal_at, taken, transition};
 ghost use Rattle.mesh_reader.specs.LinesLeft.{HasAllPoints};
 
 use crate::line::{announced, quad_of, reads, reply_of, tri_of};

@@ -1,51 +1,14 @@
 -- Runs of the edit lines, behind the history of one thread of the points.
-use Rattle.std.specs.Prelude.{
-  ◌≡◌,
-  ℕ,
-  ◌+◌,
-  ◌<◌,
-  ◌≤◌,
-  ◌⊎◌,
-  Bool,
-  true,
-  false,
-  not,
-  List,
-  [],
-  ◌∷◌,
-  ◌++◌,
-  map,
-  length,
-  take,
-  Option,
-  Some,
-  IfSome,
-  IsPermutation,
-}
+use Rattle.std.specs.Prelude.{◌≡◌, ℕ, ◌+◌, ◌<◌, ◌≤◌, ◌⊎◌, Bool, true, false, not, List, [], ◌∷◌, ◌++◌, map, length}
+use Rattle.std.specs.Prelude.{take, Option, Some, IfSome, IsPermutation}
 use Rattle.std.specs.List.{enumerate_from, filter, flat_map}
 use Rattle.std.proofs.Common.{refl, sym, ◌∙◌, ap, subst, inl, inr, arith, append-nil}
 use Rattle.std.proofs.lemmas.List.{length-map, take-map, map-append, append_assoc}
 use Rattle.std.proofs.lemmas.List.Elements.{filter-append}
 use Rattle.std.proofs.lemmas.List.Sorted.{IsPermutation-append, IsPermutation-sym}
-use Rattle.list_laws.proofs.Cited.{
-  EachLater,
-  IsLower,
-  all_of_each,
-  all_pass,
-  among_from,
-  each_of_all,
-  from_append,
-  in_permutation,
-  later_append,
-  later_pairs,
-  mapped_true,
-  none_pass,
-  numbered_below,
-  numbered_from,
-  numbered_lower,
-  pairs_later,
-  same_filter,
-}
+use Rattle.list_laws.proofs.Cited.{EachLater, IsLower, all_of_each, all_pass, among_from, each_of_all, from_append}
+use Rattle.list_laws.proofs.Cited.{in_permutation, later_append, later_pairs, mapped_true, none_pass, numbered_below}
+use Rattle.list_laws.proofs.Cited.{numbered_from, numbered_lower, pairs_later, same_filter}
 use Rattle.point_order.specs.Sets.{IsIn, is_among}
 use Rattle.edit_history.specs.declared.history.Edit.{Edit}
 use Rattle.edit_history.specs.declared.history.Edit.TheVariants.{Add}
@@ -53,15 +16,8 @@ use Rattle.edit_history.specs.declared.history.Entry.{Entry}
 use Rattle.edit_history.specs.Histories.{IsLegal, entries_from}
 use Rattle.edit_history.specs.Laws.{AreIndependent}
 use Rattle.edit_history.specs.Opening.{opening_four, FourPlaces}
-use Rattle.edit_history.specs.OneThread.{
-  Keeps,
-  line_of,
-  lines_of_one_thread,
-  one_thread,
-  opening_first,
-  places,
-  tagged_lines,
-}
+use Rattle.edit_history.specs.OneThread.{Keeps, line_of, lines_of_one_thread, one_thread, opening_first, places}
+use Rattle.edit_history.specs.OneThread.{tagged_lines}
 use Rattle.edit_history.proofs.Cited.{entry_lines, four_law, keeps_law}
 use Rattle.plain_laws.specs.Running.{AreRuns, Pair, RunBehindAlone, RunBehindKeeps, dealt_lines, edit_lines, segments}
 use Rattle.plain_laws.proofs.Runs.{AreKept, InOrder, alone_lines, all_kept, entry_by, legal_is, opening_is, tags_of}

@@ -1,52 +1,16 @@
 -- The opening four and runs of the dealt lines keep the file.
-use Rattle.std.specs.Prelude.{
-  ◌≡◌,
-  ℕ,
-  zero,
-  suc,
-  ◌+◌,
-  ◌*◌,
-  ◌%◌,
-  ◌<◌,
-  ◌≤◌,
-  Bool,
-  true,
-  false,
-  cond,
-  not,
-  ◌&&◌,
-  ◌||◌,
-  ◌==◌,
-  nat_lt,
-  List,
-  [],
-  ◌∷◌,
-  ◌++◌,
-  map,
-  length,
-  take,
-  slice_index,
-  Option,
-  Some,
-  IfSome,
-  IsPermutation,
-}
+use Rattle.std.specs.Prelude.{◌≡◌, ℕ, zero, suc, ◌+◌, ◌*◌, ◌%◌, ◌<◌, ◌≤◌, Bool, true, false, cond, not, ◌&&◌, ◌||◌}
+use Rattle.std.specs.Prelude.{◌==◌, nat_lt, List, [], ◌∷◌, ◌++◌, map, length, take, slice_index, Option, Some, IfSome}
+use Rattle.std.specs.Prelude.{IsPermutation}
 use Rattle.std.specs.List.{filter, flat_map, range_with_len}
 use Rattle.std.proofs.Common.{refl, sym, ◌∙◌, ap, subst, inl, inr, arith, length-append, append-nil}
 use Rattle.std.proofs.lemmas.Bool.Decides.{nat_tests}
 use Rattle.std.proofs.Math.Nat.{mod-lt}
 use Rattle.std.proofs.lemmas.List.{length-map, take-map, map-append, append_assoc}
 use Rattle.std.proofs.lemmas.List.FromFn.{length-range_with_len}
-use Rattle.std.proofs.lemmas.List.Sorted.{
-  IsPermutation-refl,
-  IsPermutation-sym,
-  IsPermutation-trans,
-  IsPermutation-cons,
-  IsPermutation-middle,
-  IsPermutation-append,
-  IsPermutation-append_right,
-  IsPermutation-filter_both,
-}
+use Rattle.std.proofs.lemmas.List.Sorted.{IsPermutation-refl, IsPermutation-sym, IsPermutation-trans}
+use Rattle.std.proofs.lemmas.List.Sorted.{IsPermutation-cons, IsPermutation-middle, IsPermutation-append}
+use Rattle.std.proofs.lemmas.List.Sorted.{IsPermutation-append_right, IsPermutation-filter_both}
 use Rattle.point_order.specs.Sets.{IsIn, is_among}
 use Rattle.edit_history.specs.declared.history.Edit.{Edit}
 use Rattle.edit_history.specs.declared.history.Edit.TheVariants.{Add, Take, Move}
@@ -57,54 +21,16 @@ use Rattle.edit_history.specs.Opening.{opening_four, FourPlaces}
 use Rattle.edit_history.specs.OneThread.{places, tagged_lines, lines_of_one_thread, one_thread, line_of, Keeps}
 use Rattle.edit_history.specs.Laws.{AreIndependent}
 use Rattle.edit_history.proofs.Cited.{entry_lines, four_law, keeps_law, line_at, picked}
-use Rattle.list_laws.proofs.Cited.{
-  EachLater,
-  IsLower,
-  all_of_each,
-  all_pass,
-  each_of_all,
-  from_append,
-  in_permutation,
-  later_across,
-  later_append,
-  later_filter,
-  later_left,
-  later_map,
-  later_pairs,
-  later_right,
-  later_unmap,
-  mapped_true,
-  none_pass,
-  numbered_lower,
-  pairs_later,
-  same_filter,
-  same_true,
-}
+use Rattle.list_laws.proofs.Cited.{EachLater, IsLower, all_of_each, all_pass, each_of_all, from_append, in_permutation}
+use Rattle.list_laws.proofs.Cited.{later_across, later_append, later_filter, later_left, later_map, later_pairs}
+use Rattle.list_laws.proofs.Cited.{later_right, later_unmap, mapped_true, none_pass, numbered_lower, pairs_later}
+use Rattle.list_laws.proofs.Cited.{same_filter, same_true}
 use Rattle.point_order.specs.Coordinates.{x_of, y_of, z_of}
-use Rattle.point_order.specs.Orientation.{
-  x_from,
-  y_from,
-  z_from,
-  minor,
-  triple,
-  orientation,
-  normal_x,
-  normal_y,
-  normal_z,
-}
+use Rattle.point_order.specs.Orientation.{x_from, y_from, z_from, minor, triple, orientation, normal_x, normal_y}
+use Rattle.point_order.specs.Orientation.{normal_z}
 use Rattle.plain_laws.specs.Plain.{IsAnchored, SomeFileIsAnchored, all_edits}
-use Rattle.plain_laws.specs.Running.{
-  Pair,
-  segments,
-  dealt_to,
-  dealt_out,
-  dealt,
-  opening_entries,
-  IsRun,
-  AreRuns,
-  RunKeeps,
-  RunAlone,
-}
+use Rattle.plain_laws.specs.Running.{Pair, segments, dealt_to, dealt_out, dealt, opening_entries, IsRun, AreRuns}
+use Rattle.plain_laws.specs.Running.{RunKeeps, RunAlone}
 use Rattle.plain_laws.proofs.Segments.{segments_keep}
 
 -- ---- entries of lines

@@ -1,65 +1,21 @@
 -- Lines that are cut into segments.
-use Rattle.std.specs.Prelude.{
-  ◌≡◌,
-  ℕ,
-  ◌%◌,
-  ◌<◌,
-  ◌==◌,
-  ◌&&◌,
-  ◌||◌,
-  Bool,
-  true,
-  false,
-  cond,
-  List,
-  [],
-  ◌∷◌,
-  ◌++◌,
-  IsPermutation,
-}
+use Rattle.std.specs.Prelude.{◌≡◌, ℕ, ◌%◌, ◌<◌, ◌==◌, ◌&&◌, ◌||◌, Bool, true, false, cond, List, [], ◌∷◌, ◌++◌}
+use Rattle.std.specs.Prelude.{IsPermutation}
 use Rattle.std.specs.List.{flat_map, list_any, range_with_len}
 use Rattle.std.proofs.Common.{refl, sym, ◌∙◌, ap, subst, inl, inr, arith}
 use Rattle.std.proofs.lemmas.Bool.{false≢true}
 use Rattle.std.proofs.lemmas.List.{append_assoc}
 use Rattle.std.proofs.lemmas.Map.Keys.{IsDistinct-from_apart, IsDistinct-IsPermutation, apart_from_distinct}
-use Rattle.list_laws.proofs.Cited.{
-  EachLater,
-  among_from,
-  among_true,
-  any_from,
-  any_true,
-  below_each,
-  each_of_all,
-  false_if,
-  from_append,
-  in_filtered,
-  later_map,
-  later_pairs,
-  later_weaken,
-  passes,
-  range_ascending,
-  related,
-  same_from,
-  same_test,
-}
+use Rattle.list_laws.proofs.Cited.{EachLater, among_from, among_true, any_from, any_true, below_each, each_of_all}
+use Rattle.list_laws.proofs.Cited.{false_if, from_append, in_filtered, later_map, later_pairs, later_weaken, passes}
+use Rattle.list_laws.proofs.Cited.{range_ascending, related, same_from, same_test}
 use Rattle.point_order.specs.Sets.{IsIn, IsAscending, is_among}
 use Rattle.edit_history.specs.declared.history.Edit.{Edit}
 use Rattle.edit_history.specs.declared.history.Edit.TheVariants.{Add, Take, Move}
 use Rattle.edit_history.specs.Edits.{edit_points, is_move, point_of, share_point}
 use Rattle.edit_history.proofs.Cited.{share_adds}
-use Rattle.plain_laws.specs.Running.{
-  Pair,
-  HaveNoPoint,
-  MovesAlone,
-  OneSegment,
-  SegmentsApart,
-  SegmentsKeepLines,
-  clash,
-  cut,
-  dealt_out,
-  dealt_to,
-  segments,
-}
+use Rattle.plain_laws.specs.Running.{Pair, HaveNoPoint, MovesAlone, OneSegment, SegmentsApart, SegmentsKeepLines, clash}
+use Rattle.plain_laws.specs.Running.{cut, dealt_out, dealt_to, segments}
 
 -- ---- all lines are there
 

@@ -1,23 +1,6 @@
 -- Lines that move nothing.
-use Rattle.std.specs.Prelude.{
-  ◌≡◌,
-  ℕ,
-  zero,
-  suc,
-  ◌<◌,
-  Bool,
-  true,
-  false,
-  cond,
-  ◌==◌,
-  List,
-  [],
-  ◌∷◌,
-  length,
-  None,
-  Some,
-  All,
-}
+use Rattle.std.specs.Prelude.{◌≡◌, ℕ, zero, suc, ◌<◌, Bool, true, false, cond, ◌==◌, List, [], ◌∷◌, length, None, Some}
+use Rattle.std.specs.Prelude.{All}
 use Rattle.std.specs.List.{filter, last_or}
 use Rattle.std.specs.Option.{option_map_or}
 use Rattle.std.proofs.Common.{refl, sym, ◌∙◌, ap, arith}

@@ -5,15 +5,8 @@
 #![tactic(auto)]
 
 ghost use Rattle.plain_laws.specs.Plain.{AnchoredIsPlain, SomeFileIsAnchored, ThereByLast};
-ghost use Rattle.plain_laws.specs.Running.{
-  OneSegment,
-  RunAlone,
-  RunBehindAlone,
-  RunBehindKeeps,
-  RunKeeps,
-  SegmentsApart,
-  SegmentsKeepLines,
-};
+ghost use Rattle.plain_laws.specs.Running.{OneSegment, RunAlone, RunBehindAlone, RunBehindKeeps, RunKeeps};
+ghost use Rattle.plain_laws.specs.Running.{SegmentsApart, SegmentsKeepLines};
 
 /// Where no edit takes one of the opening four, or moves it, every legal history that keeps the file has the same
 /// replies, line by line, and leaves the same points: those that the lines tell by themselves. Without moves these are

@@ -5,17 +5,8 @@ use Rattle.std.proofs.Math.Nat.{pow-suc, pow-le-pow_right}
 use Rattle.whole_ring.specs.Signs.{HasSignOf, below, at_zero, above}
 use Rattle.whole_ring.proofs.Cited.{sgn_same, sign}
 use Rattle.point_order.specs.Heights.{base, top, base_is, top_is, height, sphere_polynomial, out}
-use Rattle.point_order.specs.Laws.{
-  coefficient,
-  PlainSign,
-  TieSign,
-  TieDecided,
-  NeverZero,
-  PlainNotBelow,
-  PlainNotAbove,
-  HeightParts,
-  PartRises,
-}
+use Rattle.point_order.specs.Laws.{coefficient, PlainSign, TieSign, TieDecided, NeverZero, PlainNotBelow, PlainNotAbove}
+use Rattle.point_order.specs.Laws.{HeightParts, PartRises}
 use Rattle.point_order.proofs.Perturbation.{out_sign, base_pos, power_pos}
 use Rattle.point_order.proofs.SignRule.{sign_of_tie, decided}
 

@@ -1,25 +1,6 @@
 -- What the code reads of coordinates, of steps and of minors: the numbers themselves.
-use Rattle.std.proofs.Common.{
-  ◌≡◌,
-  ◌∙◌,
-  ◌<◌,
-  ◌+◌,
-  ◌*◌,
-  ◌^◌,
-  ℕ,
-  ℤ,
-  pos,
-  ◌-ℤ◌,
-  true,
-  false,
-  inl,
-  inr,
-  arith,
-  lit<,
-  w64,
-  to_z,
-  of_z,
-}
+use Rattle.std.proofs.Common.{◌≡◌, ◌∙◌, ◌<◌, ◌+◌, ◌*◌, ◌^◌, ℕ, ℤ, pos, ◌-ℤ◌, true, false, inl, inr, arith, lit<, w64}
+use Rattle.std.proofs.Common.{to_z, of_z}
 use Rattle.std.specs.Prelude.{unsigned_abs}
 use Rattle.std.specs.Int.{cast_signed, cast_unsigned}
 use Rattle.std.specs.Int.Signed.{lt_z}

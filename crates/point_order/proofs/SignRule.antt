@@ -1,30 +1,10 @@
 -- The sign of the lifted determinant at the perturbed heights, by the coefficient that decides a tie.
-use Rattle.std.proofs.Common.{
-  ◌≡◌,
-  ◌≢◌,
-  ◌<◌,
-  ◌≤◌,
-  ◌+◌,
-  ◌⊎◌,
-  inl,
-  inr,
-  ℕ,
-  zero,
-  suc,
-  ℤ,
-  pos,
-  subst,
-  sym,
-  ap,
-  ◌∙◌,
-  arith,
-  false,
-}
+use Rattle.std.proofs.Common.{◌≡◌, ◌≢◌, ◌<◌, ◌≤◌, ◌+◌, ◌⊎◌, inl, inr, ℕ, zero, suc, ℤ, pos, subst, sym, ap, ◌∙◌, arith}
+use Rattle.std.proofs.Common.{false}
 use Rattle.std.proofs.lemmas.Int.{ints}
 use Rattle.std.proofs.lemmas.Bool.Decides.{nat_tests}
 use Rattle.std.proofs.Math.IntN.{neg_ℤ}
-use Rattle.whole_ring.specs.Signs.{HasSignOf}
-use Rattle.whole_ring.specs.Signs.{below, at_zero, above}
+use Rattle.whole_ring.specs.Signs.{HasSignOf, below, at_zero, above}
 use Rattle.whole_ring.proofs.Cited.{sign}
 use Rattle.point_order.specs.Orientation.{orientation, is_zero, is_flat}
 use Rattle.point_order.specs.Heights.{sphere_polynomial, out}

@@ -1,18 +1,7 @@
 -- Determinants and squares of steps whose coordinates are known by equations.
 use Rattle.std.proofs.Common.{ℕ, ℤ, ◌≡◌}
-use Rattle.point_order.specs.Orientation.{
-  x_from,
-  y_from,
-  z_from,
-  minor,
-  triple,
-  normal_x,
-  normal_y,
-  normal_z,
-  orientation,
-  square_of_step,
-  distance,
-}
+use Rattle.point_order.specs.Orientation.{x_from, y_from, z_from, minor, triple, normal_x, normal_y, normal_z}
+use Rattle.point_order.specs.Orientation.{orientation, square_of_step, distance}
 
 -- equal numbers have equal determinants and squares
 pub same_minor : {p q r s k l m n : ℤ} → p ≡ k → q ≡ l → r ≡ m → s ≡ n → minor p q r s ≡ minor k l m n

@@ -3,16 +3,8 @@
 //! The perturbation is symbolic (Edelsbrunner and Mücke, Simulation of Simplicity): the height of a point on the
 //! paraboloid is raised by a part too small to change any sign but that of a tie, the more the greater the point is.
 
-ghost use Rattle.point_order.specs.Laws.{
-  PlainSign,
-  TieSign,
-  TieDecided,
-  NeverZero,
-  PlainNotBelow,
-  PlainNotAbove,
-  HeightParts,
-  PartRises,
-};
+ghost use Rattle.point_order.specs.Laws.{PlainSign, TieSign, TieDecided, NeverZero, PlainNotBelow, PlainNotAbove};
+ghost use Rattle.point_order.specs.Laws.{HeightParts, PartRises};
 
 /// The sign of the lifted determinant at the perturbed heights is that of the in-sphere polynomial where this is not 0,
 /// and else that of the coefficient of the greatest point whose coefficient is not 0.

@@ -3,12 +3,7 @@
 ghost use Rattle.std.specs.Prelude.{◌≡◌, ◌+ℤ◌, ◌*ℤ◌};
 ghost use Rattle.whole_ring.specs.Bounds.{IsWithin};
 ghost use Rattle.point_order.specs.Orientation.{minor, triple, square_of_step, x_from, y_from, z_from};
-ghost use Rattle.point_order.specs.Sizes.{
-  greatest_difference,
-  greatest_minor,
-  greatest_orientation,
-  greatest_square,
-};
+ghost use Rattle.point_order.specs.Sizes.{greatest_difference, greatest_minor, greatest_orientation, greatest_square};
 
 use crate::Point;
 

@@ -1,31 +1,6 @@
 -- Links taken one after another, as far as their alphas are at most a number.
-use Rattle.std.proofs.Common.{
-  ◌≡◌,
-  ◌≢◌,
-  refl,
-  sym,
-  subst,
-  ap,
-  ◌∙◌,
-  ℕ,
-  zero,
-  suc,
-  ◌<◌,
-  ◌≤◌,
-  ◌+◌,
-  inl,
-  inr,
-  Bool,
-  true,
-  false,
-  List,
-  [],
-  ◌∷◌,
-  ◌++◌,
-  length,
-  arith,
-  nat_le,
-}
+use Rattle.std.proofs.Common.{◌≡◌, ◌≢◌, refl, sym, subst, ap, ◌∙◌, ℕ, zero, suc, ◌<◌, ◌≤◌, ◌+◌, inl, inr, Bool, true}
+use Rattle.std.proofs.Common.{false, List, [], ◌∷◌, ◌++◌, length, arith, nat_le}
 use Rattle.std.specs.Prelude.{◌⊎◌, ◌==◌, IsPermutation, cond, if◌then◌else◌}
 use Rattle.std.specs.List.{AllWithin, filter, range_with_len}
 use Rattle.std.specs.List.Sorted.{IsPartitionPoint}
@@ -36,31 +11,13 @@ use Rattle.std.proofs.lemmas.List.Sorted.{sum_by-IsPermutation}
 use Rattle.std.proofs.lemmas.List.Sums.{length-filter}
 use Rattle.std.proofs.lemmas.List.FromFn.{get_or-range_with_len, length-range_with_len}
 use Rattle.list_laws.specs.Lists.{IsIn}
-use Rattle.list_laws.proofs.Cited.{
-  at_most,
-  counted_below,
-  distinct_ascending,
-  distinct_filter,
-  filtered_from,
-  filtered_true,
-  in_left,
-  in_right,
-  range_ascending,
-}
+use Rattle.list_laws.proofs.Cited.{at_most, counted_below, distinct_ascending, distinct_filter, filtered_from}
+use Rattle.list_laws.proofs.Cited.{filtered_true, in_left, in_right, range_ascending}
 use Rattle.solid_parts.specs.declared.links.Link.{Link}
 use Rattle.solid_parts.specs.declared.climb.Climb.{Climb}
 use Rattle.solid_parts.specs.Groups.{AreMerged, AreTogether, IsMerged, LeadDown, LeadTo, label_at, merged, moved}
-use Rattle.solid_parts.specs.Links.{
-  AreLinksBelow,
-  ClimbsTo,
-  IsClimbed,
-  IsExhausted,
-  IsBounded,
-  Rise,
-  count_to,
-  link_at,
-  own_count,
-}
+use Rattle.solid_parts.specs.Links.{AreLinksBelow, ClimbsTo, IsClimbed, IsExhausted, IsBounded, Rise, count_to, link_at}
+use Rattle.solid_parts.specs.Links.{own_count}
 use Rattle.solid_parts.proofs.Leading.{each_itself, equal_or_not}
 use Rattle.solid_parts.proofs.Merging.{label_moved, merges}
 
@@ -241,18 +198,6 @@ one_taken old leads new links climb now more apart h below f g c d m s = record 
     few : (b : Bool) → now.merges ≤ now.next → more.merges ≡ now.merges + added b → more.merges ≤ more.next
     few true k n = omega (arith, f, k, n)
     few false k n = omega (arith, f, k, n)
-
--- where the next link is left, all are
-pub all_past : (links : List Link) (climb : Climb) (alpha : ℕ) → Rise links → alpha < (link_at links climb.next).alpha
-    → IsExhausted links climb alpha
-all_past links climb alpha r l t h k =
-    let up = r climb.next t (record { alpha = 0; one = 0; other = 0 }) h k in
-    omega (arith, l, up)
-
--- where no link is left, all are past
-pub none_left : (links : List Link) (climb : Climb) (alpha : ℕ) → length links ≤ climb.next →
-    IsExhausted links climb alpha
-none_left links climb alpha l t h k = absurd (omega (arith, l, h, k))
 
 -- ---- numbers in order
 

@@ -1,35 +1,6 @@
 -- How many parts there are at least, by the groups that are left.
-use Rattle.std.proofs.Common.{
-  ◌≡◌,
-  refl,
-  sym,
-  subst,
-  ap,
-  ◌∙◌,
-  ℕ,
-  zero,
-  suc,
-  ◌<◌,
-  ◌≤◌,
-  ◌+◌,
-  ◌-◌,
-  ◌^◌,
-  inl,
-  inr,
-  Bool,
-  true,
-  false,
-  List,
-  [],
-  ◌∷◌,
-  ◌++◌,
-  map,
-  length,
-  get_or,
-  max,
-  arith,
-  nat_le,
-}
+use Rattle.std.proofs.Common.{◌≡◌, refl, sym, subst, ap, ◌∙◌, ℕ, zero, suc, ◌<◌, ◌≤◌, ◌+◌, ◌-◌, ◌^◌, inl, inr, Bool}
+use Rattle.std.proofs.Common.{true, false, List, [], ◌∷◌, ◌++◌, map, length, get_or, max, arith, nat_le}
 use Rattle.std.specs.Prelude.{◌==◌, cond, not}
 use Rattle.std.specs.List.{filter, range_with_len}
 use Rattle.std.proofs.lemmas.Bool.{cases_lt}
@@ -39,19 +10,8 @@ use Rattle.std.proofs.lemmas.List.Filters.{length-filter_both}
 use Rattle.std.proofs.lemmas.List.FromFn.{length-range_with_len}
 use Rattle.std.proofs.lemmas.List.Sums.{length-filter}
 use Rattle.list_laws.specs.Lists.{IsIn}
-use Rattle.list_laws.proofs.Cited.{
-  at_most,
-  counted_below,
-  distinct_ascending,
-  distinct_filter,
-  filtered_from,
-  filtered_true,
-  flat_from,
-  in_flat,
-  in_left,
-  in_right,
-  range_ascending,
-}
+use Rattle.list_laws.proofs.Cited.{at_most, counted_below, distinct_ascending, distinct_filter, filtered_from}
+use Rattle.list_laws.proofs.Cited.{filtered_true, flat_from, in_flat, in_left, in_right, range_ascending}
 use Rattle.point_order.specs.declared.cell.Cell.{Cell}
 use Rattle.face_list.specs.Seen.{FaceLists}
 use Rattle.face_list.specs.Tables.{cell_at}
@@ -68,19 +28,11 @@ use Rattle.solid_parts.specs.LeastAlpha.{IsCompact}
 use Rattle.solid_parts.specs.Links.{AreLinked, ClimbsTo, IsClimbed, IsExhausted, IsBounded, count_to, link_between}
 use Rattle.solid_parts.specs.Parts.{AreSolidParts, first_of}
 use Rattle.solid_parts.proofs.Climbing.{first_climb}
-use Rattle.solid_parts.proofs.Few.{has_first}
-use Rattle.solid_parts.proofs.Gathered.{place_of}
+use Rattle.solid_parts.proofs.Gathered.{has_first, place_of}
 use Rattle.solid_parts.proofs.Leading.{each_down}
-use Rattle.solid_parts.proofs.Solid.{
-  Given,
-  admitted,
-  admitted_from,
-  alike_along,
-  mark_is,
-  marked_below,
-  marked_cell,
-  numbered_from,
-}
+use Rattle.solid_parts.proofs.Solid.{Given, admitted, admitted_from, alike_along, mark_is, marked_below, marked_cell}
+use Rattle.solid_parts.proofs.Solid.{numbered_from}
+use Rattle.solid_parts.proofs.Few.{le_from}
 
 -- ---- marks by the least alphas
 
@@ -99,10 +51,6 @@ least_count [] [] z = refl
 least_count [] (n ∷ leasts) z = absurd z
 least_count (c ∷ cells) [] z = absurd z
 least_count (c ∷ cells) (n ∷ leasts) z = ap suc (least_count cells leasts z.1)
-
--- what the test finds to be at most is so
-le_from : (m n : ℕ) → nat_le m n ≡ true → m ≤ n
-le_from m n e = grind (arith, nat_tests)
 
 -- a marked cell is admitted from its number on
 marked_least : (cells : List Cell) (leasts : List ℕ) (alpha i : ℕ) → AreLeastOf is_small_cell cells leasts →

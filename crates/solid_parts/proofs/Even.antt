@@ -1,55 +1,16 @@
 -- Every pair lies in an even number of the triangles of a boundary: pairs are counted with the triples and cells that
 -- have them, by cells and by triples.
-use Rattle.std.proofs.Common.{
-  ◌≡◌,
-  ◌≢◌,
-  refl,
-  sym,
-  subst,
-  ap,
-  ap₂,
-  ◌∙◌,
-  ℕ,
-  zero,
-  suc,
-  ◌<◌,
-  inl,
-  inr,
-  Bool,
-  true,
-  false,
-  List,
-  [],
-  ◌∷◌,
-  map,
-  length,
-  arith,
-  pos,
-}
+use Rattle.std.proofs.Common.{◌≡◌, ◌≢◌, refl, sym, subst, ap, ap₂, ◌∙◌, ℕ, zero, suc, ◌<◌, inl, inr, Bool, true, false}
+use Rattle.std.proofs.Common.{List, [], ◌∷◌, map, length, arith, pos}
 use Rattle.std.specs.Prelude.{◌⊎◌, ◌&&◌, ◌||◌, ◌==◌, not, Option, None, Some, filter_map}
 use Rattle.std.specs.List.{filter, list_all}
 use Rattle.std.specs.Int.Signed.{lt_z}
 use Rattle.std.proofs.lemmas.Bool.Decides.{nat_tests}
 use Rattle.list_laws.specs.Laws.{odd, xor}
 use Rattle.list_laws.specs.Lists.{AreDistinct, IsIn}
-use Rattle.list_laws.proofs.Cited.{
-  all_from,
-  all_true,
-  among_from,
-  among_true,
-  differ_from,
-  distinct_ascending,
-  filtered_ascending,
-  filtered_from,
-  filtered_true,
-  from_append,
-  mapped_from,
-  mapped_true,
-  none_even,
-  same_from,
-  true_or_false,
-  two_even,
-}
+use Rattle.list_laws.proofs.Cited.{all_from, all_true, among_from, among_true, differ_from, distinct_ascending}
+use Rattle.list_laws.proofs.Cited.{filtered_ascending, filtered_from, filtered_true, from_append, mapped_from}
+use Rattle.list_laws.proofs.Cited.{mapped_true, none_even, same_from, true_or_false, two_even}
 use Rattle.point_order.specs.declared.cell.Cell.{Cell}
 use Rattle.point_order.specs.declared.cell.Cell.TheVariants.{Full, Open}
 use Rattle.point_order.specs.declared.cell.Facet.TheVariants.{Three}
@@ -65,25 +26,10 @@ use Rattle.face_list.proofs.Cited.{listed_is_part, part_is_listed, part_length, 
 use Rattle.solid_parts.specs.Boundary.{apex_of, outer_of, turned}
 use Rattle.solid_parts.specs.Laws.{EdgesAreEven, has_both}
 use Rattle.solid_parts.proofs.Solid.{distinct_in_order, full_ascends}
+use Rattle.alpha_complex.proofs.Cited.{triple_facet as three_facet, no_longer, whole_only}
+use Rattle.list_laws.proofs.Cited.{both_true as and_true, shuffle, odd_xor as odd_sum}
 
 -- ---- sums of parities
-
--- the four terms of two sums of parities, the middle ones exchanged
-shuffle : (a b c d : Bool) → xor (xor a b) (xor c d) ≡ xor (xor a c) (xor b d)
-shuffle true true true d = refl
-shuffle true true false true = refl
-shuffle true true false false = refl
-shuffle true false true true = refl
-shuffle true false true false = refl
-shuffle true false false d = refl
-shuffle false true true d = refl
-shuffle false true false d = refl
-shuffle false false c d = refl
-
--- whether the sum of two tests is odd is the sum of whether each is
-odd_sum : {X : Type 0} (p q : X → Bool) (xs : List X) → odd (λ x. xor (p x) (q x)) xs ≡ xor (odd p xs) (odd q xs)
-odd_sum p q [] = refl
-odd_sum p q (x ∷ xs) = ap (λ b. xor (xor (p x) (q x)) b) (odd_sum p q xs) ∙ shuffle (p x) (q x) (odd p xs) (odd q xs)
 
 -- tests that agree at the members
 odd_on : {X : Type 0} (p q : X → Bool) (xs : List X) → ((x : X) → IsIn x xs → p x ≡ q x) → odd p xs ≡ odd q xs
@@ -252,24 +198,6 @@ other_two q x y a e i j n =
 
 -- ---- parts of ascending lists
 
--- a list has no part that is longer
-no_longer : (k : ℕ) (t p : List ℕ) → length t < k → IsIn p (subsets k t) → ⊥
-no_longer zero t p l m = absurd (omega (arith, l))
-no_longer (suc k) [] p l m = m
-no_longer (suc k) (x ∷ t) p l m = elim (from_append p (map (λ r. x ∷ r) (subsets k t)) (subsets (suc k) t) m) [
-  | inl i ↦ (let r = mapped_from (λ r. x ∷ r) p (subsets k t) i in no_longer k t r.0 (omega (arith, l)) r.1)
-  | inr i ↦ no_longer (suc k) t p (omega (arith, l)) i
-]
-
--- and of its own length only itself
-whole_only : (t p : List ℕ) → IsIn p (subsets (length t) t) → t ≡ p
-whole_only [] p m = elim m [ inl e ↦ e | inr none ↦ absurd none ]
-whole_only (x ∷ t) p m = elim (from_append p (map (λ r. x ∷ r) (subsets (length t) t)) (subsets (suc (length t)) t) m) [
-  | inl i ↦ (let r = mapped_from (λ r. x ∷ r) p (subsets (length t) t) i in ap (λ v. x ∷ v) (whole_only t r.0 r.1) ∙
-      r.2)
-  | inr i ↦ absurd (no_longer (suc (length t)) t p (omega arith) i)
-]
-
 -- ascending lists of one length, of which the one has the members of the other, are one
 same_list : (t p : List ℕ) → IsAscending t → IsAscending p → ((i : ℕ) → IsIn i p → IsIn i t) → length t ≡ length p →
     t ≡ p
@@ -301,12 +229,6 @@ and_parts : (a b : Bool) → (a && b) ≡ true → (a ≡ true) × (b ≡ true)
 and_parts true true e = (refl, refl)
 and_parts true false e = cc
 and_parts false b e = cc
-
--- and where each does, both do
-and_true : (a b : Bool) → a ≡ true → b ≡ true → (a && b) ≡ true
-and_true true true e f = refl
-and_true true false e f = cc
-and_true false b e f = cc
 
 -- What is given: triples, each ascending, each once, with all those of a cell q.
 pub record Triples (ts : List (List ℕ)) (q : List ℕ) : Type 0 where
@@ -425,24 +347,6 @@ full_four s q i = elim (from_append (Full q) (map Full (filter (is_full s) (subs
 
     not_open : (t : List ℕ) → Open t ≡ Full q → ⊥
     not_open t e = cc
-
--- a triple of its points is a facet of it
-three_facet : (q t : List ℕ) → length q ≡ 4 → IsIn t (subsets 3 q) → IsIn (Three t) (facets_of (Full q))
-three_facet [] t e i = absurd (omega (arith, e))
-three_facet (a ∷ []) t e i = absurd (omega (arith, e))
-three_facet (a ∷ b ∷ []) t e i = absurd (omega (arith, e))
-three_facet (a ∷ b ∷ c ∷ []) t e i = absurd (omega (arith, e))
-three_facet (a ∷ b ∷ c ∷ d ∷ []) t e i = elim i [
-  | inl f ↦ inr (inr (inr (inl (ap Three f))))
-  | inr j ↦ elim j [
-    | inl f ↦ inr (inr (inl (ap Three f)))
-    | inr k ↦ elim k [
-      | inl f ↦ inr (inl (ap Three f))
-      | inr l ↦ elim l [ inl f ↦ inl (ap Three f) | inr none ↦ absurd none ]
-    ]
-  ]
-]
-three_facet (a ∷ b ∷ c ∷ d ∷ f ∷ q) t e i = absurd (omega (arith, e))
 
 -- the cells with a triple, of Full ones
 with_full : (t : List ℕ) (cells : List (List ℕ)) → cells_with t (map Full cells) ≡ map Full (filter (has_all t) cells)

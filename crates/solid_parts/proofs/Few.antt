@@ -1,33 +1,6 @@
 -- When there are few parts, and at which alphas that can come.
-use Rattle.std.proofs.Common.{
-  ◌≡◌,
-  refl,
-  sym,
-  subst,
-  ap,
-  ◌∙◌,
-  ℕ,
-  zero,
-  suc,
-  ◌<◌,
-  ◌≤◌,
-  ◌+◌,
-  ◌^◌,
-  inl,
-  inr,
-  Bool,
-  true,
-  false,
-  List,
-  [],
-  ◌∷◌,
-  map,
-  take,
-  length,
-  get_or,
-  arith,
-  nat_le,
-}
+use Rattle.std.proofs.Common.{◌≡◌, refl, sym, subst, ap, ◌∙◌, ℕ, zero, suc, ◌<◌, ◌≤◌, ◌+◌, ◌^◌, inl, inr, Bool, true}
+use Rattle.std.proofs.Common.{false, List, [], ◌∷◌, map, take, length, get_or, arith, nat_le}
 use Rattle.std.specs.Prelude.{◌⊎◌, ◌↔◌, IsTrue}
 use Rattle.std.specs.List.{AllZip, list_all, list_any}
 use Rattle.std.specs.List.Sorted.{IsStrictlySortedBy}
@@ -38,28 +11,9 @@ use Rattle.std.proofs.lemmas.Bool.{cases_lt}
 use Rattle.std.proofs.lemmas.Bool.Decides.{nat_tests}
 use Rattle.std.proofs.lemmas.List.{length-map, take_all}
 use Rattle.list_laws.specs.Lists.{IsAscending, IsIn}
-use Rattle.list_laws.proofs.Cited.{
-  all_from,
-  all_true,
-  among_from,
-  among_true,
-  any_from,
-  any_true,
-  both_true,
-  each_by,
-  filtered_from,
-  filtered_true,
-  first_true,
-  flat_from,
-  in_flat,
-  in_take_more,
-  mapped_from,
-  mapped_true,
-  rises,
-  same_filter,
-  second_true,
-  sorted_map,
-}
+use Rattle.list_laws.proofs.Cited.{all_from, all_true, among_from, among_true, any_from, any_true, both_true, each_by}
+use Rattle.list_laws.proofs.Cited.{filtered_from, filtered_true, first_true, flat_from, in_flat, in_take_more}
+use Rattle.list_laws.proofs.Cited.{mapped_from, mapped_true, rises, same_filter, second_true, sorted_map}
 use Rattle.point_order.specs.declared.cell.Cell.{Cell}
 use Rattle.point_order.specs.declared.cell.Cell.TheVariants.{Full}
 use Rattle.point_order.specs.CellOrder.{cell_cmp}
@@ -83,12 +37,12 @@ use Rattle.solid_parts.specs.Levels.{AreLevels}
 use Rattle.solid_parts.specs.Parts.{AreSolidParts, InOrder, first_of}
 use Rattle.solid_parts.proofs.Gathered.{place_of}
 use Rattle.solid_parts.proofs.Solid.{small_full}
+use Rattle.alpha_complex.proofs.Cited.{le_true, le_false}
+use Rattle.list_laws.proofs.Cited.{list_against as not_both_before}
+use Rattle.solid_parts.proofs.Merging.{own_value}
+use Rattle.solid_parts.proofs.Gathered.{has_first}
 
 -- ---- the parts are determined
-
--- what compares as equal does not compare as less
-clash : Equal ≡ Less → ⊥
-clash e = cc
 
 -- the first cell of a list in order is the least
 first_least : (part : List (List ℕ)) (r : List ℕ) → InOrder part → IsIn r part → (first_of part ≡ r) ⊎
@@ -97,15 +51,6 @@ unfolding IsStrictlySortedBy
 first_least [] r s i = absurd i
 first_least (q ∷ part) r s (inl e) = inl e
 first_least (q ∷ part) r s (inr i) = inr (each_by (λ y. slice_cmp nat_cmp q y ≡ Less) part s.0 r i)
-
--- of two lists not each is before the other
-not_both_before : (q r : List ℕ) → slice_cmp nat_cmp q r ≡ Less → slice_cmp nat_cmp r q ≡ Less → ⊥
-not_both_before q r e f = clash (sym (cell_self (Full q)) ∙ cell_before (Full q) (Full r) (Full q) e f)
-
--- a part that has cells has its first
-pub has_first : (part : List (List ℕ)) → 0 < length part → IsIn (first_of part) part
-has_first [] h = absurd (omega (arith, h))
-has_first (q ∷ part) h = inl refl
 
 -- the first cell of a part is that of one in any other such list
 first_again : (cells : List (List ℕ)) (ps qs : List (List (List ℕ))) → AreSolidParts cells ps → AreSolidParts cells qs →
@@ -154,17 +99,9 @@ same_count cells ps qs a b =
 
 -- ---- the test
 
--- what is at most a number is found so
-le_true : (m n : ℕ) → m ≤ n → nat_le m n ≡ true
-le_true m n l = grind (arith, nat_tests)
-
 -- and what is found so is
-le_from : (m n : ℕ) → nat_le m n ≡ true → m ≤ n
+pub le_from : (m n : ℕ) → nat_le m n ≡ true → m ≤ n
 le_from m n e = grind (arith, nat_tests)
-
--- what is greater is not found so
-le_false : (m n : ℕ) → n < m → nat_le m n ≡ false
-le_false m n l = grind (arith, nat_tests)
 
 -- where every point is covered, few parts are few enough exactly where the test says so
 pub compact_test :
@@ -185,11 +122,6 @@ compact_test s k alpha start n parts small from at a e = (
   λ c. le_true n k (subst (λ m. m ≤ k) (sym (e ∙ same_count (shape_of s alpha).cells parts c.1.parts a c.1.are_parts))
       c.1.few),
 )
-
--- before every point is covered it fails
-pub too_early : (s : List ℕ) (k alpha start : ℕ) → alpha < start → (alpha < 2 ^ 34 → IsStart s alpha start) →
-    (alpha < 2 ^ 34) × IsCompact s k alpha → ⊥
-too_early s k alpha start l at c = let f = (at c.0).1 c.1.covered in omega (arith, l, f)
 
 -- ---- where every point is covered
 
@@ -415,12 +347,6 @@ not_found s ns levels k i solid z v h none b l d =
 -- a test that failed does not pass
 not_false : (b : Bool) → b ≡ false → IsTrue b → ⊥
 not_false b e t = cc
-
--- what stands at a place stands there whatever it is looked up with
-own_value : (xs : List ℕ) (j : ℕ) → j < length xs → get_or xs j 0 ≡ get_or xs j (get_or xs j 0)
-own_value [] j h = absurd (omega (arith, h))
-own_value (x ∷ xs) zero h = refl
-own_value (x ∷ xs) (suc j) h = own_value xs j (omega (arith, h))
 
 -- one number more at which it does not hold
 pub none_more : (s : List ℕ) (k : ℕ) (levels : List ℕ) (i : ℕ) (b : Bool) → i < length levels → b ≡ false →

@@ -1,31 +1,6 @@
 -- Cells that are gathered by their labels.
-use Rattle.std.proofs.Common.{
-  ◌≡◌,
-  refl,
-  sym,
-  subst,
-  ap,
-  ap₂,
-  ◌∙◌,
-  ℕ,
-  zero,
-  suc,
-  ◌<◌,
-  ◌+◌,
-  inl,
-  inr,
-  Bool,
-  true,
-  false,
-  List,
-  [],
-  ◌∷◌,
-  ◌++◌,
-  map,
-  length,
-  get_or,
-  arith,
-}
+use Rattle.std.proofs.Common.{◌≡◌, refl, sym, subst, ap, ap₂, ◌∙◌, ℕ, zero, suc, ◌<◌, ◌+◌, inl, inr, Bool, true, false}
+use Rattle.std.proofs.Common.{List, [], ◌∷◌, ◌++◌, map, length, get_or, arith}
 use Rattle.std.specs.Prelude.{◌⊎◌, Option, None, Some, slice_set}
 use Rattle.std.specs.List.Sorted.{IsStrictlySortedBy}
 use Rattle.std.specs.Ordering.{nat_cmp}
@@ -46,7 +21,8 @@ use Rattle.alpha_complex.specs.Slots.{marked_cell}
 use Rattle.solid_parts.specs.Gathered.{IsGathered, IsMarkedNumber, IsGroupedIn, cells_at_place, place_at}
 use Rattle.solid_parts.specs.Groups.{label_at}
 use Rattle.solid_parts.specs.Parts.{InOrder, first_of}
-use Rattle.solid_parts.proofs.Merging.{in_front, in_front_or_last, in_last}
+use Rattle.list_laws.proofs.Cited.{snoc_new as in_last, snoc_old as in_front, in_snoc as in_front_or_last}
+use Rattle.del_laws.proofs.Cited.{same_full}
 
 -- What holds where the first k cells were looked at.
 pub record SoFar (cells : List Cell) (marks : List Bool) (labels : List ℕ) (k : ℕ) (places : List (Option ℕ))
@@ -63,10 +39,6 @@ pub record SoFar (cells : List Cell) (marks : List Bool) (labels : List ℕ) (k 
   pub order : InOrder (map first_of parts)
 
 -- ---- numbers of cells
-
--- Full cells that are one have the same points
-same_full : (q r : List ℕ) → Full q ≡ Full r → q ≡ r
-same_full q r e = cc
 
 -- cells stand in order by their numbers
 before : (cells : List Cell) (marks : List Bool) (q r : List ℕ) (i j : ℕ) → IsStrictlySortedBy cell_cmp cells →
@@ -121,7 +93,7 @@ firsts_stay (y ∷ parts) (suc p) q h l = ap (λ (v : List (List ℕ)). first_of
     (firsts_stay parts p q (omega (arith, h)) l)
 
 -- a part that has cells has its first
-has_first : (part : List (List ℕ)) → 0 < length part → IsIn (first_of part) part
+pub has_first : (part : List (List ℕ)) → 0 < length part → IsIn (first_of part) part
 has_first [] h = absurd (omega (arith, h))
 has_first (q ∷ part) h = inl refl
 
@@ -137,11 +109,6 @@ place_of (y ∷ xs) x d (inl e) = (zero, omega arith, e)
 place_of (y ∷ xs) x d (inr i) = let r = place_of xs x d i in (suc r.0, omega (arith, r.1), r.2)
 
 -- ---- no cell yet
-
--- where nothing stands at any place, nothing stands at this
-none_there : {X : Type 0} (n l : ℕ) (places : List (Option X)) → ((i : ℕ) → get_or places i None ≡ None) →
-    get_or places l None ≡ None
-none_there n l places f = f l
 
 -- before the first cell there is no part
 pub starts_empty : (cells : List Cell) (marks : List Bool) (labels : List ℕ) (places : List (Option ℕ)) →
@@ -449,14 +416,6 @@ gathered cells marks labels places parts s d = record {
     same_some y z f = cc
 
 -- ---- as the loop tells it
-
--- a place more with nothing
-pub none_more : (places : List (Option ℕ)) → ((l : ℕ) → place_at places l ≡ None) → (l : ℕ) →
-    place_at (places ++ None ∷ []) l ≡ None
-none_more [] f zero = refl
-none_more [] f (suc l) = refl
-none_more (x ∷ places) f zero = f zero
-none_more (x ∷ places) f (suc l) = none_more places (λ m. f (suc m)) l
 
 -- what is told of a cell and its mark
 told_some : (c : Cell) (m : Bool) (q : List ℕ) → marked_cell c m ≡ Some q → (m ≡ true) × (c ≡ Full q)

@@ -1,48 +1,14 @@
 -- The groups of marked numbers, made one in a loop.
-use Rattle.std.proofs.Common.{
-  ◌≡◌,
-  refl,
-  sym,
-  subst,
-  ◌∙◌,
-  ℕ,
-  ◌<◌,
-  ◌≤◌,
-  ◌+◌,
-  Bool,
-  true,
-  false,
-  inl,
-  inr,
-  List,
-  [],
-  ◌∷◌,
-  ◌++◌,
-  All,
-  take,
-  length,
-  get_or,
-}
+use Rattle.std.proofs.Common.{◌≡◌, refl, sym, subst, ◌∙◌, ℕ, ◌<◌, ◌≤◌, ◌+◌, Bool, true, false, inl, inr, List, [], ◌∷◌}
+use Rattle.std.proofs.Common.{◌++◌, All, take, length, get_or}
 use Rattle.std.specs.Prelude.{Option, None, Some}
 use Rattle.std.proofs.lemmas.List.{take_all}
 use Rattle.list_laws.specs.Lists.{IsIn}
 use Rattle.list_laws.proofs.Cited.{take_next}
 use Rattle.solid_parts.specs.Groups.{AreAllJoined, AreJoinedAll, IsMarkedAt, IsMerged, LeadDown, LeadTo}
-use Rattle.solid_parts.proofs.Merging.{
-  DoneSoFar,
-  IsFirst,
-  in_front,
-  in_front_or_last,
-  in_last,
-  in_next,
-  kept_first,
-  merged_next,
-  none_done,
-  not_marked_here,
-  own_value,
-  passed_over,
-  within_front,
-}
+use Rattle.solid_parts.proofs.Merging.{DoneSoFar, IsFirst, in_next, kept_first}
+use Rattle.list_laws.proofs.Cited.{snoc_new as in_last, snoc_old as in_front, in_snoc as in_front_or_last}
+use Rattle.solid_parts.proofs.Merging.{merged_next, none_done, not_marked_here, own_value, passed_over, within_front}
 
 -- the numbers lead to labels of which the first are done
 pub record IsDoneTo (marks : List Bool) (numbers labels leads : List ℕ) (first : Option ℕ) : Type 0 where

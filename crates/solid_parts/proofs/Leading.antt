@@ -1,30 +1,6 @@
 -- Numbers that lead down to the labels of their groups.
-use Rattle.std.proofs.Common.{
-  ◌≡◌,
-  ◌≢◌,
-  refl,
-  sym,
-  subst,
-  ap,
-  ap₂,
-  ◌∙◌,
-  ℕ,
-  suc,
-  ◌<◌,
-  ◌≤◌,
-  ◌+◌,
-  inl,
-  inr,
-  Bool,
-  true,
-  false,
-  List,
-  [],
-  ◌∷◌,
-  length,
-  get_or,
-  arith,
-}
+use Rattle.std.proofs.Common.{◌≡◌, ◌≢◌, refl, sym, subst, ap, ap₂, ◌∙◌, ℕ, suc, ◌<◌, ◌≤◌, ◌+◌, inl, inr, Bool, true}
+use Rattle.std.proofs.Common.{false, List, [], ◌∷◌, length, get_or, arith}
 use Rattle.std.specs.Prelude.{◌⊎◌, ◌==◌, slice_set, if◌then◌else◌}
 use Rattle.std.specs.List.{range_with_len}
 use Rattle.std.proofs.lemmas.Bool.{cases_lt}
@@ -136,12 +112,6 @@ step old leads now number at next c d h k same e f =
       ends = λ labels t g. (k labels t).ends at h (stays leads at d h (sym e ∙ g));
     })
 
--- the first two steps from a number are on its way
-pub first_step : (old now : List ℕ) (number next : ℕ) → LeadDown old → number < length old → next ≡ twice old number
-    → now ≡ slice_set old number (twice old number) → IsOnWay old now number number next
-first_step old now number next d h e f = step old old now number number next refl d h (λ labels t. t) (λ labels t. refl)
-    e f
-
 -- and so are the next two
 pub next_step : (old leads now : List ℕ) (number at next further : ℕ) → IsOnWay old leads number at next
     → further ≡ twice leads next → now ≡ slice_set leads next (twice leads next) → IsOnWay old now number next further
@@ -149,12 +119,6 @@ next_step old leads now number at next further w e f =
     let l = w.below in
     let h = w.within in
     step old leads now number next further w.count w.down (omega (arith, l, h)) w.kept w.next_same e f
-
--- where a step leads nowhere it is the label
-pub found_label : (old leads : List ℕ) (number at next : ℕ) → IsOnWay old leads number at next → next ≡ at
-    → (labels : List ℕ) → LeadTo old labels → at ≡ label_at labels number
-found_label old leads number at next w e labels t =
-    sym (w.ends labels t e) ∙ ap (label_at labels) (sym e) ∙ w.next_same labels t
 
 -- ---- a merge
 
@@ -245,44 +209,6 @@ pub record AreFlatTo (old leads : List ℕ) (k : ℕ) : Type 0 where
   pub flat : (labels : List ℕ) → LeadTo old labels → (i : ℕ) → i < k → i < length leads
       → label_at leads i ≡ label_at labels i
 
--- before the first place none has its label
-pub none_flat : (old : List ℕ) → LeadDown old → AreFlatTo old old 0
-none_flat old d = record {
-  count = refl;
-  down = d;
-  kept = λ labels t. t;
-  flat = λ labels t i l. absurd (omega (arith, l));
-}
-
--- the next place gets its label
-pub flat_next : (old leads now : List ℕ) (k : ℕ) → k < length leads → AreFlatTo old leads k
-    → now ≡ slice_set leads k (twice leads k) → AreFlatTo old now (k + 1)
-flat_next old leads now k h a e = subst (λ (v : List ℕ). AreFlatTo old v (k + 1)) (sym e) (record {
-  count = len_set leads k (twice leads k) ∙ a.count;
-  down = shorter_down leads k a.down h;
-  kept = λ labels t. shorter leads labels k a.down h (a.kept labels t);
-  flat = λ labels t i l m. elim (equal_or_not i k) [
-    | inl f ↦
-        ap (λ n. get_or (slice_set leads k (twice leads k)) n 0) f ∙ get_or-set_same leads k (twice leads k) 0 h
-        ∙ here labels t ∙ ap (label_at labels) (sym f)
-    | inr n ↦
-        get_or-set_other leads k i (twice leads k) 0 n
-        ∙ a.flat labels t i (omega (arith, l, n)) (subst (λ c. i < c) (len_set leads k (twice leads k)) m)
-  ];
-})
-  where
-    -- the place led to itself, or to one that has its label
-    here : (labels : List ℕ) → LeadTo old labels → twice leads k ≡ label_at labels k
-    here labels t =
-        let low = a.down k h in
-        let to = a.kept labels t in
-        elim (cases_lt (label_at leads k) k) [
-          | inl l ↦ a.flat labels t (label_at leads k) l (omega (arith, low, h)) ∙ to.along k h
-          | inr l ↦
-              let same : label_at leads k ≡ k = omega (arith, l, low) in
-              ap (label_at leads) same ∙ same ∙ sym (to.ends k h same)
-        ]
-
 -- lists of one length with the same numbers
 same_numbers : (xs ys : List ℕ) → length ys ≡ length xs → ((i : ℕ) → i < length xs → label_at xs i ≡ label_at ys i)
     → xs ≡ ys
@@ -302,7 +228,7 @@ all_flat old leads k h a labels t =
 -- ---- each by itself
 
 -- the label of a number is itself
-own : (n i : ℕ) → i < n → label_at (range_with_len 0 n) i ≡ i
+pub own : (n i : ℕ) → i < n → label_at (range_with_len 0 n) i ≡ i
 own n i l = get_or-range_with_len 0 n i 0 l ∙ none_more i
   where
     none_more : (m : ℕ) → 0 + m ≡ m

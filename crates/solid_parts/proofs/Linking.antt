@@ -1,41 +1,12 @@
 -- Links between cells around triples, put one behind another.
-use Rattle.std.proofs.Common.{
-  ◌≡◌,
-  refl,
-  sym,
-  subst,
-  ap,
-  ◌∙◌,
-  ℕ,
-  ◌<◌,
-  ◌≤◌,
-  ◌+◌,
-  inl,
-  inr,
-  List,
-  [],
-  ◌∷◌,
-  ◌++◌,
-  All,
-  take,
-  length,
-  get_or,
-  arith,
-}
+use Rattle.std.proofs.Common.{◌≡◌, refl, sym, subst, ap, ◌∙◌, ℕ, ◌<◌, ◌≤◌, ◌+◌, inl, inr, List, [], ◌∷◌, ◌++◌, All}
+use Rattle.std.proofs.Common.{take, length, get_or, arith}
 use Rattle.std.specs.Prelude.{IsPermutation}
 use Rattle.std.proofs.lemmas.Bool.{cases_lt}
 use Rattle.std.proofs.lemmas.List.{take_all}
 use Rattle.list_laws.specs.Lists.{IsIn}
-use Rattle.list_laws.proofs.Cited.{
-  all_of_each,
-  each_of_all,
-  from_append,
-  in_left,
-  in_permutation,
-  in_pushed,
-  in_right,
-  take_next,
-}
+use Rattle.list_laws.proofs.Cited.{all_of_each, each_of_all, from_append, in_left, in_permutation, in_pushed, in_right}
+use Rattle.list_laws.proofs.Cited.{take_next}
 use Rattle.point_order.specs.declared.cell.Cell.{Cell}
 use Rattle.face_list.specs.Seen.{FaceLists}
 use Rattle.face_list.specs.Tables.{cells_numbered}
@@ -53,11 +24,6 @@ pub record LinkedSoFar (leasts ones others : List ℕ) (old now : List Link) : T
 pub no_others : (leasts : List ℕ) (one : ℕ) (old : List Link) → AreLinksBelow (length leasts) old
     → LinkedSoFar leasts (one ∷ []) [] old old
 no_others leasts one old b = record { keeps = λ l i. i; has = λ u v i j. absurd j; below = b }
-
--- nor before the first cell
-pub no_ones : (leasts others : List ℕ) (old : List Link) → AreLinksBelow (length leasts) old
-    → LinkedSoFar leasts [] others old old
-no_ones leasts others old b = record { keeps = λ l i. i; has = λ u v i. absurd i; below = b }
 
 -- the others up to the next one
 next_others : (leasts : List ℕ) (one : ℕ) (others : List ℕ) (i : ℕ) (old now : List Link) → i < length others

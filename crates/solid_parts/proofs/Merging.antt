@@ -1,46 +1,14 @@
 -- Groups that are merged.
-use Rattle.std.proofs.Common.{
-  ◌≡◌,
-  refl,
-  sym,
-  subst,
-  ap,
-  ◌∙◌,
-  ℕ,
-  zero,
-  suc,
-  ◌<◌,
-  ◌+◌,
-  inl,
-  inr,
-  Bool,
-  true,
-  false,
-  List,
-  [],
-  ◌∷◌,
-  ◌++◌,
-  All,
-  take,
-  length,
-  get_or,
-  arith,
-}
+use Rattle.std.proofs.Common.{◌≡◌, refl, sym, subst, ap, ◌∙◌, ℕ, zero, suc, ◌<◌, ◌+◌, inl, inr, Bool, true, false, List}
+use Rattle.std.proofs.Common.{[], ◌∷◌, ◌++◌, All, take, length, get_or, arith}
 use Rattle.std.specs.Prelude.{◌⊎◌, ◌==◌, Option, None, Some, if◌then◌else◌}
 use Rattle.std.proofs.lemmas.Bool.Decides.{nat_tests}
 use Rattle.std.proofs.lemmas.List.{length-map}
 use Rattle.list_laws.specs.Lists.{IsIn}
 use Rattle.list_laws.proofs.Cited.{each_of_all, in_take, take_next}
-use Rattle.solid_parts.specs.Groups.{
-  AreJoinedAll,
-  AreMerged,
-  AreTogether,
-  IsMarkedAt,
-  MeetsMarked,
-  label_at,
-  merged,
-  moved,
-}
+use Rattle.solid_parts.specs.Groups.{AreJoinedAll, AreMerged, AreTogether, IsMarkedAt, MeetsMarked, label_at, merged}
+use Rattle.solid_parts.specs.Groups.{moved}
+use Rattle.list_laws.proofs.Cited.{in_snoc as in_front_or_last, snoc_old as in_front, snoc_new as in_last}
 
 -- ---- one merge
 
@@ -160,24 +128,6 @@ none_done marks old = record {
         λ i h. (i, h, refl);
   };
 }
-
--- the members of a list with one more behind
-pub in_front_or_last : {X : Type 0} (xs : List X) (x y : X) → IsIn y (xs ++ x ∷ []) → IsIn y xs ⊎ (x ≡ y)
-in_front_or_last [] x y (inl e) = inr e
-in_front_or_last [] x y (inr i) = absurd i
-in_front_or_last (z ∷ xs) x y (inl e) = inl (inl e)
-in_front_or_last (z ∷ xs) x y (inr i) = elim (in_front_or_last xs x y i) [ inl j ↦ inl (inr j) | inr e ↦ inr e ]
-
--- a member of the list is one of the longer
-pub in_front : {X : Type 0} (xs : List X) (x y : X) → IsIn y xs → IsIn y (xs ++ x ∷ [])
-in_front [] x y i = absurd i
-in_front (z ∷ xs) x y (inl e) = inl e
-in_front (z ∷ xs) x y (inr i) = inr (in_front xs x y i)
-
--- and so is the one behind
-pub in_last : {X : Type 0} (xs : List X) (x : X) → IsIn x (xs ++ x ∷ [])
-in_last [] x = inl refl
-in_last (z ∷ xs) x = inr (in_last xs x)
 
 -- what a marked number of the list reaches, one of the longer does
 reaches_more : (old : List ℕ) (marks : List Bool) (numbers : List ℕ) (x i : ℕ) → MeetsMarked old marks numbers i →

@@ -1,30 +1,6 @@
 -- Paths over cells that share triples.
-use Rattle.std.proofs.Common.{
-  ◌≡◌,
-  refl,
-  sym,
-  subst,
-  ap,
-  ◌∙◌,
-  ℕ,
-  ◌<◌,
-  ◌≤◌,
-  ◌+◌,
-  inl,
-  inr,
-  Bool,
-  List,
-  [],
-  ◌∷◌,
-  ◌++◌,
-  All,
-  append-nil,
-  drop,
-  take,
-  length,
-  get_or,
-  arith,
-}
+use Rattle.std.proofs.Common.{◌≡◌, refl, sym, subst, ap, ◌∙◌, ℕ, ◌<◌, ◌≤◌, ◌+◌, inl, inr, Bool, List, [], ◌∷◌, ◌++◌}
+use Rattle.std.proofs.Common.{All, append-nil, drop, take, length, get_or, arith}
 use Rattle.std.specs.List.{range_with_len}
 use Rattle.std.proofs.lemmas.Bool.{cases_lt}
 use Rattle.std.proofs.lemmas.List.{drop_all, take_all}
@@ -36,18 +12,7 @@ use Rattle.face_list.specs.Seen.{FaceLists}
 use Rattle.face_list.specs.Tables.{cell_at, cells_numbered}
 use Rattle.solid_parts.specs.Groups.{AreAllJoined, AreJoinedAll, IsMarkedAt, LeadDown, LeadTo, MeetsMarked, label_at}
 use Rattle.solid_parts.specs.Labels.{HaveOneLabel, AreBeside, AreLabels, IsPath}
-use Rattle.solid_parts.proofs.Leading.{each_down, each_itself}
-
--- the other way
-turned_round : (faces : FaceLists) (marks : List Bool) (i j : ℕ) → AreBeside faces marks i j → AreBeside faces marks j i
-turned_round faces marks i j b = record {
-  triple = b.triple;
-  listed = b.listed;
-  first = b.second;
-  second = b.first;
-  first_marked = b.second_marked;
-  second_marked = b.first_marked;
-}
+use Rattle.solid_parts.proofs.Leading.{each_down, each_itself, own as own_label}
 
 -- one path and then another
 pub path_then : (faces : FaceLists) (marks : List Bool) (i : ℕ) (path : List ℕ) (j : ℕ) (more : List ℕ) (k : ℕ) →
@@ -63,13 +28,6 @@ cell_in cells (n ∷ numbers) u (inl e) = inl (ap (cell_at cells) e)
 cell_in cells (n ∷ numbers) u (inr i) = inr (cell_in cells numbers u i)
 
 -- ---- each cell by itself
-
--- the label of a number is itself
-own_label : (n i : ℕ) → i < n → label_at (range_with_len 0 n) i ≡ i
-own_label n i l = get_or-range_with_len 0 n i 0 l ∙ none_more i
-  where
-    none_more : (m : ℕ) → 0 + m ≡ m
-    none_more m = omega arith
 
 -- before the first triple the labels are those of the cells alone
 pub labels_start : (faces : FaceLists) (marks : List Bool) (labels : List ℕ) →
@@ -178,11 +136,6 @@ leads_start faces marks leads e =
       leads_to = each_itself (length faces.cells);
       are_labels = labels_start faces marks (range_with_len 0 (length faces.cells)) refl;
     })
-
--- as many as there are cells
-pub leads_count : (faces : FaceLists) (marks : List Bool) (k : ℕ) (leads : List ℕ) → LeadToLabels faces marks k leads
-    → length leads ≡ length faces.cells
-leads_count faces marks k leads l = sym l.leads_to.count ∙ l.are_labels.count
 
 -- with the next triple's cells joined they lead to labels that are right for one more
 pub leads_next :

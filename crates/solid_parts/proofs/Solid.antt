@@ -1,29 +1,6 @@
 -- What is gathered by labels are the solid parts.
-use Rattle.std.proofs.Common.{
-  ◌≡◌,
-  refl,
-  sym,
-  subst,
-  ap,
-  ◌∙◌,
-  ℕ,
-  zero,
-  suc,
-  ◌<◌,
-  inl,
-  inr,
-  Bool,
-  true,
-  false,
-  List,
-  [],
-  ◌∷◌,
-  ◌++◌,
-  map,
-  length,
-  get_or,
-  arith,
-}
+use Rattle.std.proofs.Common.{◌≡◌, refl, sym, subst, ap, ◌∙◌, ℕ, zero, suc, ◌<◌, inl, inr, Bool, true, false, List, []}
+use Rattle.std.proofs.Common.{◌∷◌, ◌++◌, map, length, get_or, arith}
 use Rattle.std.specs.Prelude.{IfOk, Result, Ok, Err}
 use Rattle.std.specs.List.{filter, list_all}
 use Rattle.std.specs.List.Sorted.{IsStrictlySortedBy}
@@ -32,22 +9,9 @@ use Rattle.std.specs.Cmp.Lexicographic.{slice_cmp}
 use Rattle.std.specs.declared.cmp.Ordering.TheVariants.{Less, Equal}
 use Rattle.std.proofs.lemmas.List.{get_or-map}
 use Rattle.list_laws.specs.Lists.{AreDistinct, IsIn}
-use Rattle.list_laws.proofs.Cited.{
-  all_from,
-  all_true,
-  among_from,
-  among_true,
-  at_in,
-  each_by,
-  each_of_all,
-  filtered_from,
-  filtered_true,
-  flat_from,
-  from_append,
-  in_flat,
-  mapped_from,
-  mapped_true,
-}
+use Rattle.list_laws.proofs.Cited.{all_from, all_true, among_from, among_true, at_in, each_by, each_of_all}
+use Rattle.list_laws.proofs.Cited.{filtered_from, filtered_true, flat_from, from_append, in_flat, mapped_from}
+use Rattle.list_laws.proofs.Cited.{mapped_true}
 use Rattle.point_order.specs.declared.cell.Cell.{Cell}
 use Rattle.point_order.specs.declared.cell.Cell.TheVariants.{Full, Open}
 use Rattle.point_order.specs.CellOrder.{cell_cmp}
@@ -60,13 +24,8 @@ use Rattle.del_laws.proofs.Cited.{complex_is_sorted, part_ascending, part_inside
 use Rattle.face_list.specs.Faces.{cells_with, full_cells, parts_in}
 use Rattle.face_list.specs.Seen.{FaceLists}
 use Rattle.face_list.specs.Tables.{cell_at, cells_numbered}
-use Rattle.face_list.proofs.Cited.{
-  full_cell_is_listed,
-  listed_is_full_cell,
-  listed_is_part,
-  part_is_listed,
-  part_length,
-}
+use Rattle.face_list.proofs.Cited.{full_cell_is_listed, listed_is_full_cell, listed_is_part, part_is_listed}
+use Rattle.face_list.proofs.Cited.{part_length}
 use Rattle.alpha_complex.specs.Admitted.{is_within}
 use Rattle.alpha_complex.specs.Condition.{AreFacesOf}
 use Rattle.alpha_complex.specs.Judged.{is_small_cell}
@@ -125,10 +84,6 @@ distinct_flat (part ∷ parts) d f =
     never p e = omega (arith, e)
 
 -- ---- marks
-
--- the marks of the cells that are Full and within alpha
-marks_of : (alpha : ℕ) (cells : List Cell) → List Bool
-marks_of alpha cells = map (is_small_cell alpha) cells
 
 -- what is marked is a cell of the list
 pub marked_below : (alpha : ℕ) (cells : List Cell) (i : ℕ) → IsMarkedAt (map (is_small_cell alpha) cells) i →

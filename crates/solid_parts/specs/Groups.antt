@@ -1,20 +1,6 @@
 -- Numbers in groups, each with the label of its group.
-use Rattle.std.specs.Prelude.{
-  ◌≡◌,
-  ◌<◌,
-  ◌≤◌,
-  ◌⊎◌,
-  ℕ,
-  true,
-  false,
-  Bool,
-  List,
-  map,
-  length,
-  ◌==◌,
-  slice_index_or,
-  if◌then◌else◌,
-}
+use Rattle.std.specs.Prelude.{◌≡◌, ◌<◌, ◌≤◌, ◌⊎◌, ℕ, true, false, Bool, List, map, length, ◌==◌, slice_index_or}
+use Rattle.std.specs.Prelude.{if◌then◌else◌}
 use Rattle.list_laws.specs.Lists.{IsIn}
 
 -- the label of a number

@@ -3,15 +3,8 @@
 ghost use Rattle.std.specs.Prelude.{◌≡◌, ◌≤◌, ℕ, List, length};
 ghost use Rattle.std.specs.List.Sorted.{IsNonDecreasingBy};
 ghost use Rattle.solid_parts.specs.Groups.{LeadDown, LeadTo};
-ghost use Rattle.solid_parts.specs.Links.{
-  AreLinksBelow,
-  ClimbsTo,
-  IsClimbed,
-  IsExhausted,
-  IsBounded,
-  Rise,
-  count_to as count_of,
-};
+ghost use Rattle.solid_parts.specs.Links.{AreLinksBelow, ClimbsTo, IsClimbed, IsExhausted, IsBounded, Rise};
+ghost use Rattle.solid_parts.specs.Links.{count_to as count_of};
 
 use crate::groups::merge;
 use crate::links::Link;

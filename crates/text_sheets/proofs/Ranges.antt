@@ -1,18 +1,5 @@
 -- Lines of a text, from one number to another.
-use Rattle.std.proofs.Common.{
-  ◌≡◌,
-  ◌≤◌,
-  ◌∙◌,
-  ℕ,
-  List,
-  ◌++◌,
-  length,
-  take,
-  drop,
-  arith,
-  sym,
-  ap,
-}
+use Rattle.std.proofs.Common.{◌≡◌, ◌≤◌, ◌∙◌, ℕ, List, ◌++◌, length, take, drop, arith, sym, ap}
 use Rattle.std.specs.List.{concat}
 use Rattle.std.proofs.lemmas.List.{drop-append-le, length-take, take-append-drop, take-take, take_all}
 use Rattle.std.proofs.lemmas.List.Folds.{concat-append}
@@ -35,7 +22,3 @@ ranges_cut from middle to lines low high within =
     ap (λ (l : List (List ℕ)). concat (drop from l) ++ lines_from middle to lines)
     (sym (take-take middle to lines high))
     ∙ lines_cut from middle (take to lines) low inside
-
--- the lines from the first to the last are all
-pub all_lines : (n : ℕ) (lines : List (List ℕ)) → length lines ≤ n → lines_from 0 n lines ≡ concat lines
-all_lines n lines l = ap concat (take_all n lines l)

@@ -1,31 +1,6 @@
 -- Text put on a sheet, a piece after another.
-use Rattle.std.proofs.Common.{
-  ◌≡◌,
-  refl,
-  ◌++◌,
-  List,
-  [],
-  ◌∷◌,
-  ℕ,
-  zero,
-  suc,
-  ◌+◌,
-  ◌<◌,
-  ◌≤◌,
-  Bool,
-  true,
-  false,
-  length,
-  get_or,
-  drop,
-  arith,
-  sym,
-  ap,
-  subst,
-  ◌∙◌,
-  append_assoc,
-  append-nil,
-}
+use Rattle.std.proofs.Common.{◌≡◌, refl, ◌++◌, List, [], ◌∷◌, ℕ, zero, suc, ◌+◌, ◌<◌, ◌≤◌, Bool, true, false, length}
+use Rattle.std.proofs.Common.{get_or, drop, arith, sym, ap, subst, ◌∙◌, append_assoc, append-nil}
 use Rattle.std.specs.Prelude.{Result, Ok, Err, OnOk, OnErr, Option, codes, decimal, is_err}
 use Rattle.std.specs.Borrow.{MutBor}
 use Rattle.std.specs.Io.KnownBytes.{Appends}
@@ -37,20 +12,8 @@ use Rattle.text_sheets.specs.Lines.{block}
 use Rattle.text_sheets.specs.Pages.{Flows, FlowsInPart}
 use Rattle.text_sheets.specs.Sheets.{Closes, IsBlank, Puts}
 use Rattle.text_sheets.specs.declared.sheet.Sheet.{Sheet}
-use Rattle.text_sheets.proofs.Flowing.{
-  at_once,
-  cause_from,
-  flows_fails,
-  flows_nothing,
-  flows_then,
-  flushed,
-  flushed_in_part,
-  fronted,
-  more,
-  not_ok,
-  rose_after,
-  up_to,
-}
+use Rattle.text_sheets.proofs.Flowing.{at_once, cause_from, flows_fails, flows_nothing, flows_then, flushed}
+use Rattle.text_sheets.proofs.Flowing.{flushed_in_part, fronted, more, not_ok, rose_after, up_to}
 
 -- either a sheet failed or it did not
 by_failed : {P : Type 0} (b : Bool) → (b ≡ true → P) → (b ≡ false → P) → P

@@ -1,16 +1,8 @@
 -- The laws of specs/Laws, from the theorems of the other files.
 use Rattle.std.specs.Prelude.{Bool, T, IsTrue}
 use Rattle.std.proofs.Common.{sym, subst}
-use Rattle.whole_ring.specs.Laws.{
-  RingLaw,
-  CombinationLaw,
-  NonnegativeLaw,
-  PositiveLaw,
-  SignOfProduct,
-  ZeroFactor,
-  SizeOfSum,
-  SizeOfProduct,
-}
+use Rattle.whole_ring.specs.Laws.{RingLaw, CombinationLaw, NonnegativeLaw, PositiveLaw, SignOfProduct, ZeroFactor}
+use Rattle.whole_ring.specs.Laws.{SizeOfSum, SizeOfProduct}
 use Rattle.whole_ring.proofs.Ring.{ring, ring_from, nonneg_from, pos_from}
 use Rattle.whole_ring.proofs.Signs.{sgn_mul, zero_factor}
 use Rattle.whole_ring.proofs.Bounds.{within_add, within_mul}

@@ -1,24 +1,6 @@
 -- What code computes of signed numbers: each number that it reads is the one that was written, where that one fits.
-use Rattle.std.proofs.Common.{
-  ◌≡◌,
-  arith,
-  ℕ,
-  ◌<◌,
-  ◌^◌,
-  ℤ,
-  pos,
-  ◌+ℤ◌,
-  ◌-ℤ◌,
-  ◌*ℤ◌,
-  ◌∙◌,
-  ap,
-  sym,
-  subst,
-  lit<,
-  w64,
-  to_z,
-  of_z,
-}
+use Rattle.std.proofs.Common.{◌≡◌, arith, ℕ, ◌<◌, ◌^◌, ℤ, pos, ◌+ℤ◌, ◌-ℤ◌, ◌*ℤ◌, ◌∙◌, ap, sym, subst, lit<, w64, to_z}
+use Rattle.std.proofs.Common.{of_z}
 use Rattle.std.proofs.lemmas.Int.{ints, to_z-of_z}
 use Rattle.std.specs.Int.{Width, w128}
 use Rattle.std.specs.Int.RustNames.{FitsSigned}

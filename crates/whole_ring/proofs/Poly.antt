@@ -1,59 +1,14 @@
 -- The polynomial that an expression computes to has the value of the expression: one lemma for each operation on
 -- polynomials.
-use Rattle.std.specs.Prelude.{
-  ℤ,
-  pos,
-  negsuc,
-  ◌+ℤ◌,
-  ◌*ℤ◌,
-  neg_ℤ,
-  ◌≡◌,
-  ℕ,
-  zero,
-  suc,
-  List,
-  Bool,
-  true,
-  false,
-  T,
-  eqb,
-  ltb,
-}
+use Rattle.std.specs.Prelude.{ℤ, pos, negsuc, ◌+ℤ◌, ◌*ℤ◌, neg_ℤ, ◌≡◌, ℕ, zero, suc, List, Bool, true, false, T, eqb}
+use Rattle.std.specs.Prelude.{ltb}
 use Rattle.std.proofs.Common.{arith, refl, ap, sym, ◌∙◌, ap₂, eqb→eq}
 use Rattle.std.proofs.lemmas.Int.{ints}
 use Rattle.std.proofs.Math.IntN.{*ℤ-zero, zero-*ℤ, +ℤ_idl, *ℤ_comm, +ℤ_assoc, +ℤ_invr}
 use Rattle.whole_ring.proofs.Whole.{mul_add, add_mul, mul_assoc, mul_neg}
-use Rattle.whole_ring.specs.Poly.{
-  Expr,
-  var,
-  lit,
-  ◌⊕◌,
-  ◌⊗◌,
-  minus,
-  value,
-  Sum,
-  num,
-  node,
-  sum_value,
-  pick,
-  made,
-  add_num,
-  add_node,
-  add_sum,
-  neg_sum,
-  times_num,
-  scale,
-  times_var,
-  mul_sum,
-  sum_of,
-  is_nothing,
-  Given,
-  nothing,
-  given,
-  combined,
-  Hold,
-  entry_at,
-}
+use Rattle.whole_ring.specs.Poly.{Expr, var, lit, ◌⊕◌, ◌⊗◌, minus, value, Sum, num, node, sum_value, pick, made}
+use Rattle.whole_ring.specs.Poly.{add_num, add_node, add_sum, neg_sum, times_num, scale, times_var, mul_sum, sum_of}
+use Rattle.whole_ring.specs.Poly.{is_nothing, Given, nothing, given, combined, Hold, entry_at}
 
 -- ---- small laws, one for each step below
 

@@ -8,23 +8,8 @@ use Rattle.std.proofs.Common.{arith, sym, ◌∙◌, subst}
 use Rattle.std.proofs.lemmas.Int.{ints}
 use Rattle.whole_ring.proofs.Signs.{mul_pos, mul_nonneg, pos_of_mul_pos, nonneg_of_mul_nonneg}
 use Rattle.whole_ring.proofs.Poly.{sum_of_is, is_nothing_is, combined_is}
-use Rattle.whole_ring.specs.Poly.{
-  Expr,
-  ◌⊗◌,
-  ◌⊖◌,
-  value,
-  sum_of,
-  is_nothing,
-  Given,
-  combined,
-  Hold,
-  Parts,
-  end,
-  part,
-  total,
-  NotNegative,
-  Positive,
-}
+use Rattle.whole_ring.specs.Poly.{Expr, ◌⊗◌, ◌⊖◌, value, sum_of, is_nothing, Given, combined, Hold, Parts, end, part}
+use Rattle.whole_ring.specs.Poly.{total, NotNegative, Positive}
 
 -- numbers whose difference is 0 are equal
 same : (a b : ℤ) → a +ℤ neg_ℤ b ≡ pos 0 → a ≡ b

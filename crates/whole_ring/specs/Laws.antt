@@ -1,21 +1,8 @@
 -- The laws that the crate proves, as its public functions promise them.
 use Rattle.std.specs.Prelude.{ℕ, ◌+◌, ◌*◌, ℤ, pos, ◌≡◌, ◌≤ℤ◌, ◌<ℤ◌, ◌+ℤ◌, ◌*ℤ◌, ◌⊎◌, List, IsTrue}
 use Rattle.whole_ring.specs.Bounds.{IsWithin}
-use Rattle.whole_ring.specs.Poly.{
-  Expr,
-  ◌⊗◌,
-  ◌⊖◌,
-  value,
-  sum_of,
-  is_nothing,
-  Given,
-  combined,
-  Hold,
-  Parts,
-  total,
-  NotNegative,
-  Positive,
-}
+use Rattle.whole_ring.specs.Poly.{Expr, ◌⊗◌, ◌⊖◌, value, sum_of, is_nothing, Given, combined, Hold, Parts, total}
+use Rattle.whole_ring.specs.Poly.{NotNegative, Positive}
 use Rattle.whole_ring.specs.Signs.{sgn}
 
 -- two expressions have the same value everywhere, where their difference is the polynomial 0

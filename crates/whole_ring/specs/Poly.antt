@@ -1,28 +1,8 @@
 -- Expressions over the whole numbers, their value at a list of numbers, and the polynomial that each computes to.
 -- Every definition here is an `abbrev`, so that a proof computes with it: the value of a written expression is the term
 -- that it stands for, and whether two expressions have the same polynomial is a test that computes.
-use Rattle.std.specs.Prelude.{
-  ℤ,
-  pos,
-  negsuc,
-  ◌+ℤ◌,
-  ◌*ℤ◌,
-  neg_ℤ,
-  ◌≤ℤ◌,
-  ◌<ℤ◌,
-  ℕ,
-  zero,
-  suc,
-  List,
-  [],
-  ◌∷◌,
-  Bool,
-  true,
-  false,
-  eqb,
-  ltb,
-  ◌≡◌,
-}
+use Rattle.std.specs.Prelude.{ℤ, pos, negsuc, ◌+ℤ◌, ◌*ℤ◌, neg_ℤ, ◌≤ℤ◌, ◌<ℤ◌, ℕ, zero, suc, List, [], ◌∷◌, Bool, true}
+use Rattle.std.specs.Prelude.{false, eqb, ltb, ◌≡◌}
 
 -- ---- expressions
 

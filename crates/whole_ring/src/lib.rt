@@ -4,16 +4,8 @@
 //! `proofs/Cited`: identities and signs by computing (`Ring`), and the laws of `Whole`, `Signs` and `Bounds`.
 #![tactic(auto)]
 
-ghost use Rattle.whole_ring.specs.Laws.{
-  RingLaw,
-  CombinationLaw,
-  NonnegativeLaw,
-  PositiveLaw,
-  SignOfProduct,
-  ZeroFactor,
-  SizeOfSum,
-  SizeOfProduct,
-};
+ghost use Rattle.whole_ring.specs.Laws.{RingLaw, CombinationLaw, NonnegativeLaw, PositiveLaw, SignOfProduct};
+ghost use Rattle.whole_ring.specs.Laws.{ZeroFactor, SizeOfSum, SizeOfProduct};
 
 /// Two expressions have the same value at every list of numbers, where their difference computes to the polynomial 0;
 /// and at every list where given equations hold, where it is a combination of those.

@@ -2,17 +2,8 @@ use Rattle.std.proofs.Common.{ℤ, ◌+ℤ◌, ◌-ℤ◌, lit<}
 use Rattle.std.specs.Int.{w128}
 use Rattle.std.specs.Int.RustNames.{FitsSigned}
 use Rattle.whole_ring.specs.Bounds.{IsWithin}
-use Rattle.whole_ring.proofs.Cited.{
-  fits_as,
-  read,
-  read_as,
-  same_difference,
-  same_sum,
-  within_add,
-  within_as,
-  within_fits,
-  within_sub,
-}
+use Rattle.whole_ring.proofs.Cited.{fits_as, read, read_as, same_difference, same_sum, within_add, within_as}
+use Rattle.whole_ring.proofs.Cited.{within_fits, within_sub}
 use Rattle.exact_sphere.specs.Sizes.{greatest_sphere, greatest_term}
 use Rattle.exact_sphere.proofs.alternating.Goals as goal
 

@@ -1,14 +1,5 @@
-use Rattle.whole_ring.proofs.Cited.{
-  fits_128,
-  fits_as,
-  product_fits_128,
-  read,
-  read_as,
-  same_product,
-  wide,
-  within_as,
-  within_mul,
-}
+use Rattle.whole_ring.proofs.Cited.{fits_128, fits_as, product_fits_128, read, read_as, same_product, wide, within_as}
+use Rattle.whole_ring.proofs.Cited.{within_mul}
 use Rattle.exact_sphere.proofs.term.Goals as goal
 
 pub overflow_cast-result : goal.overflow_cast-result

@@ -1,21 +1,8 @@
 use Rattle.std.proofs.Common.{take, ◌<◌, arith}
 use Rattle.std.proofs.KnownBytes.{Keeps-refl}
 use Rattle.std.proofs.lemmas.Result.{IfOk-from_err}
-use Rattle.byte_ends.proofs.Told.{
-  fits_front,
-  front_within,
-  grown_by_front,
-  longer_by_front,
-  no_error,
-  no_other,
-  no_value,
-  on_error,
-  same_count,
-  same_value,
-  some_part,
-  takes_none,
-  within_part,
-}
+use Rattle.byte_ends.proofs.Told.{fits_front, front_within, grown_by_front, longer_by_front, no_error, no_other}
+use Rattle.byte_ends.proofs.Told.{no_value, on_error, same_count, same_value, some_part, takes_none, within_part}
 use Rattle.byte_ends.proofs.loops.read_once.Goals as goal
 
 -- a chunk has room

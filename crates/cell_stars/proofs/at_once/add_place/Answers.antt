@@ -1,20 +1,5 @@
-use Rattle.std.proofs.Common.{
-  refl,
-  ℕ,
-  List,
-  subst,
-  ap,
-  sym,
-  ◌∙◌,
-  ◌<◌,
-  length,
-  slice_index_or,
-  slice_set,
-  [],
-  ◌∷◌,
-  ◌++◌,
-  ◌≡◌,
-}
+use Rattle.std.proofs.Common.{refl, ℕ, List, subst, ap, sym, ◌∙◌, ◌<◌, length, slice_index_or, slice_set, [], ◌∷◌, ◌++◌}
+use Rattle.std.proofs.Common.{◌≡◌}
 use Rattle.list_laws.proofs.Cited.{within_list}
 use Rattle.cell_stars.proofs.AtOnce.{gains_found}
 use Rattle.cell_stars.proofs.KeyLaws.{at_key, no_key}

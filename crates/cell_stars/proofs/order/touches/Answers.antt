@@ -1,23 +1,5 @@
-use Rattle.std.proofs.Common.{
-  ◌==◌,
-  ◌≡◌,
-  ◌<◌,
-  ◌+◌,
-  ◌||◌,
-  ◌∙◌,
-  ℕ,
-  List,
-  Bool,
-  false,
-  ap,
-  sym,
-  subst,
-  take,
-  length,
-  slice_index_or,
-  inl,
-  inr,
-}
+use Rattle.std.proofs.Common.{◌==◌, ◌≡◌, ◌<◌, ◌+◌, ◌||◌, ◌∙◌, ℕ, List, Bool, false, ap, sym, subst, take, length}
+use Rattle.std.proofs.Common.{slice_index_or, inl, inr}
 use Rattle.std.proofs.lemmas.Bool.Decides.{eqb_tells}
 use Rattle.std.proofs.lemmas.List.{take_all}
 use Rattle.std.proofs.lemmas.List.Folds.{list_any_more}

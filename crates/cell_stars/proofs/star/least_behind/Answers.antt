@@ -1,22 +1,10 @@
 use Rattle.std.proofs.Common.{sym, ◌∙◌, arith, subst, ℕ, List, refl, get_or}
-use Rattle.cell_stars.proofs.Least.{
-  Found,
-  passed_one,
-  lesser_one,
-  all_taken,
-  free_place,
-  not_behind,
-  test_false,
-  not_less_one,
-}
+use Rattle.cell_stars.proofs.Least.{Found, passed_one, lesser_one, all_taken, free_place, not_behind, test_false}
+use Rattle.cell_stars.proofs.Least.{not_less_one}
 use Rattle.cell_stars.proofs.star.least_behind.Goals as goal
-use Rattle.cell_stars.proofs.star.least_behind.Goals.{
-  in-Some+then-is_behind+then-not-is_before,
-  in-Some+else-is_behind,
-  else-is_behind-via-then-is_behind+else-not-is_before,
-  else-is_behind-via-else-is_behind,
-  in_default,
-}
+use Rattle.cell_stars.proofs.star.least_behind.Goals.{in-Some+then-is_behind+then-not-is_before, in-Some+else-is_behind}
+use Rattle.cell_stars.proofs.star.least_behind.Goals.{else-is_behind-via-then-is_behind+else-not-is_before}
+use Rattle.cell_stars.proofs.star.least_behind.Goals.{else-is_behind-via-else-is_behind, in_default}
 
 -- the cell at the next place is the least so far, or it is passed over
 pub loop-i-preserved : goal.loop-i-preserved

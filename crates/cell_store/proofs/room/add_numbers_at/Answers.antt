@@ -1,6 +1,5 @@
 use Rattle.std.proofs.Common.{sym, ◌∙◌, inl, inr}
-use Rattle.list_laws.proofs.Cited.{gather_none, gather_step}
-use Rattle.list_laws.proofs.Cited.{gathers}
+use Rattle.list_laws.proofs.Cited.{gather_none, gather_step, gathers}
 use Rattle.cell_store.specs.Ready.{IsBucketOf}
 use Rattle.cell_store.proofs.room.add_numbers_at.Goals as goal
 

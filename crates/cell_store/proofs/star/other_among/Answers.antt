@@ -3,10 +3,8 @@ use Rattle.list_laws.proofs.Cited.{at_none, not_both}
 use Rattle.cell_stars.specs.Stars.{cells_around}
 use Rattle.cell_store.proofs.StarLaws.{all_come, passed_cell, none_left, other_found}
 use Rattle.cell_store.proofs.star.other_among.Goals as goal
-use Rattle.cell_store.proofs.star.other_among.Goals.{
-  else-is_on-via-then-is_on+else-not-is_same,
-  else-is_on-via-else-is_on,
-}
+use Rattle.cell_store.proofs.star.other_among.Goals.{else-is_on-via-then-is_on+else-not-is_same}
+use Rattle.cell_store.proofs.star.other_among.Goals.{else-is_on-via-else-is_on}
 
 pub loop-c-init : goal.loop-c-init
 loop-c-init c = all_come c.args.cell.now c.args.facet.now (cells_around c.args.around)

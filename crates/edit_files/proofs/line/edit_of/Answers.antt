@@ -6,12 +6,9 @@ use Rattle.edit_files.specs.Versions.{row}
 use Rattle.edit_files.specs.Judging.{edit, edit_at, edit_from, halves, move_of, point}
 use Rattle.edit_files.proofs.Points.{at_equals, at_equals_unmoved, at_other, edit_is, edit_short, edit_other}
 use Rattle.edit_files.proofs.line.edit_of.Goals as goal
-use Rattle.edit_files.proofs.line.edit_of.Goals.{
-  then-line-lt2-via-then-line-lt2,
-  then-line-lt2-via-else-line-lt2+then-line-ne32,
-  in_default-via-in-61+else-row,
-  in_default-via-in_default-1,
-}
+use Rattle.edit_files.proofs.line.edit_of.Goals.{then-line-lt2-via-then-line-lt2}
+use Rattle.edit_files.proofs.line.edit_of.Goals.{then-line-lt2-via-else-line-lt2+then-line-ne32}
+use Rattle.edit_files.proofs.line.edit_of.Goals.{in_default-via-in-61+else-row, in_default-via-in_default-1}
 
 pub returns-then-line-lt2 : goal.returns-then-line-lt2
 returns-then-line-lt2 c =

@@ -5,10 +5,8 @@ use Rattle.edit_files.specs.Judging.{digits}
 use Rattle.edit_files.specs.Numbers.{after_minus}
 use Rattle.edit_files.proofs.Numerals.{number_is, number_none}
 use Rattle.edit_files.proofs.scan.number_of.Goals as goal
-use Rattle.edit_files.proofs.scan.number_of.Goals.{
-  else-is_negative-via-then-is_negative+else-value-gt0,
-  else-is_negative-via-else-is_negative,
-}
+use Rattle.edit_files.proofs.scan.number_of.Goals.{else-is_negative-via-then-is_negative+else-value-gt0}
+use Rattle.edit_files.proofs.scan.number_of.Goals.{else-is_negative-via-else-is_negative}
 
 pub returns-in_err-value-clause-value : goal.returns-in_err-value-clause-value
 returns-in_err-value-clause-value c =

@@ -1,15 +1,8 @@
 use Rattle.std.proofs.Common.{◌∙◌, ap, sym, ◌+◌, is_some, Some, None}
 use Rattle.std.specs.Option.{option_map}
 use Rattle.edit_history.specs.OneThread.{places}
-use Rattle.edit_history.proofs.OpeningSolid.{
-  no_first,
-  no_second,
-  no_third,
-  at_fourth,
-  second_found,
-  third_found,
-  fourth_found,
-}
+use Rattle.edit_history.proofs.OpeningSolid.{no_first, no_second, no_third, at_fourth, second_found, third_found}
+use Rattle.edit_history.proofs.OpeningSolid.{fourth_found}
 use Rattle.edit_history.proofs.opening.four_but.Goals as goal
 
 pub returns-in_err-i-clause-solid : goal.returns-in_err-i-clause-solid

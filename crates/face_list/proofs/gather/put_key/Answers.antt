@@ -2,10 +2,8 @@ use Rattle.std.proofs.Common.{◌≡◌, sym, subst, ◌∙◌, ◌-◌, ◌<◌
 use Rattle.list_laws.proofs.Cited.{at_in, behind_all, in_end, is_last, is_less, none_in, sorted_end}
 use Rattle.point_order.specs.Sets.{IsIn}
 use Rattle.face_list.proofs.gather.put_key.Goals as goal
-use Rattle.face_list.proofs.gather.put_key.Goals.{
-  then-count-eq0-via-then-count-eq0,
-  then-count-eq0-via-else-count-eq0+then-is_before,
-}
+use Rattle.face_list.proofs.gather.put_key.Goals.{then-count-eq0-via-then-count-eq0}
+use Rattle.face_list.proofs.gather.put_key.Goals.{then-count-eq0-via-else-count-eq0+then-is_before}
 
 pub returns-in_ok-push-clause-order : goal.returns-in_ok-push-clause-order
 returns-in_ok-push-clause-order g c =

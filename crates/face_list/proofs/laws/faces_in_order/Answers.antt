@@ -1,11 +1,5 @@
-use Rattle.face_list.proofs.FaceLaws.{
-  points_in_order,
-  point_is_listed,
-  listed_is_point,
-  parts_in_order,
-  part_is_listed,
-  listed_is_part,
-}
+use Rattle.face_list.proofs.FaceLaws.{points_in_order, point_is_listed, listed_is_point, parts_in_order, part_is_listed}
+use Rattle.face_list.proofs.FaceLaws.{listed_is_part}
 use Rattle.face_list.proofs.laws.faces_in_order.Goals as goal
 
 pub returns-clause-points : goal.returns-clause-points

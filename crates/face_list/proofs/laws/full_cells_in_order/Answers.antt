@@ -1,9 +1,5 @@
-use Rattle.face_list.proofs.FullCells.{
-  full_cells_in_order,
-  full_cells_of_complex,
-  full_cell_is_listed,
-  listed_is_full_cell,
-}
+use Rattle.face_list.proofs.FullCells.{full_cells_in_order, full_cells_of_complex, full_cell_is_listed}
+use Rattle.face_list.proofs.FullCells.{listed_is_full_cell}
 use Rattle.face_list.proofs.laws.full_cells_in_order.Goals as goal
 
 pub returns-clause-order : goal.returns-clause-order

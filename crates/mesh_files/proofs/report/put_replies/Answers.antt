@@ -5,8 +5,7 @@ use Rattle.std.proofs.lemmas.List.{length-map}
 use Rattle.edit_history.specs.declared.history.Reply.{Reply}
 use Rattle.edit_history.specs.declared.history.Reply.TheVariants.{Inserted}
 use Rattle.mesh_files.specs.Text.{reply_line}
-use Rattle.text_sheets.proofs.Cited.{own_item}
-use Rattle.text_sheets.proofs.Cited.{ends, goes_on, starts}
+use Rattle.text_sheets.proofs.Cited.{own_item, ends, goes_on, starts}
 use Rattle.mesh_files.proofs.report.put_replies.Goals as goal
 
 pub loop-reply-init : goal.loop-reply-init

@@ -3,8 +3,7 @@ use Rattle.std.specs.Prelude.{map, codes}
 use Rattle.std.specs.List.{concat}
 use Rattle.std.proofs.lemmas.List.{length-map}
 use Rattle.mesh_files.specs.Text.{tag_line}
-use Rattle.text_sheets.proofs.Cited.{own_item}
-use Rattle.text_sheets.proofs.Cited.{ends, goes_on, starts}
+use Rattle.text_sheets.proofs.Cited.{own_item, ends, goes_on, starts}
 use Rattle.mesh_files.proofs.report.put_tags.Goals as goal
 
 pub loop-tag-init : goal.loop-tag-init

@@ -4,8 +4,7 @@ use Rattle.std.specs.List.{concat}
 use Rattle.std.proofs.lemmas.List.{length-map}
 use Rattle.alpha_complex.specs.declared.shape.Kind.{Kind}
 use Rattle.mesh_files.specs.Text.{face_line, points_of_faces}
-use Rattle.text_sheets.proofs.Cited.{ends, goes_on, starts}
-use Rattle.text_sheets.proofs.Cited.{below_end, past_end}
+use Rattle.text_sheets.proofs.Cited.{ends, goes_on, starts, below_end, past_end}
 use Rattle.mesh_files.proofs.shapes.put_points.Goals as goal
 
 -- as many points as faces

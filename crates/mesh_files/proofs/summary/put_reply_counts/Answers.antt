@@ -4,8 +4,7 @@ use Rattle.std.specs.List.{concat}
 use Rattle.edit_history.specs.declared.history.Reply.{Reply}
 use Rattle.edit_history.specs.declared.history.Reply.TheVariants.{Inserted}
 use Rattle.mesh_files.specs.Summary.{reply_count_line}
-use Rattle.text_sheets.proofs.Cited.{own_item}
-use Rattle.text_sheets.proofs.Cited.{ends, goes_on, leaves_all}
+use Rattle.text_sheets.proofs.Cited.{own_item, ends, goes_on, leaves_all}
 use Rattle.mesh_files.proofs.summary.put_reply_counts.Goals as goal
 
 pub loop-kind-init : goal.loop-kind-init

@@ -1,17 +1,8 @@
 use Rattle.std.proofs.Common.{ℤ, ◌*ℤ◌, ◌+ℤ◌, lit<, w64}
 use Rattle.std.specs.Int.RustNames.{FitsSigned}
 use Rattle.whole_ring.specs.Bounds.{IsWithin}
-use Rattle.whole_ring.proofs.Cited.{
-  fits_as,
-  read,
-  read_as,
-  same_product,
-  same_sum,
-  within_add,
-  within_as,
-  within_fits,
-  within_mul,
-}
+use Rattle.whole_ring.proofs.Cited.{fits_as, read, read_as, same_product, same_sum, within_add, within_as, within_fits}
+use Rattle.whole_ring.proofs.Cited.{within_mul}
 use Rattle.point_order.specs.Sizes.{greatest_difference, greatest_minor}
 use Rattle.point_order.proofs.step.dot.Goals as goal
 

@@ -1,15 +1,7 @@
 use Rattle.std.proofs.Common.{◌<◌, ◌≤◌, get_or, sym, subst, length, take, arith, ℕ}
 use Rattle.std.specs.Prelude.{Option}
-use Rattle.solid_parts.proofs.Joining.{
-  JoinSoFar,
-  all_joined,
-  first_below,
-  here,
-  next_below,
-  none_joined,
-  over,
-  with_first,
-}
+use Rattle.solid_parts.proofs.Joining.{JoinSoFar, all_joined, first_below, here, next_below, none_joined, over}
+use Rattle.solid_parts.proofs.Joining.{with_first}
 use Rattle.solid_parts.proofs.groups.join_all.Goals.{then-is_marked+in-Some, then-is_marked+in-None, else-is_marked}
 use Rattle.solid_parts.proofs.groups.join_all.Goals as goal
 

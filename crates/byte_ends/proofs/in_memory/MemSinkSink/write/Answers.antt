@@ -1,18 +1,7 @@
 use Rattle.std.proofs.Common.{◌≡◌, ap, ◌∙◌, ◌++◌, ◌-◌, take, length}
 use Rattle.byte_ends.specs.InMemory.{Calls, SinkState, after_fault}
-use Rattle.byte_ends.proofs.MemoryEnds.{
-  answered,
-  answered_only,
-  faulted,
-  moved_count,
-  moved_some,
-  moved_within,
-  some_left,
-  still_fits,
-  took_is,
-  within_memory,
-  within_room,
-}
+use Rattle.byte_ends.proofs.MemoryEnds.{answered, answered_only, faulted, moved_count, moved_some, moved_within}
+use Rattle.byte_ends.proofs.MemoryEnds.{some_left, still_fits, took_is, within_memory, within_room}
 use Rattle.byte_ends.proofs.Told.{no_error}
 use Rattle.byte_ends.proofs.in_memory.MemSinkSink.write.Goals.{In-Ok}
 use Rattle.byte_ends.proofs.in_memory.MemSinkSink.write.Goals as goal

@@ -1,15 +1,7 @@
 use Rattle.std.proofs.Common.{ap, sym, subst, ◌∙◌, ◌++◌, drop, take, refl, length}
 use Rattle.byte_ends.specs.InMemory.{Calls, NextFails, SourceState, after_fault}
-use Rattle.byte_ends.proofs.MemoryEnds.{
-  answered,
-  faulted,
-  gave_bound,
-  gave_end,
-  gave_front,
-  gave_is,
-  moved_count,
-  moved_within,
-}
+use Rattle.byte_ends.proofs.MemoryEnds.{answered, faulted, gave_bound, gave_end, gave_front, gave_is, moved_count}
+use Rattle.byte_ends.proofs.MemoryEnds.{moved_within}
 use Rattle.byte_ends.proofs.in_memory.MemSourceSource.read.Goals as goal
 
 -- ---- a call that fails

@@ -9,17 +9,8 @@ use Rattle.cell_store.specs.Missing.{ArePointsHeld, IsBucketMissing, IsCellMissi
 use Rattle.cavity.specs.Lists.{IsPast, IsAtPlace}
 use Rattle.cell_store.specs.Ready.{AreHeld}
 use Rattle.cell_store.proofs.Cited.{cell_missing, cells_all, solid_set}
-use Rattle.cavity.proofs.Advancing.{
-  GoesOn,
-  goes_on_first,
-  cell_needed,
-  none_needed,
-  next_at,
-  next_new,
-  goes_further,
-  goes_below,
-  cells_in_hand,
-}
+use Rattle.cavity.proofs.Advancing.{GoesOn, goes_on_first, cell_needed, none_needed, next_at, next_new, goes_further}
+use Rattle.cavity.proofs.Advancing.{goes_below, cells_in_hand}
 use Rattle.cavity.proofs.dig.Dig.advance.Goals as goal
 
 pub returns-in-Some-clause-turn : goal.returns-in-Some-clause-turn

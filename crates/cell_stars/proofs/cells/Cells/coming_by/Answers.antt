@@ -3,15 +3,8 @@ use Rattle.list_laws.proofs.Cited.{at_place}
 use Rattle.cell_stars.specs.Homes.{AreHomes}
 use Rattle.cell_stars.specs.Plans.{Once}
 use Rattle.cell_stars.proofs.HomeLaws.{homes_at}
-use Rattle.cell_stars.proofs.MoveLaws.{
-  coming_none,
-  coming_more,
-  coming_same,
-  coming_all,
-  single_none,
-  single_more,
-  single_same,
-}
+use Rattle.cell_stars.proofs.MoveLaws.{coming_none, coming_more, coming_same, coming_all, single_none, single_more}
+use Rattle.cell_stars.proofs.MoveLaws.{single_same}
 use Rattle.cell_stars.proofs.cells.Cells.coming_by.Goals as goal
 use Rattle.cell_stars.proofs.cells.Cells.coming_by.Goals.{then-comes+in_ok-push, else-comes}
 

@@ -2,15 +2,8 @@ use Rattle.std.proofs.Common.{refl, subst, sym, ap, arith, [], ◌∙◌, ℕ, �
 use Rattle.std.specs.List.{flat_map}
 use Rattle.cell_store.specs.Buckets.{content_of}
 use Rattle.cell_store.specs.Gathered.{HasHome}
-use Rattle.cell_store.proofs.Gathering.{
-  gathered_list,
-  gathered_none,
-  gathered_past,
-  left_here,
-  left_next,
-  list_all,
-  list_next,
-}
+use Rattle.cell_store.proofs.Gathering.{gathered_list, gathered_none, gathered_past, left_here, left_next, list_all}
+use Rattle.cell_store.proofs.Gathering.{list_next}
 use Rattle.cell_store.proofs.MeshLaws.{entries_of}
 use Rattle.cell_store.proofs.hold.Hold.into_lists.Goals as goal
 

@@ -1,16 +1,8 @@
 use Rattle.std.proofs.Common.{sym, ◌∙◌, ap, subst, ◌<◌, ◌≡◌, List, Option, length, Some, None}
 use Rattle.std.specs.Prelude.{slice_set}
 use Rattle.list_laws.proofs.Cited.{if_some, len_set}
-use Rattle.cell_store.specs.Buckets.{
-  BucketContent,
-  FitsPlace,
-  StandAtPlaces,
-  at_place,
-  bucket_at,
-  content_of,
-  layout_at,
-  shown,
-}
+use Rattle.cell_store.specs.Buckets.{BucketContent, FitsPlace, StandAtPlaces, at_place, bucket_at, content_of}
+use Rattle.cell_store.specs.Buckets.{layout_at, shown}
 use Rattle.cell_store.specs.Ready.{IsNoteReady, IsPointReady, ArePlansReady}
 use Rattle.cell_store.proofs.Layouts.{map_none, shown_at, shown_set}
 use Rattle.cell_store.proofs.NoteLaws.{hold_keeps, note_put, point_put, ready_put, stand_put}

@@ -6,19 +6,8 @@ use Rattle.cell_store.specs.Buckets.{StandAtPlaces, content_of, layout_at, shown
 use Rattle.cell_store.specs.Grids.{bucket_of}
 use Rattle.cell_store.specs.Ready.{HasPlaceFor, HasRoom, IsNoteReady, IsPointReady, ArePlansReady}
 use Rattle.cell_store.proofs.Layouts.{shown_is, shown_len, shown_set}
-use Rattle.cell_store.proofs.NoteLaws.{
-  content_put,
-  known_more,
-  named,
-  point_is,
-  point_ready,
-  point_room,
-  put_has_place,
-  put_is,
-  put_note,
-  ready_noted,
-  stand_noted,
-}
+use Rattle.cell_store.proofs.NoteLaws.{content_put, known_more, named, point_is, point_ready, point_room, put_has_place}
+use Rattle.cell_store.proofs.NoteLaws.{put_is, put_note, ready_noted, stand_noted}
 use Rattle.cell_store.proofs.hold.Hold.put_point.Goals as goal
 
 pub index_mut-requires : goal.index_mut-requires

@@ -6,18 +6,8 @@ use Rattle.point_order.specs.Sets.{IsIn, IsAscending}
 use Rattle.cell_store.specs.Buckets.{BucketContent}
 use Rattle.cell_store.specs.Shares.{cells_share}
 use Rattle.cell_store.specs.Wholes.{AreAt}
-use Rattle.cell_store.proofs.WholeLaws.{
-  as_at,
-  at_is,
-  at_within,
-  part_cells,
-  part_entries,
-  part_points,
-  parts_next,
-  share_ascends,
-  share_sorted,
-  share_touches,
-}
+use Rattle.cell_store.proofs.WholeLaws.{as_at, at_is, at_within, part_cells, part_entries, part_points, parts_next}
+use Rattle.cell_store.proofs.WholeLaws.{share_ascends, share_sorted, share_touches}
 use Rattle.cell_store.proofs.whole.Parts.bucket.Goals as goal
 
 pub cells_at-requires : goal.cells_at-requires

@@ -1,20 +1,5 @@
-use Rattle.std.proofs.Common.{
-  ◌≡◌,
-  ◌≢◌,
-  ◌<◌,
-  ◌+◌,
-  None,
-  IsSome,
-  length,
-  slice_index_or,
-  slice_set,
-  refl,
-  sym,
-  ◌∙◌,
-  ap,
-  subst,
-  arith,
-}
+use Rattle.std.proofs.Common.{◌≡◌, ◌≢◌, ◌<◌, ◌+◌, None, IsSome, length, slice_index_or, slice_set, refl, sym, ◌∙◌, ap}
+use Rattle.std.proofs.Common.{subst, arith}
 use Rattle.claim_rule.specs.declared.event.Event.TheVariants.{Claim}
 use Rattle.claim_rule.specs.declared.event.Played.TheVariants.{Done, Taken}
 use Rattle.claim_rule.specs.Boards.{BoardState}
@@ -24,21 +9,11 @@ use Rattle.claim_rule.specs.Kept.{kept_board}
 use Rattle.std.proofs.lemmas.List.{get_or_read}
 use Rattle.list_laws.proofs.Cited.{some_of}
 use Rattle.cell_store.specs.Buckets.{bucket_at}
-use Rattle.claim_rule.proofs.Moves.{
-  good_by,
-  seen_as,
-  claim_next,
-  claim_taken,
-  held_twice,
-  named_holds,
-  not_live,
-  within_length,
-}
+use Rattle.claim_rule.proofs.Moves.{good_by, seen_as, claim_next, claim_taken, held_twice, named_holds, not_live}
+use Rattle.claim_rule.proofs.Moves.{within_length}
 use Rattle.claim_rule.proofs.board.Board.claim.Goals as goal
-use Rattle.claim_rule.proofs.board.Board.claim.Goals.{
-  then-not-is_live-via-then-not-is_live,
-  then-not-is_live-via-else-not-is_live+then-b-len,
-}
+use Rattle.claim_rule.proofs.board.Board.claim.Goals.{then-not-is_live-via-then-not-is_live}
+use Rattle.claim_rule.proofs.board.Board.claim.Goals.{then-not-is_live-via-else-not-is_live+then-b-len}
 
 -- the word is another pass's: the answer is `Taken` with it, and nothing changes
 pub returns-then-word-ne0-clause-next : goal.returns-then-word-ne0-clause-next

@@ -1,22 +1,6 @@
 use Rattle.std.specs.Prelude.{MatchOption}
-use Rattle.std.proofs.Common.{
-  ◌≡◌,
-  ◌<◌,
-  Bool,
-  ℕ,
-  List,
-  Option,
-  None,
-  Some,
-  IsSomeAnd,
-  length,
-  slice_index_or,
-  refl,
-  sym,
-  ◌∙◌,
-  ap,
-  subst,
-}
+use Rattle.std.proofs.Common.{◌≡◌, ◌<◌, Bool, ℕ, List, Option, None, Some, IsSomeAnd, length, slice_index_or, refl, sym}
+use Rattle.std.proofs.Common.{◌∙◌, ap, subst}
 use Rattle.claim_rule.specs.declared.board.Seat.{Seat}
 use Rattle.edit_history.specs.Histories.{replay}
 use Rattle.list_laws.proofs.Cited.{on_err}
@@ -26,17 +10,8 @@ use Rattle.claim_rule.specs.Boards.{BoardState}
 use Rattle.claim_rule.specs.Good.{IsGood, Good}
 use Rattle.claim_rule.specs.Making.{EditGives}
 use Rattle.claim_rule.proofs.Moves.{good_by, seen_as}
-use Rattle.claim_rule.proofs.Committing.{
-  few_so_far,
-  made_next,
-  next_fits,
-  none_commits,
-  same_board,
-  short_answer,
-  shown_set,
-  unmade_commits,
-  words_whole,
-}
+use Rattle.claim_rule.proofs.Committing.{few_so_far, made_next, next_fits, none_commits, same_board, short_answer}
+use Rattle.claim_rule.proofs.Committing.{shown_set, unmade_commits, words_whole}
 use Rattle.claim_rule.proofs.board.Board.commit.Goals as goal
 
 none_case : {X : Type 0} (o : Option X) (P : Type 0) (Q : X → Type 0) → MatchOption o P Q → ((x : X) → o ≡ Some x → ⊥) →

@@ -1,20 +1,5 @@
-use Rattle.std.proofs.Common.{
-  ◌≡◌,
-  ◌≢◌,
-  ◌+◌,
-  max,
-  None,
-  Some,
-  All,
-  slice_index_or,
-  slice_set,
-  refl,
-  sym,
-  ◌∙◌,
-  ap,
-  subst,
-  arith,
-}
+use Rattle.std.proofs.Common.{◌≡◌, ◌≢◌, ◌+◌, max, None, Some, All, slice_index_or, slice_set, refl, sym, ◌∙◌, ap, subst}
+use Rattle.std.proofs.Common.{arith}
 use Rattle.claim_rule.specs.declared.event.Event.TheVariants.{Join}
 use Rattle.claim_rule.specs.declared.event.Played.TheVariants.{Done}
 use Rattle.claim_rule.specs.Boards.{BoardState}
@@ -25,13 +10,10 @@ use Rattle.list_laws.proofs.Cited.{none_there, within}
 use Rattle.claim_rule.proofs.Moves.{good_by, not_live, seen_as}
 use Rattle.claim_rule.proofs.Seats.{join_facts, join_next, seat_inside}
 use Rattle.claim_rule.proofs.board.Board.join.Goals as goal
-use Rattle.claim_rule.proofs.board.Board.join.Goals.{
-  in_default-via-in-Some+in_default,
-  in_default-via-in_default,
-  then-from-via-then-from,
-  then-from-via-else-from+then-not-holds_nothing,
-  then-from-via-else-from+else-not-holds_nothing+then-not-holds_nothing-2,
-}
+use Rattle.claim_rule.proofs.board.Board.join.Goals.{in_default-via-in-Some+in_default, in_default-via-in_default}
+use Rattle.claim_rule.proofs.board.Board.join.Goals.{then-from-via-then-from}
+use Rattle.claim_rule.proofs.board.Board.join.Goals.{then-from-via-else-from+then-not-holds_nothing}
+use Rattle.claim_rule.proofs.board.Board.join.Goals.{then-from-via-else-from+else-not-holds_nothing+then-not-holds_nothing-2}
 
 -- a join may not come where the parts are not side by side, or one of the passes holds a bucket
 pub returns-then-from-clause-next : goal.returns-then-from-clause-next

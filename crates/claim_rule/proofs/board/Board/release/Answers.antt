@@ -9,10 +9,8 @@ use Rattle.claim_rule.specs.Kept.{kept_board}
 use Rattle.cell_store.specs.Buckets.{bucket_at}
 use Rattle.claim_rule.proofs.Moves.{good_by, seen_as, release_next, holds_named, not_live}
 use Rattle.claim_rule.proofs.board.Board.release.Goals as goal
-use Rattle.claim_rule.proofs.board.Board.release.Goals.{
-  then-not-is_live-via-then-not-is_live,
-  then-not-is_live-via-else-not-is_live+then-not-names,
-}
+use Rattle.claim_rule.proofs.board.Board.release.Goals.{then-not-is_live-via-then-not-is_live}
+use Rattle.claim_rule.proofs.board.Board.release.Goals.{then-not-is_live-via-else-not-is_live+then-not-names}
 
 -- a release may not come where the pass is not live or the word does not name it
 pub returns-then-not-is_live-clause-next : goal.returns-then-not-is_live-clause-next

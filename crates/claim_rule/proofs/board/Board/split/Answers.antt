@@ -1,21 +1,5 @@
-use Rattle.std.proofs.Common.{
-  ◌≢◌,
-  ◌<◌,
-  ◌≤◌,
-  ◌+◌,
-  ◌-◌,
-  None,
-  Some,
-  All,
-  slice_index_or,
-  slice_set,
-  refl,
-  sym,
-  ◌∙◌,
-  ap,
-  subst,
-  arith,
-}
+use Rattle.std.proofs.Common.{◌≢◌, ◌<◌, ◌≤◌, ◌+◌, ◌-◌, None, Some, All, slice_index_or, slice_set, refl, sym, ◌∙◌, ap}
+use Rattle.std.proofs.Common.{subst, arith}
 use Rattle.claim_rule.specs.declared.event.Event.TheVariants.{Split}
 use Rattle.claim_rule.specs.declared.event.Played.TheVariants.{Done}
 use Rattle.claim_rule.specs.Boards.{BoardState}
@@ -26,12 +10,10 @@ use Rattle.list_laws.proofs.Cited.{some_of, within}
 use Rattle.claim_rule.proofs.Moves.{good_by, not_live, seen_as}
 use Rattle.claim_rule.proofs.Seats.{split_facts, split_next, seat_inside, as_many}
 use Rattle.claim_rule.proofs.board.Board.split.Goals as goal
-use Rattle.claim_rule.proofs.board.Board.split.Goals.{
-  then-parts-eq0-via-then-parts-eq0,
-  then-parts-eq0-via-else-parts-eq0+then-parts-seat,
-  then-parts-eq0-via-else-parts-eq0+else-parts-seat+then-left-seat,
-  then-parts-eq0-via-else-parts-eq0+else-parts-seat+else-left-seat+then-not-holds_nothing,
-}
+use Rattle.claim_rule.proofs.board.Board.split.Goals.{then-parts-eq0-via-then-parts-eq0}
+use Rattle.claim_rule.proofs.board.Board.split.Goals.{then-parts-eq0-via-else-parts-eq0+then-parts-seat}
+use Rattle.claim_rule.proofs.board.Board.split.Goals.{then-parts-eq0-via-else-parts-eq0+else-parts-seat+then-left-seat}
+use Rattle.claim_rule.proofs.board.Board.split.Goals.{then-parts-eq0-via-else-parts-eq0+else-parts-seat+else-left-seat+then-not-holds_nothing}
 
 -- a split may not come where no part is given or kept, too much allowance is asked for, or a bucket is held
 pub returns-then-parts-eq0-clause-next : goal.returns-then-parts-eq0-clause-next

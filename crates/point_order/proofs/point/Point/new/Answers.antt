@@ -2,14 +2,12 @@ use Rattle.std.proofs.Common.{ap, ◌∙◌, inl, inr, pos, refl}
 use Rattle.whole_ring.proofs.Cited.{read}
 use Rattle.point_order.proofs.Keys.{x_of_packed, y_of_packed, z_of_packed}
 use Rattle.point_order.proofs.Readings.{given, given_coordinate, packed_below, too_great, too_small}
-use Rattle.point_order.proofs.point.Point.new.Goals.{
-  then-x-lt0-via-then-x-lt0,
-  then-x-lt0-via-else-x-lt0+then-x-gt16383,
-  then-y-lt0-via-then-y-lt0,
-  then-y-lt0-via-else-y-lt0+then-y-gt16383,
-  then-z-lt0-via-then-z-lt0,
-  then-z-lt0-via-else-z-lt0+then-z-gt16383,
-}
+use Rattle.point_order.proofs.point.Point.new.Goals.{then-x-lt0-via-then-x-lt0}
+use Rattle.point_order.proofs.point.Point.new.Goals.{then-x-lt0-via-else-x-lt0+then-x-gt16383}
+use Rattle.point_order.proofs.point.Point.new.Goals.{then-y-lt0-via-then-y-lt0}
+use Rattle.point_order.proofs.point.Point.new.Goals.{then-y-lt0-via-else-y-lt0+then-y-gt16383}
+use Rattle.point_order.proofs.point.Point.new.Goals.{then-z-lt0-via-then-z-lt0}
+use Rattle.point_order.proofs.point.Point.new.Goals.{then-z-lt0-via-else-z-lt0+then-z-gt16383}
 use Rattle.point_order.proofs.point.Point.new.Goals as goal
 
 pub returns-then-x-lt0-clause-refused : goal.returns-then-x-lt0-clause-refused

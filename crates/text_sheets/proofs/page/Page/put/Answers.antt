@@ -1,15 +1,6 @@
 use Rattle.list_laws.proofs.Cited.{on_err}
-use Rattle.text_sheets.proofs.Flowing.{
-  at_once,
-  cause_from,
-  caused,
-  not_ok,
-  passed_ok,
-  passed_err,
-  stopped,
-  waits,
-  waits_after,
-}
+use Rattle.text_sheets.proofs.Flowing.{at_once, cause_from, caused, not_ok, passed_ok, passed_err, stopped, waits}
+use Rattle.text_sheets.proofs.Flowing.{waits_after}
 use Rattle.text_sheets.proofs.page.Page.put.Goals as goal
 
 pub returns-then-has_room : goal.returns-then-has_room
