@@ -1,0 +1,46 @@
+"""Prints an edit file at full size: 65,536 lines of points and edits, a radius and 2,000 queries.
+
+    tools/make full-file
+
+It is drawn by a rule of its own. Of the edits every fourth takes a point, and every fourth moves one; the first
+thousand points stay, so the opening four do. tools/cases runs every command on it, beside what `tools/make full-size`
+makes.
+"""
+from plain import random_cases
+
+POINTS, EDITS, QUERIES, START = 56_000, 9_536, 2_000, 20261130
+RADIUS = 16 * 90_000  # in sixteenths of a squared distance
+
+
+def drawn(count):
+    """So many places in a ball, of which no face of the grid has several, by a linear congruence."""
+    state, places = START, []
+    while len(places) < count:
+        place = []
+        for _ in range(3):
+            state = (state * 6364136223846793005 + 1442695040888963407) % 2**64
+            place.append((state >> 33) % 16384)
+        if sum((x - 8192)**2 for x in place) < 8000**2:
+            places.append(tuple(place))
+    return places
+
+
+def drawn_file():
+    """Points, and edits of which every fourth takes a point, and every fourth moves one; the first points stay."""
+    places = drawn(POINTS + EDITS + QUERIES)
+    points, more, queries = places[:POINTS], places[POINTS:-QUERIES], places[-QUERIES:]
+    edits = []
+    for i, place in enumerate(more):
+        known = points[1000 + 5 * i % (POINTS - 1000)]
+        edits.append((False, known) if i % 4 == 1 else (None, known, place) if i % 4 == 3 else (True, place))
+    return points, edits, queries
+
+
+def text():
+    """Its text, of version 4."""
+    points, edits, queries = drawn_file()
+    return random_cases.text_of(points, edits, [RADIUS], 4, queries)
+
+
+if __name__ == '__main__':
+    print(text(), end='')
