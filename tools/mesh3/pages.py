@@ -1,104 +1,108 @@
-"""A page for a browser: plotly's script and the arrays of the scenes within one file, which needs no network."""
-import base64
+"""A page for a browser: what is drawn of all radii, packed into one file, whose script needs nothing from outside.
+
+The parts of the page stand in the folder `page` beside this file.
+"""
 import html
 import json
+import os
 
 import numpy as np
+from mesh3.drawn import extent_of, first_stop, steady
+from mesh3.packing import Pack
 
-PAGE = """<!DOCTYPE html>
-<html lang="en">
-<head>
-<meta charset="utf-8">
-<title>{title}</title>
-<style>
-body {{ margin: 0; font: 15px sans-serif; color: #20303a; }}
-#bar {{ position: absolute; z-index: 2; left: 1em; top: 1em; }}
-#plot {{ width: 100vw; height: 100vh; }}
-</style>
-<script>{plotly}</script>
-</head>
-<body>
-<div id="bar"><label><span id="name"></span><br>
-<input id="slider" type="range" min="0" max="{last}" value="0" step="1"{hidden} aria-label="radius"></label></div>
-<div id="plot"></div>
-<script>
-const data = {data};
-function array(text, Kind) {{
-    const bytes = Uint8Array.from(atob(text), c => c.charCodeAt(0));
-    return new Kind(bytes.buffer);
-}}
-const points = data.points.map(text => array(text, Float32Array));
-const ready = new Map();
-function meshOf(of) {{
-    const [i, j, k] = of.corners.map(text => array(text, Uint32Array));
-    return {{type: 'mesh3d', x: points[0], y: points[1], z: points[2], i, j, k, color: of.colour, name: of.name,
-        flatshading: true, showlegend: true, hoverinfo: 'skip'}};
-}}
-function linesOf(of) {{
-    const ends = of.ends.map(text => array(text, Uint32Array));
-    const path = points.map(axis => {{
-        const line = new Array(3 * ends[0].length).fill(null);
-        for (const e of [0, 1]) ends[e].forEach((p, n) => {{ line[3 * n + e] = axis[p]; }});
-        return line;
-    }});
-    return {{type: 'scatter3d', mode: 'lines', x: path[0], y: path[1], z: path[2], line: {{color: of.colour}},
-        name: of.name, hoverinfo: 'skip'}};
-}}
-const dots = {{type: 'scatter3d', mode: 'markers', x: points[0], y: points[1], z: points[2], name: 'points',
-    marker: {{size: 1.5, color: '#20303a'}}, visible: data.dotted ? true : 'legendonly', hoverinfo: 'skip'}};
-function tracesOf(n) {{
-    if (!ready.has(n)) {{
-        const scene = data.scenes[n];
-        ready.set(n, [...scene.meshes.map(meshOf), ...scene.lines.map(linesOf), dots]);
-    }}
-    return ready.get(n);
-}}
-const axis = {{visible: false}};
-const layout = {{uirevision: 'kept', margin: {{l: 0, r: 0, t: 0, b: 0}}, legend: {{x: 1, xanchor: 'right', y: 0.94}},
-    scene: {{aspectmode: 'data', xaxis: axis, yaxis: axis, zaxis: axis}}}};
-async function show(n) {{
-    document.getElementById('name').textContent = data.scenes[n].title;
-    await Plotly.react('plot', tracesOf(n), layout, {{responsive: true}});
-    document.body.dataset.shown = data.scenes[n].title;
-}}
-const slider = document.getElementById('slider');
-slider.addEventListener('input', () => show(Number(slider.value)));
-slider.value = Math.min(Number(location.hash.slice(1)) || 0, data.scenes.length - 1);
-show(Number(slider.value));
-</script>
-</body>
-</html>
-"""
+PARTS = os.path.join(os.path.dirname(os.path.realpath(__file__)), 'page')
+SCRIPTS = ('world', 'axis', 'view', 'scene', 'picking', 'controls', 'page')
+VIEW = (-1.05, 0.62)  # azimuth and elevation in radians
+LEGENDS = ('triangles at tetrahedra (regular)', 'loose faces (singular)')
 
 
-def packed(array, kind):
-    """The numbers of an array as text of base 64, little-endian: what a typed array of the page is made of."""
-    return base64.b64encode(np.ascontiguousarray(array, dtype=kind).tobytes()).decode('ascii')
+def part(name):
+    with open(os.path.join(PARTS, name), encoding='utf-8') as file:
+        return file.read()
 
 
-def columns(array, kind):
-    return [packed(array[:, i], kind) for i in range(array.shape[1])]
+def put_faces(pack, name, faces, stops, lives, turned=None):
+    """Columns of faces: stops as differences, corners as differences, of triangles with the bit that turns them."""
+    kinds = ('stop', 'some', 'all') if stops.shape[1] == 3 else ('stop', 'all')
+    for i, kind in enumerate(kinds):
+        column = stops[:, i] - stops[:, i - 1] if i else stops[:, 0]
+        pack.put(f'{name}_{kind}', column, steps=i == 0)
+    pack.put(f'{name}_i', faces[:, 0])
+    pack.put(f'{name}_j', faces[:, 1] - faces[:, 0])
+    if turned is not None:
+        pack.put(f'{name}_k', 2 * (faces[:, 2] - faces[:, 1]) + turned)
+    if lives is not None:
+        pack.put(f'{name}_born', lives[:, 0])
+        pack.put(f'{name}_died', lives[:, 1])
 
 
-def scene_of(scene, colours):
-    names = ('singular triangles', 'boundary' if scene.closed else 'regular triangles')
-    meshes = []
-    for kind, name in enumerate(names):
-        triangles = scene.triangles[scene.kinds == kind]
-        if len(triangles):
-            meshes.append({'name': name, 'colour': colours[kind], 'corners': columns(triangles, '<u4')})
-    lines = []
-    if len(scene.edges):
-        lines.append({'name': 'loose singular edges', 'colour': colours[0], 'ends': columns(scene.edges, '<u4')})
-    return {'title': scene.title, 'meshes': meshes, 'lines': lines}
+def packed(drawn):
+    """All columns of what is drawn."""
+    pack = Pack()
+    for i, axis in enumerate('xyz'):
+        pack.put(axis, drawn.points[:, i])
+    pack.put('alphas', drawn.alphas, steps=True)
+    lives = drawn.lives or {}
+    # a triangle may be at a tetrahedron as soon as it is in: then it is never singular
+    stops = np.maximum.accumulate(drawn.triangle_stops, axis=1)
+    put_faces(pack, 'triangle', drawn.triangles, stops, lives.get('triangle'), drawn.turned)
+    put_faces(pack, 'edge', drawn.edges, drawn.edge_stops, lives.get('edge'))
+    if drawn.changes is not None:
+        for name, row in zip(('parts', 'loops', 'voids', 'cells'), drawn.changes):
+            pack.put(name, row)
+    if drawn.chosen is not None:
+        pack.put('chosen', drawn.chosen, steps=True)
+    if drawn.frames is not None:
+        changes = np.concatenate([frame['changes'] for frame in drawn.frames])
+        for i, name in enumerate(('stop', 'parts', 'loops', 'voids', 'cells')):
+            pack.put(f'change_{name}', changes[:, i])
+        cells = [rows.ravel() for frame in drawn.frames for rows in (frame['gone'], frame['came'])]
+        pack.put('moved_cells', np.concatenate(cells))
+    return pack
 
 
-def page_of(points, scenes, colours, most_dotted):
-    """The text of a page that shows the scenes one by one, by a slider; points (n, 3) are kept to 24 bits."""
-    from plotly.offline import get_plotlyjs
-    dotted = len(points) <= most_dotted or not any(len(scene.triangles) for scene in scenes)
-    told = [scene_of(scene, colours) for scene in scenes]
-    data = {'points': columns(points, '<f4'), 'dotted': dotted, 'scenes': told}
-    title = html.escape(', '.join(scene.title for scene in scenes))
-    return PAGE.format(title=title, plotly=get_plotlyjs(), last=len(scenes) - 1, data=json.dumps(data),
-                       hidden='' if len(scenes) > 1 else ' hidden')
+def frames_of(drawn):
+    """What the page is told of each frame: its words, and how many changes and tetrahedra it has."""
+    return [{'text': frame['text'], 'changes': len(frame['changes']), 'gone': len(frame['gone']),
+             'came': len(frame['came'])} for frame in drawn.frames]
+
+
+def words_of(drawn, notes):
+    """A line under the title: counts, and what is left out."""
+    words = [f'{len(drawn.points):,} points' + (' in all' if drawn.frames is not None else '')]
+    if drawn.changes is not None:
+        if drawn.frames is None:
+            words.append(f'{int(drawn.changes[3].sum()):,} tetrahedra')
+        words.append(f'{len(drawn.alphas):,} radii')
+    if drawn.chosen is not None:
+        words.append(f'too many for a page: it stops at {len(drawn.chosen)} radii and leaves out '
+                     f'{drawn.all_triangles - len(drawn.triangles):,} of {drawn.all_triangles:,} triangles, which are '
+                     'seen at none of these; the numbers are those of all')
+    return ', '.join([*words, *notes])
+
+
+def page_of(drawn, title, placing=None, first=None, loose=True, notes=()):
+    """The text of a page.
+
+    `placing` gives lengths in the units of a scan, `first` the stop that it opens at, `loose` whether loose faces are
+    shown, and `notes` what stands behind the counts.
+    """
+    drawn.thinned()
+    drawn.by_stops()
+    runs = [] if drawn.frames is not None else steady(drawn)
+    unit = 1 / placing.scale if placing else 1.0
+    pack = packed(drawn)
+    told = {
+        'title': title, 'words': words_of(drawn, notes), 'columns': pack.told, 'unit': unit,
+        'origin': placing.origin.tolist() if placing else [0.0, 0.0, 0.0], 'view': VIEW, 'steady': runs,
+        'axis': [root / 4 * unit for root in extent_of(drawn)], 'loose': loose,
+        'first': first_stop(drawn, runs) if first is None else first, 'turned': drawn.has_sides,
+        'legend': LEGENDS if len(drawn.alphas) > 1 else ('triangles that bound the part',),
+        'frames': None if drawn.frames is None else frames_of(drawn),
+    }
+    script = "'use strict';\n" + '\n'.join(part(f'{name}.js') for name in SCRIPTS)
+    page = part('page.html')
+    for mark, text in (('@STYLE@', part('page.css')), ('@SCRIPT@', script), ('@TITLE@', html.escape(title)),
+                       ('@META@', json.dumps(told).replace('<', '\\u003c')), ('@PACKED@', pack.text())):
+        page = page.replace(mark, text)
+    return page
