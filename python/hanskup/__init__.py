@@ -3,21 +3,31 @@
     import hanskup
     mesh = hanskup.delaunay(points)                # an array of shape (n, 3)
     mesh.simplices, mesh.neighbors, mesh.convex_hull
-    shape = mesh.alpha(0.3)                        # a radius in the unit of the points
-    triangles = shape.boundary()
+    shape = mesh.alpha(0.3)                        # a radius in the unit of the points; or alpha_shape(points, 0.3)
+    triangles = shape.boundary()                   # shape.volume(), shape.area()
     shape.parts(), shape.voids()                   # of the solid, and what it encloses (scipy)
+    mesh.optimal_alpha(parts=1)                    # the least radius with all points in so few parts (scipy)
+    mesh.filtration().to_gudhi()                   # a SimplexTree
     mesh.add(more), mesh.take(indices), mesh.move(indices, places)      # edits, each with its reply
     mesh.locate(places), mesh.nearest(places), mesh.find_simplex(places)
+    mesh.interpolate(values)(places)               # linear, or method='natural'
+    mesh.voronoi().volumes                         # scipy's names
+    mesh.to_meshio(), mesh.to_pyvista(), shape.to_meshio(), shape.to_trimesh(), shape.to_pyvista()
 
 The library works on whole coordinates 0 to 16383. What it answers of those is proved; how points with real coordinates
-are placed on that grid, and what this package computes from the answer (turns of simplices, boundaries), is Python: it
-is tested, and not proved.
+are placed on that grid, and what this package computes from the answer (turns of simplices, boundaries, parts, Voronoi
+regions, interpolation), is Python over the proved rows: it is tested, and not proved. The docstrings tell which.
 """
+from ._errors import Flat, Full, HanskupError, OutOfRange, WantOfMemory
 from ._grid import Placing
-from ._kinds import INTERIOR, REGULAR, SINGULAR
-from ._library import Flat, HanskupError, OutOfRange, WantOfMemory
-from ._mesh import BEYOND_HULL, CELL, POINT, Located, Mesh, RoundingWarning, delaunay
+from ._interpolate import Interpolator
+from ._kinds import BEYOND_HULL, CELL, INTERIOR, POINT, REGULAR, SINGULAR
+from ._looks import Located
+from ._mesh import Mesh, RoundingWarning, alpha_shape, delaunay
 from ._shape import Filtration, Shape, Voids
+from ._version import __version__ as __version__
+from ._voronoi import Voronoi
 
-__all__ = ['delaunay', 'Mesh', 'Shape', 'Voids', 'Filtration', 'Located', 'Placing', 'RoundingWarning', 'HanskupError',
-           'Flat', 'OutOfRange', 'WantOfMemory', 'SINGULAR', 'REGULAR', 'INTERIOR', 'POINT', 'CELL', 'BEYOND_HULL']
+__all__ = ['delaunay', 'alpha_shape', 'Mesh', 'Shape', 'Voids', 'Filtration', 'Located', 'Voronoi', 'Interpolator',
+           'Placing', 'RoundingWarning', 'HanskupError', 'Flat', 'Full', 'OutOfRange', 'WantOfMemory', 'SINGULAR',
+           'REGULAR', 'INTERIOR', 'POINT', 'CELL', 'BEYOND_HULL']

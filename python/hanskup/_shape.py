@@ -1,11 +1,16 @@
 """Alpha complexes of a mesh."""
 from __future__ import annotations
 
-from typing import TYPE_CHECKING, NamedTuple
+import math
+from typing import TYPE_CHECKING, Any, NamedTuple
 
 import numpy as np
+import numpy.typing as npt
 
-from ._grid import OTHERS, outwards
+from . import _adapters
+from ._graphs import joined
+from ._grid import OTHERS, cross, dot, outwards, volumes
+from ._kinds import Bools, Floats, Ints, Numbers, Rows
 
 if TYPE_CHECKING:
     from ._arrays import Arrays
@@ -17,21 +22,26 @@ class Filtration(NamedTuple):
     An alpha is a squared radius in the unit of the points; infinity where there is none. Rows are indices of the given
     points; each face stands once. Faces are in the order of the grid's points, not of the indices.
     """
-    points: np.ndarray  #: (m,) indices
-    point_alphas: np.ndarray  #: (m, 3) floats
-    edges: np.ndarray  #: (e, 2) indices
-    edge_alphas: np.ndarray  #: (e, 3) floats
-    triangles: np.ndarray  #: (t, 3) indices
-    triangle_alphas: np.ndarray  #: (t, 3) floats
-    tetrahedra: np.ndarray  #: (c, 4) indices
-    tetrahedron_alphas: np.ndarray  #: (c,) floats: that at which it is admitted
+    points: Rows  #: (m,) indices
+    point_alphas: Floats  #: (m, 3) floats
+    edges: Rows  #: (e, 2) indices
+    edge_alphas: Floats  #: (e, 3) floats
+    triangles: Rows  #: (t, 3) indices
+    triangle_alphas: Floats  #: (t, 3) floats
+    tetrahedra: Rows  #: (c, 4) indices
+    tetrahedron_alphas: Floats  #: (c,) floats: that at which it is admitted
+
+    def to_gudhi(self) -> Any:
+        """A gudhi.SimplexTree of the faces with the alphas at which they are admitted, as AlphaComplex makes it. It
+        needs gudhi."""
+        return _adapters.to_gudhi(self)
 
 
 class Voids(NamedTuple):
     """What an alpha complex encloses: the tetrahedra that are not in it and from which no way leads outside but through
     one of its triangles."""
-    tetrahedra: np.ndarray  #: (v, 4) indices of points
-    numbers: np.ndarray  #: (v,) the void that each is of, from 0
+    tetrahedra: Rows  #: (v, 4) indices of points
+    numbers: Ints  #: (v,) the void that each is of, from 0
 
 
 class Shape:
@@ -49,65 +59,107 @@ class Shape:
 
     def __init__(self, mesh: Arrays, sixteenths: int) -> None:
         self.mesh, self.sixteenths = mesh, sixteenths
-        faces, given = mesh._faces, mesh._given
-        self._cells = mesh.cells[faces.cell_alphas <= sixteenths]
-        self.points, self.point_kinds = given, self._kinds(faces.point_alphas)
+        # What it was made of: an edit of the mesh later on changes none of it.
+        self._faces, self._given, self._all = mesh._faces, mesh._given, mesh.cells
+        self._grid, self._across = mesh.grid, mesh.across
+        self._unit = mesh.placing.unit if mesh.placing else 1.0
+        self._points: Numbers = mesh.points
+        faces = self._faces
+        self._within: Bools = faces.cell_alphas <= sixteenths
+        self.points, self.point_kinds = self._given, self._kinds(faces.point_alphas)
         self.edges, self.edge_kinds = self._of(faces.edges, faces.edge_alphas)
         self.triangles, self.triangle_kinds = self._of(faces.triangles, faces.triangle_alphas)
-        self.tetrahedra = given[self._cells]
+        self.tetrahedra = self._given[self._all[self._within]]
 
-    def _kinds(self, alphas: np.ndarray) -> np.ndarray:
+    def __repr__(self) -> str:
+        radius = math.sqrt(self.sixteenths) / 4 * self._unit
+        return (f'<hanskup.Shape: radius {radius:.3g}, {len(self.edges)} edges, {len(self.triangles)} triangles, '
+                f'{len(self.tetrahedra)} tetrahedra>')
+
+    def _kinds(self, alphas: npt.NDArray[np.uint64]) -> Ints:
         # An interior face is regular too.
         interior = alphas[:, 2] <= self.sixteenths
         return np.where(interior, 2, (alphas[:, 1] <= self.sixteenths).astype(np.int64))
 
-    def _of(self, faces: np.ndarray, alphas: np.ndarray) -> tuple[np.ndarray, np.ndarray]:
-        kept = alphas[:, 0] <= self.sixteenths
-        return self.mesh._given[faces[kept]], self._kinds(alphas[kept])
+    def _of(self, faces: npt.NDArray[np.uint32], alphas: npt.NDArray[np.uint64]) -> tuple[Rows, Ints]:
+        admitted = alphas[:, 0] <= self.sixteenths
+        return self._given[faces[admitted]], self._kinds(alphas[admitted])
 
-    def boundary(self) -> np.ndarray:
-        """(b, 3) indices: the triangles with an admitted tetrahedron on just one side, turned away from it."""
-        cells, grid = self._cells, self.mesh.grid
-        corners = cells[:, OTHERS].reshape(-1, 3)
-        _, first, count = np.unique(corners, axis=0, return_index=True, return_counts=True)
-        first = first[count == 1]
-        return self.mesh._given[outwards(grid, corners[first], grid[cells.reshape(-1)[first]])]
+    def _sides(self) -> Rows:
+        # The triangles of the boundary by numbers of points, turned outwards.
+        i, k = np.nonzero(self._within[:, None] & ~self._neighbours_among(self._within))
+        return outwards(self._grid, self._all[i[:, None], OTHERS[k]], self._grid[self._all[i, k]])
 
-    def parts(self) -> np.ndarray:
+    def boundary(self) -> Rows:
+        """(b, 3) int32 indices: the triangles with an admitted tetrahedron on just one side, turned away from it.
+
+        It is Python over the proved rows, and tested.
+        """
+        return self._given[self._sides()]
+
+    def volume(self) -> float:
+        """The volume of the tetrahedra, in the cube of the unit of the points: of the places on the grid, exact up to
+        the last rounding. Python over the proved rows, and tested."""
+        return int(np.abs(volumes(self._grid, self._all[self._within])).sum()) / 6 * self._unit ** 3
+
+    def area(self) -> float:
+        """The area of the boundary, in the square of the unit of the points, of the places on the grid. Python over the
+        proved rows, and tested."""
+        return area_of(self._grid, self._sides()) * self._unit ** 2
+
+    def parts(self) -> Ints:
         """(c,) the solid part that each of `tetrahedra` is of, from 0; those that share a triangle are of one part.
 
-        It needs scipy.
+        It is Python over the proved rows, and tested. It needs scipy.
         """
-        within = self.mesh._faces.cell_alphas <= self.sixteenths
-        return _numbers(self._joined(within[:, None] & self._neighbours_among(within))[:-1][within])
+        return _numbers(self._joined(self._within[:, None] & self._neighbours_among(self._within))[:-1][self._within])
 
     def voids(self) -> Voids:
         """What the complex encloses. With a radius of atom and probe together these are the pockets of a molecule that
         a probe fits into and cannot leave.
 
-        It needs scipy.
+        It is Python over the proved rows, and tested. It needs scipy.
         """
-        faces, cells = self.mesh._faces, self.mesh.cells
-        _, side = np.unique(cells[:, OTHERS].reshape(-1, 3), axis=0, return_inverse=True)
-        passed = faces.triangle_alphas[side.reshape(-1, 4), 0] > self.sixteenths
+        faces, cells = self._faces, self._all
+        # Each triangle by one cell that has it, in the order of the library.
+        i, k = np.nonzero((self._across < 0) | (self._across > np.arange(len(cells))[:, None]))
+        order = np.lexsort(cells[i[:, None], OTHERS[k]].T[::-1])
+        passed = np.zeros((len(cells), 4), bool)
+        passed[i[order], k[order]] = faces.triangle_alphas[:, 0] > self.sixteenths
         group = self._joined(passed)
         held = (faces.cell_alphas > self.sixteenths) & (group[:-1] != group[-1])
-        return Voids(self.mesh._given[cells[held]], _numbers(group[:-1][held]))
+        return Voids(self._given[cells[held]], _numbers(group[:-1][held]))
 
-    def _neighbours_among(self, cells: np.ndarray) -> np.ndarray:
+    def to_meshio(self) -> Any:
+        """A meshio.Mesh of the points, the tetrahedra and the triangles of the boundary. It needs meshio."""
+        return _adapters.to_meshio(self._points, tetra=self.tetrahedra, triangle=self.boundary())
+
+    def to_trimesh(self) -> Any:
+        """A trimesh.Trimesh of the boundary, with just the points that it has. It needs trimesh."""
+        return _adapters.to_trimesh(self._points, self.boundary())
+
+    def to_pyvista(self) -> Any:
+        """A pyvista.PolyData of the boundary, with all points. It needs pyvista."""
+        return _adapters.surface_to_pyvista(self._points, self.boundary())
+
+    def _neighbours_among(self, cells: Bools) -> Bools:
         # (c, 4) whether the cell across from each corner is one of these; none of them is outside.
-        return np.append(cells, False)[self.mesh.across]
+        return np.append(cells, False)[self._across]
 
-    def _joined(self, sides: np.ndarray) -> np.ndarray:
+    def _joined(self, sides: Bools) -> Ints:
         # (c + 1,) the groups of the cells, and of what is outside, that are joined through these of their sides.
-        from scipy.sparse import coo_matrix
-        from scipy.sparse.csgraph import connected_components
         i, k = np.nonzero(sides)
-        count = len(self.mesh.cells) + 1
-        others = self.mesh.across[i, k] % count
-        return connected_components(coo_matrix((np.ones(len(i)), (i, others)), [count, count]), directed=False)[1]
+        count = len(self._all) + 1
+        return joined(count, i, self._across[i, k] % count)
 
 
-def _numbers(groups: np.ndarray) -> np.ndarray:
+def area_of(grid: Ints, triangles: Rows) -> float:
+    """The area of triangles, by numbers of places."""
+    a, b, c = (grid[triangles[:, i]] for i in range(3))
+    normals = cross(b - a, c - a).astype(float)
+    return float(np.sqrt(dot(normals, normals)).sum()) / 2
+
+
+def _numbers(groups: Ints) -> Ints:
     # The groups numbered from 0.
     return np.unique(groups, return_inverse=True)[1].reshape(-1)

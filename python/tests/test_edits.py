@@ -1,16 +1,17 @@
 """Tests of edits and looks. Expected values come from the definitions by brute force, from a mesh of the points that
 are left, and from scipy."""
+import copy
 import pathlib
+import pickle
 import sys
-import threading
-import types
 import unittest
 from unittest import mock
 
 import numpy as np
 
 import hanskup
-from hanskup import _library
+from hanskup import _edited, _edits
+from hanskup._edited import ADD, MOVE, TAKE, Edited
 
 sys.path.insert(0, str(pathlib.Path(__file__).resolve().parent))
 from test_hanskup import TOP, cells_of, drawn, has, sections
@@ -82,7 +83,7 @@ def same_mesh(test, mesh):
 
 class Replies(unittest.TestCase):
     def test_cases(self):
-        names = {'+': 'add', '-': 'take', '=': 'move'}
+        names = {'+': ADD, '-': TAKE, '=': MOVE}
         count = 0
         for path in sorted((TOP / 'cases').glob('*.in')):
             text = path.with_suffix('.mesh')
@@ -93,9 +94,11 @@ class Replies(unittest.TestCase):
             edits = [line.split() for line in parts[1].split('radii')[0].splitlines()]
             told = [line.lower() for line in text.read_text().splitlines()]
             told = told[2:2 + int(told[1].split()[1])]
-            mesh = _library.Edited(np.array(points))
-            replies = [getattr(mesh, names[edit[0]])(*np.array(edit[1:], int).reshape(-1, 3).tolist())
-                       for edit in edits]
+            mesh, replies = Edited(np.array(points)), []
+            for edit in edits:
+                made, status = mesh.edit(names[edit[0]], *np.array(edit[1:], int).reshape(-1, 1, 3))
+                self.assertEqual(status, 0)
+                replies += made
             self.assertEqual(replies, told[len(points):], path.name)
             rows = {word: [list(map(int, row)) for row in rows] for word, _, rows in sections(text)}
             self.assertEqual(mesh.rows().points.tolist(), rows['points'])
@@ -122,6 +125,25 @@ class Replies(unittest.TestCase):
                 self.assertEqual([tuple(p) for p in mesh.points[mesh.living].tolist()],
                                  [p for p in plain.at if p is not None])
                 if step % 10 == 9:
+                    same_mesh(self, mesh)
+
+    def test_many_at_once(self):
+        # Pieces of several edits, with points that fall together and indices that come twice.
+        for greatest, seed in ((3, 21), (9, 22), (16383, 23)):
+            random = np.random.default_rng(seed)
+            points = drawn(60, greatest, seed)
+            with mock.patch.object(_edits, '_PIECE', 7):
+                mesh, plain = hanskup.delaunay(points), Plain(points)
+                for _ in range(6):
+                    places = random.integers(0, greatest + 1, (20, 3))
+                    self.assertEqual(mesh.add(places).tolist(), [plain.add(tuple(p)) for p in places.tolist()])
+                    gone = random.integers(0, len(plain.at), 15)
+                    self.assertEqual(mesh.take(gone).tolist(), [plain.take(i) for i in gone.tolist()])
+                    at, places = random.integers(0, len(plain.at), 25), random.integers(0, greatest + 1, (25, 3))
+                    told = [plain.move(i, tuple(p)) for i, p in zip(at.tolist(), places.tolist())]
+                    self.assertEqual(mesh.move(at, places).tolist(), told)
+                    self.assertEqual([tuple(p) for p in mesh.points[mesh.living].tolist()],
+                                     [p for p in plain.at if p is not None])
                     same_mesh(self, mesh)
 
     def test_down_to_four(self):
@@ -211,13 +233,32 @@ class Looks(unittest.TestCase):
                 self.assertTrue(i < 0 or has_it[i])
 
 
+class Many(unittest.TestCase):
+    @unittest.skipUnless(_edited.HAS_MANY, 'the library has no calls for many')
+    def test_as_one_by_one(self):
+        random = np.random.default_rng(31)
+        places, kinds = random.integers(0, 12, (200, 3)), random.integers(0, 3, 20)
+        found = []
+        for has_many in (True, False):
+            with mock.patch.object(_edited, 'HAS_MANY', has_many):
+                mesh = Edited(places[:40])
+                told = [mesh.edit(int(kind), places[40 + 8 * k:48 + 8 * k], places[:8]) for k, kind in enumerate(kinds)]
+                outside = mesh.edit(ADD, np.array([[1, 2, 3], [0, 0, 16384], [4, 5, 6]]))
+                kinds_at, corners = mesh.locate(places)
+                found.append((told, outside, kinds_at.tolist(), corners.tolist(), mesh.nearest(places).tolist(),
+                              mesh.rows().cells.tolist()))
+        self.assertEqual(*found)
+        self.assertEqual((len(found[0][1][0]), found[0][1][1]), (1, 2))
+
+
 class Refused(unittest.TestCase):
     def test_refusals(self):
         mesh = hanskup.delaunay(drawn(50))
         cells = mesh.cells.copy()
         for call in (mesh.add, mesh.locate, mesh.nearest, mesh.find_simplex, lambda p: mesh.move(0, p)):
-            self.assertRaises(hanskup.OutOfRange, call, [0, 0, 16384])
-            self.assertRaises(hanskup.OutOfRange, call, [-1, 0, 0])
+            if call != mesh.find_simplex:
+                self.assertRaises(hanskup.OutOfRange, call, [0, 0, 16384])
+                self.assertRaises(hanskup.OutOfRange, call, [-1, 0, 0])
             self.assertRaises(ValueError, call, [0.5, 0, 0])
             self.assertRaises(ValueError, call, [1, 2])
         self.assertRaises(IndexError, mesh.take, 50)
@@ -230,60 +271,125 @@ class Refused(unittest.TestCase):
         same_mesh(self, mesh)
 
     def test_memory(self):
-        mesh, calls = hanskup.delaunay(drawn(50)), []
+        for status, kind in ((1, hanskup.WantOfMemory), (6, hanskup.Full)):
+            for name, call, points in (
+                    ('add', lambda mesh: mesh.add([[1, 2, 3], [4, 5, 6], [7, 8, 9]]), 52),
+                    ('take', lambda mesh: mesh.take([3, 4, 5]), 50),
+                    ('move', lambda mesh: mesh.move([3, 4, 5], [[1, 2, 3], [4, 5, 6], [7, 8, 9]]), 50)):
+                mesh = hanskup.delaunay(drawn(50))
+                edit = mesh._handle.edit
+                mesh._handle.edit = lambda kind, *places: (edit(kind, *(some[:2] for some in places))[0], status)
+                with self.assertRaises(kind) as caught:
+                    call(mesh)
+                reply = {'add': 'inserted', 'take': 'removed', 'move': 'moved'}[name]
+                self.assertEqual(caught.exception.replies.tolist(), [reply] * 2)
+                self.assertEqual(len(mesh.points), points)
+                self.assertEqual(mesh.living[3:6].tolist(), [name != 'take'] * 2 + [True])
+                same_mesh(self, mesh)
 
-        def refuse_third(place):
-            calls.append(place)
-            if len(calls) == 3:
-                raise _library.WantOfMemory('want of memory')
-            return add(place)
+    def interrupted(self, mesh, call, at):
+        """Whether the call is over before the interrupt, which comes at this line of the package, counted from 1."""
+        lines = 0
 
-        add, mesh._handle.add = mesh._handle.add, refuse_third
-        with self.assertRaises(hanskup.WantOfMemory) as caught:
-            mesh.add([[1, 2, 3], [4, 5, 6], [7, 8, 9]])
-        self.assertEqual(caught.exception.replies.tolist(), ['inserted', 'inserted'])
-        self.assertEqual(len(mesh.points), 52)
+        def trace(frame, event, _):
+            nonlocal lines
+            if 'hanskup' not in frame.f_code.co_filename:
+                return None
+            if event == 'line':
+                lines += 1
+                if lines == at:
+                    raise KeyboardInterrupt
+            return trace
+
+        sys.settrace(trace)
+        try:
+            call(mesh)
+            return True
+        except KeyboardInterrupt:
+            return False
+        finally:
+            sys.settrace(None)
+
+    def test_interrupt_at_each_line(self):
+        # Whenever it comes the mesh is that of the points that it tells, and these are those after the first edits.
+        points = np.concatenate([drawn(30), drawn(2)])
+        for call, edits in ((lambda mesh: mesh.add([[1, 2, 3], [4, 5, 6], [7, 8, 9]]),
+                             [('add', (1, 2, 3)), ('add', (4, 5, 6)), ('add', (7, 8, 9))]),
+                            (lambda mesh: mesh.take([3, 0, 5]), [('take', 3), ('take', 0), ('take', 5)]),
+                            (lambda mesh: mesh.move([3, 0, 5], [[1, 2, 3], [4, 5, 6], [7, 8, 9]]),
+                             [('move', 3, (1, 2, 3)), ('move', 0, (4, 5, 6)), ('move', 5, (7, 8, 9))])):
+            states, plain = [], Plain(points)
+            states.append(list(plain.at))
+            for name, *words in edits:
+                getattr(plain, name)(*words)
+                states.append(list(plain.at))
+            at, over, seen = 0, False, set()
+            while not over:
+                at += 1
+                mesh = hanskup.delaunay(points)
+                mesh.nearest([5, 5, 5])
+                with mock.patch.object(_edits, '_PIECE', 1):
+                    over = self.interrupted(mesh, call, at)
+                told = [tuple(p) if there else None for p, there in zip(mesh.points.tolist(), mesh.living)]
+                self.assertIn(told, states)
+                seen.add(states.index(told))
+                same_mesh(self, mesh)
+                mesh.add([9, 9, 9])
+                same_mesh(self, mesh)
+            self.assertGreater(at, 50)
+            self.assertEqual(seen, {0, 1, 2, 3})
+
+    def test_interrupt_in_the_library(self):
+        # It comes when the library has made the edits, and nothing tells them yet.
+        for name, call in (('add', lambda mesh: mesh.add([[1, 2, 3], [4, 5, 6]])),
+                           ('take', lambda mesh: mesh.take([3, 4])),
+                           ('move', lambda mesh: mesh.move([3, 4], [[1, 2, 3], [4, 5, 6]]))):
+            mesh, made = hanskup.delaunay(drawn(50)), []
+            edit = mesh._handle.edit
+
+            def interrupted(*words):
+                made.append(edit(*words))
+                if len(made) == 2:
+                    raise KeyboardInterrupt
+                return made[-1]
+
+            mesh._handle.edit = interrupted
+            with mock.patch.object(_edits, '_PIECE', 1):
+                self.assertRaises(KeyboardInterrupt, call, mesh)
+            self.assertEqual(len(mesh.grid), {'add': 51, 'take': 49, 'move': 50}[name])
+            same_mesh(self, mesh)
+
+    def test_copies(self):
+        for look in (lambda mesh: None, lambda mesh: mesh.nearest([1, 2, 3]), lambda mesh: mesh.add([1, 2, 3])):
+            for copied in (copy.copy, copy.deepcopy, lambda mesh: pickle.loads(pickle.dumps(mesh))):
+                mesh = hanskup.delaunay(drawn(50))
+                look(mesh)
+                other = copied(mesh)
+                other.take([0, 1])
+                other.move(2, [9, 9, 9])
+                mesh.add([[5, 5, 5], [6, 6, 6]])
+                mesh.take(3)
+                same_mesh(self, mesh)
+                same_mesh(self, other)
+                self.assertEqual((mesh.living.sum(), other.living.sum()), (len(mesh.points) - 1, len(other.points) - 2))
+
+    def test_kinds_of_numbers(self):
+        points = drawn(50, 200).astype(np.uint8)
+        mesh = hanskup.delaunay(points)
+        points[:] = 0  # the mesh has points of its own
+        self.assertEqual(mesh.move(np.array([0], np.uint64), [300, 400, 500]).tolist(), ['moved'])
+        self.assertEqual(mesh.points[0].tolist(), [300, 400, 500])
+        mesh.add(np.array([[1000, 2, 3]], np.uint64))
+        self.assertEqual(mesh.points[50].tolist(), [1000, 2, 3])
+        self.assertEqual(mesh.points.dtype, np.int64)
+        self.assertEqual(mesh.take([]).tolist(), [])
         same_mesh(self, mesh)
-
-
-class Progress(unittest.TestCase):
-    def test_bar(self):
-        bars = []
-
-        def tqdm(steps, **words):
-            bars.append((len(steps), words['unit']))
-            return steps
-
-        with mock.patch.dict(sys.modules, tqdm=types.SimpleNamespace(tqdm=tqdm)):
-            mesh = hanskup.delaunay(drawn(20))
-            mesh.add(drawn(7, seed=8))
-            mesh.take([0, 1])
-            mesh.move([2, 3], [[1, 2, 3], [4, 5, 6]], progress=False)
-        self.assertEqual(bars, [(7, 'edit'), (2, 'edit')])
-        with mock.patch.dict(sys.modules, tqdm=None):  # so that it cannot be imported
-            self.assertEqual(mesh.add([9, 9, 9]).tolist(), ['inserted'])
-
-
-class Threads(unittest.TestCase):
-    def test_two_meshes(self):
-        def work(seed, found):
-            mesh, random = hanskup.delaunay(drawn(400, 300, seed)), np.random.default_rng(seed)
-            replies = [mesh.add(random.integers(0, 301, (200, 3))), mesh.take(random.integers(0, 600, 200)),
-                       mesh.move(random.integers(0, 600, 200), random.integers(0, 301, (200, 3)))]
-            found[seed] = (np.concatenate(replies).tolist(), mesh.cells, mesh.nearest(random.integers(0, 301, (99, 3))))
-
-        alone, beside = {}, {}
-        for seed in (11, 12):
-            work(seed, alone)
-        workers = [threading.Thread(target=work, args=(seed, beside)) for seed in (11, 12)]
-        for worker in workers:
-            worker.start()
-        for worker in workers:
-            worker.join()
-        for seed in (11, 12):
-            self.assertEqual(alone[seed][0], beside[seed][0])
-            np.testing.assert_array_equal(alone[seed][1], beside[seed][1])
-            np.testing.assert_array_equal(alone[seed][2], beside[seed][2])
+        for odd in (np.array([[1j, 0, 0]]), [['a', 'b', 'c']], np.array([['2020-01-01'] * 3], 'datetime64[D]'),
+                    np.ma.array([[1, 2, 3]], mask=[[0, 1, 0]])):
+            self.assertRaises(ValueError, mesh.add, odd)
+            self.assertRaises(ValueError, hanskup.delaunay, odd)
+        small = hanskup.delaunay(np.random.default_rng(3).random((50, 3)).astype(np.float16))
+        self.assertEqual((small.points.dtype, small.points[small.simplices].dtype), (np.float64, np.float64))
 
 
 if __name__ == '__main__':

@@ -1,0 +1,57 @@
+"""What other packages take: each is imported when it is asked for."""
+from __future__ import annotations
+
+import importlib
+from typing import TYPE_CHECKING, Any
+
+import numpy as np
+
+from ._kinds import Numbers, Rows
+
+if TYPE_CHECKING:
+    from ._shape import Filtration
+
+_TETRAHEDRON = 10  # the number of this kind of cell in VTK
+
+
+def module(name: str) -> Any:
+    """A package that is imported when it is asked for. Raises ImportError."""
+    return importlib.import_module(name)
+
+
+def to_meshio(points: Numbers, **cells: Rows) -> Any:
+    """A meshio.Mesh of points and of cells by their kinds."""
+    return module('meshio').Mesh(points.astype(float), [(kind, rows.copy()) for kind, rows in cells.items()])
+
+
+def to_trimesh(points: Numbers, triangles: Rows) -> Any:
+    """A trimesh.Trimesh of triangles, with just their points."""
+    used, faces = np.unique(triangles, return_inverse=True)
+    return module('trimesh').Trimesh(points[used].astype(float), faces.reshape(-1, 3), process=False)
+
+
+def _with_sizes(rows: Rows) -> Rows:
+    # The rows as VTK has them: each with its length at its front.
+    return np.column_stack([np.full(len(rows), rows.shape[1], rows.dtype), rows]).reshape(-1)
+
+
+def surface_to_pyvista(points: Numbers, triangles: Rows) -> Any:
+    """A pyvista.PolyData of triangles."""
+    return module('pyvista').PolyData(points.astype(float), _with_sizes(triangles))
+
+
+def solid_to_pyvista(points: Numbers, tetrahedra: Rows) -> Any:
+    """A pyvista.UnstructuredGrid of tetrahedra."""
+    kinds = np.full(len(tetrahedra), _TETRAHEDRON, np.uint8)
+    return module('pyvista').UnstructuredGrid(_with_sizes(tetrahedra), kinds, points.astype(float))
+
+
+def to_gudhi(filtration: Filtration) -> Any:
+    """A gudhi.SimplexTree of a filtration."""
+    tree = module('gudhi').SimplexTree()
+    for faces, alphas in ((filtration.points[:, None], filtration.point_alphas[:, 0]),
+                          (filtration.edges, filtration.edge_alphas[:, 0]),
+                          (filtration.triangles, filtration.triangle_alphas[:, 0]),
+                          (filtration.tetrahedra, filtration.tetrahedron_alphas)):
+        tree.insert_batch(np.array(faces.T, np.int32, order='C'), np.array(alphas))
+    return tree
