@@ -1,23 +1,18 @@
 // The peer of the check of a mesh: CGAL's Delaunay triangulation of the points of an edit file, and then its own
 // `is_valid`, whose processor time it prints beside its answer and the number of cells. `is_valid` looks at each cell
 // and its neighbours; ties it cannot see.
+#include "peer_text.h"
+
 #include <CGAL/Delaunay_triangulation_3.h>
 #include <CGAL/Exact_predicates_inexact_constructions_kernel.h>
 
-#include <cstdio>
-#include <cstring>
 #include <ctime>
-#include <vector>
 
 using Kernel = CGAL::Exact_predicates_inexact_constructions_kernel;
 
 int main() {
     std::vector<Kernel::Point_3> points;
-    char line[256];
-    while (std::fgets(line, sizeof line, stdin) && std::strncmp(line, "edits", 5) != 0) {
-        int x, y, z;
-        if (std::sscanf(line, "%d %d %d", &x, &y, &z) == 3) points.emplace_back(x, y, z);
-    }
+    for (const auto &p : read_input().points) points.emplace_back(p[0], p[1], p[2]);
     CGAL::Delaunay_triangulation_3<Kernel> mesh;
     mesh.insert(points.begin(), points.end());
     const std::clock_t start = std::clock();

@@ -1,21 +1,13 @@
 // The peer of bench/cloud: CGAL's Delaunay triangulation of the points of an edit file, handed in at once, so that they
 // are put in an order along a curve. It prints how many points, cells and hull triangles there are; with the word
 // `text`, what `delaunay mesh` writes from the line of the points on. Ties it settles in its own way.
-#include "mesh_text.h"
+#include "peer_text.h"
 
 #include <CGAL/Delaunay_triangulation_3.h>
 #include <CGAL/Exact_predicates_inexact_constructions_kernel.h>
 #include <CGAL/Triangulation_vertex_base_with_info_3.h>
 
-#include <algorithm>
-#include <array>
-#include <cstdio>
-#include <cstring>
-#include <utility>
-#include <vector>
-
 using Kernel = CGAL::Exact_predicates_inexact_constructions_kernel;
-using Place = std::array<int, 3>;
 
 void counts(const std::vector<Place> &places) {
     std::vector<Kernel::Point_3> points;
@@ -36,21 +28,18 @@ void text(std::vector<Place> places) {
         points.emplace_back(Kernel::Point_3(p[0], p[1], p[2]), static_cast<int>(points.size()));
     CGAL::Delaunay_triangulation_3<Kernel, Structure> mesh;
     mesh.insert(points.begin(), points.end());
-    std::printf("points %zu\n", places.size());
-    for (const auto &p : places) std::printf("%d %d %d\n", p[0], p[1], p[2]);
-    print_cells(mesh, [](const auto vertex) { return vertex->info(); });
-    std::puts("end");
+    Text text;
+    text.head("points", places.size());
+    text.rows(places);
+    put_cells(text, mesh);
+    text.word("end\n");
+    text.write();
 }
 
 int main(int count, char **words) {
-    std::vector<Place> places;
-    char line[128];
-    while (std::fgets(line, sizeof line, stdin) && std::strcmp(line, "edits\n") != 0) {
-        Place p;
-        if (std::sscanf(line, "%d %d %d", &p[0], &p[1], &p[2]) == 3) places.push_back(p);
-    }
+    Input input = read_input();
     if (count > 1 && std::strcmp(words[1], "text") == 0)
-        text(std::move(places));
+        text(std::move(input.points));
     else
-        counts(places);
+        counts(input.points);
 }

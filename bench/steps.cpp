@@ -3,17 +3,13 @@
 // Alpha_shape_3 in GENERAL mode is made of it, which finds the alphas at which each face comes in floating point, and
 // with `exact` one that compares them exactly. With `parts` and `exact-parts` the Alpha_shape_3 is made in its default
 // mode, and `find_optimal_alpha` is asked for one part. Nothing is written but counts and that alpha.
+#include "peer_text.h"
+
 #include <CGAL/Alpha_shape_3.h>
 #include <CGAL/Alpha_shape_cell_base_3.h>
 #include <CGAL/Alpha_shape_vertex_base_3.h>
 #include <CGAL/Delaunay_triangulation_3.h>
 #include <CGAL/Exact_predicates_inexact_constructions_kernel.h>
-
-#include <array>
-#include <cstdio>
-#include <cstring>
-#include <set>
-#include <vector>
 
 using Kernel = CGAL::Exact_predicates_inexact_constructions_kernel;
 
@@ -36,19 +32,8 @@ template <typename Exact> void shape(const std::vector<Kernel::Point_3> &points,
 }
 
 int main(int count, char **words) {
-    std::set<std::array<int, 3>> places;
-    char line[128];
-    while (std::fgets(line, sizeof line, stdin) && std::strcmp(line, "radii\n") != 0) {
-        const bool edit = line[0] == '+' || line[0] == '-';
-        std::array<int, 3> p;
-        if (std::sscanf(line + (edit ? 1 : 0), "%d %d %d", &p[0], &p[1], &p[2]) != 3) continue;
-        if (line[0] == '-')
-            places.erase(p);
-        else
-            places.insert(p);
-    }
     std::vector<Kernel::Point_3> points;
-    for (const auto &p : places) points.emplace_back(p[0], p[1], p[2]);
+    for (const auto &p : places_left(read_input())) points.emplace_back(p[0], p[1], p[2]);
     const char *word = count > 1 ? words[1] : "double";
     const bool parts = std::strstr(word, "parts") != nullptr;
     if (std::strncmp(word, "exact", 5) == 0)

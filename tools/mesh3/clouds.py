@@ -4,10 +4,14 @@ Each reader gives an array of shape (n, 3) in the units of the file. What could 
 option that settles it; what is passed over is told by `warn`.
 """
 import contextlib
+import gzip
 import io
 import os
 import re
+import struct
 import sys
+import tempfile
+import zlib
 
 import meshio
 import numpy as np
@@ -93,6 +97,23 @@ def columns_of(rows, names, wanted):
         raise wanted.fault(f'a row of its points: {error}') from None
 
 
+def of_las(data, wanted):
+    """The points of a LAS of version 1.0 to 1.4: whole numbers by the scales and offsets of its header."""
+    if len(data) < 227 or data[:4] != b'LASF':
+        raise wanted.fault("cannot be read as las: no header that begins with 'LASF'")
+    first, form, wide, count = struct.unpack('<I4xBHI', data[96:111])
+    if data[24:26] >= b'\1\4' and len(data) >= 255:
+        count = struct.unpack('<Q', data[247:255])[0] or count
+    if form & 0xc0:
+        raise wanted.fault('a compressed LAS (LAZ): write it as LAS, by laszip or pdal translate')
+    if wide < 12 or first + count * wide > len(data):
+        raise wanted.fault(f'{count} points of {wide} bytes were announced, and the file ends before')
+    rows = np.frombuffer(data, dtype=np.dtype(('V', wide)), count=count, offset=first)
+    whole = np.ndarray((count, 3), '<i4', rows, strides=(wide, 4))
+    scales, offsets = np.frombuffer(data, '<f8', 6, 131).reshape(2, 3)
+    return whole * scales + offsets
+
+
 PLY_TYPES = {'char': 'i1', 'int8': 'i1', 'uchar': 'u1', 'uint8': 'u1', 'short': 'i2', 'int16': 'i2', 'ushort': 'u2',
              'uint16': 'u2', 'int': 'i4', 'int32': 'i4', 'uint': 'u4', 'uint32': 'u4', 'float': 'f4', 'float32': 'f4',
              'double': 'f8', 'float64': 'f8'}
@@ -164,7 +185,7 @@ def of_obj(data, wanted):
             except ValueError:
                 points.append([])
             if len(points[-1]) < 3:
-                raise wanted.fault('three numbers were expected', number)
+                raise wanted.fault(f"three numbers were expected behind 'v', and not '{line[1:].strip()[:40]}'", number)
     return np.array(points).reshape(-1, 3)
 
 
@@ -180,6 +201,18 @@ def of_off(data, wanted):
     if not rows:
         raise wanted.fault('no points')
     return columns_of(rows, AXES, wanted)
+
+
+def of_node(data, wanted):
+    """The points of a .node of TetGen: how many there are and their dimension, then an index and three numbers each."""
+    lines = [line for line in re.sub(rb'#[^\n]*', b'', data).split(b'\n') if line.strip()]
+    head = lines[0].split() if lines else []
+    if len(head) < 2 or not all(word.isdigit() for word in head) or head[1] != b'3':
+        raise wanted.fault("cannot be read as node: how many points there are, and a 3, were expected")
+    rows, _ = rows_of(b'\n'.join(lines[1:]), AXES, int(head[0]), wanted)
+    if not rows:
+        raise wanted.fault('no points')
+    return columns_of(rows, ['index', *AXES], wanted)
 
 
 def first_places(atoms, models):
@@ -206,7 +239,8 @@ def of_pdb(data, wanted):
             try:
                 point = [float(line[30:38]), float(line[38:46]), float(line[46:54])]
             except ValueError:
-                raise wanted.fault('three coordinates were expected in the columns 31 to 54', number) from None
+                raise wanted.fault('three coordinates were expected in the columns 31 to 54, and not '
+                                   f"'{line[30:54].strip()}'", number) from None
             atoms.append((line[16].strip(), line[21:27], point))
     return first_places(atoms, models)
 
@@ -245,7 +279,8 @@ def of_cif(data, wanted):
         try:
             point = [float(re.sub(r'\([0-9]+\)$', '', row[at])) for at in (x, y, z)]
         except ValueError:
-            raise wanted.fault('three coordinates were expected', ends[i * wide]) from None
+            told = ' '.join(row[at] for at in (x, y, z))
+            raise wanted.fault(f"three coordinates were expected, and not '{told[:60]}'", ends[i * wide]) from None
         place = row[of['label_alt_id']] if of['label_alt_id'] is not None else '.'
         residue = tuple(row[at] for name, at in of.items() if at is not None and name.endswith(('asym_id', 'seq_id')))
         atoms.append(('' if place in '.?' else place, residue, point))
@@ -255,7 +290,16 @@ def of_cif(data, wanted):
 # ---- any file
 
 
+def unpacked(data, wanted):
+    """What a file of gzip holds."""
+    try:
+        return gzip.decompress(data)
+    except (OSError, EOFError, zlib.error) as error:
+        raise wanted.fault(f'cannot be unpacked by gzip: {error}') from None
+
+
 def by_meshio(name, data, form, wanted):
+    """The points of a file that meshio reads: by its name, or where that is '-' of `data`, which has no name."""
     told = io.StringIO()
     try:
         with contextlib.redirect_stderr(told), contextlib.redirect_stdout(told):
@@ -274,24 +318,46 @@ def by_meshio(name, data, form, wanted):
     return points
 
 
-TEXT = ('xyz', 'xyzn', 'xyzrgb', 'txt', 'csv', 'tsv', 'pts', 'asc', 'dat', '')
-READERS = {'npy': of_npy, 'ply': of_ply, 'pcd': of_pcd, 'obj': of_obj, 'off': of_off, 'pdb': of_pdb, 'ent': of_pdb,
-           'cif': of_cif, 'mmcif': of_cif, **{suffix: of_text for suffix in TEXT}}
+def by_ending(name, data, form, packed, wanted):
+    """The points of a file that no reader here is for: by meshio, where it knows the form or the ending."""
+    ending = os.path.splitext(name)[1].lower()
+    if form is None and ending not in meshio.extension_to_filetypes:
+        raise wanted.fault(f"no form is known for '{ending}': --format xyz reads lines of numbers, and --format takes "
+                           'the name of any other; else convert it, as a molecule by `obabel FILE -O FILE.xyz`')
+    if not packed or name == '-':
+        return by_meshio(name, data, form, wanted)
+    with tempfile.NamedTemporaryFile(suffix=ending) as file:
+        file.write(data)
+        file.flush()
+        return by_meshio(file.name, data, form, wanted)
+
+
+TEXT = ('xyz', 'xyzn', 'xyzrgb', 'pwn', 'npts', 'txt', 'csv', 'tsv', 'pts', 'asc', 'dat', 'qhull', '')
+READERS = {'las': of_las, 'laz': of_las, 'npy': of_npy, 'ply': of_ply, 'pcd': of_pcd, 'obj': of_obj, 'off': of_off,
+           'node': of_node, 'pdb': of_pdb, 'ent': of_pdb, 'cif': of_cif, 'mmcif': of_cif,
+           **{suffix: of_text for suffix in TEXT}}
+PACKED = ('gz', 'zip', 'bz2', 'xz', 'zst', '7z')
 
 
 def read_points(name, form=None, columns=None, decimal_comma=False):
-    """The points of a file, shape (n, 3), in its units; `form` is a suffix, or a name that meshio knows."""
+    """The points of a file, shape (n, 3), in its units; `form` is a suffix, or a name that meshio knows.
+
+    What gzip packed is unpacked first: then the form is told by the ending before `.gz`.
+    """
     wanted = Wanted(name, columns, decimal_comma)
     if form is None and name == '-':
         raise Trouble('standard input wants --format (xyz, csv, ply, ..)')
-    suffix = (os.path.splitext(name)[1] if form is None else form).lower().lstrip('.')
-    if suffix in ('las', 'laz'):
-        raise wanted.fault('LAS is not read: write it as PLY or XYZ first, as by `pdal translate`')
     data = read_bytes(name)
+    packed = data.startswith(b'\x1f\x8b')
+    if packed:
+        data, name = unpacked(data, wanted), re.sub(r'\.gz$', '', name, flags=re.I)
+    suffix = (os.path.splitext(name)[1] if form is None else form).lower().lstrip('.')
+    if suffix in PACKED:
+        raise wanted.fault('it is packed, and not by gzip: unpack it first')
     reader = READERS.get(suffix)
     if columns and reader not in (of_text, of_npy, of_ply, of_pcd):
         raise wanted.fault('--columns is for text, NPY, PLY and PCD')
-    points = reader(data, wanted) if reader else by_meshio(name, data, form and suffix, wanted)
+    points = reader(data, wanted) if reader else by_ending(name, data, form and suffix, packed, wanted)
     if points.ndim != 2 or not len(points):
         raise wanted.fault('no points')
     if points.shape[1] != 3:

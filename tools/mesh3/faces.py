@@ -56,6 +56,12 @@ def boundary_of(report, shape):
     return turned_outwards(report.points, triangles, against(shape.cells, triangles, len(report.points)))
 
 
+def used(triangles):
+    """Which points triangles have, ascending, and the triangles by the places of these."""
+    kept, places = np.unique(triangles, return_inverse=True)
+    return kept, places.reshape(triangles.shape)
+
+
 def hull_of(report):
     """The triangles of the hull, turned outwards."""
     return turned_outwards(report.points, report.hull, against(report.cells, report.hull, len(report.points)))

@@ -54,7 +54,10 @@ class Placing:
         """The placing that fits a cloud into the range, by one factor for all axes."""
         low, high = points.min(axis=0), points.max(axis=0)
         extent = float((high - low).max())
-        return Placing(low, GREATEST / extent if extent > 0 else 1.0)
+        scale = GREATEST / extent if extent > 0 else 1.0
+        if not 0 < scale < np.inf:
+            raise Trouble(f'the cloud is {extent:.3g} wide, which is no width for its numbers: take another unit')
+        return Placing(low, scale)
 
 
 def chosen(report, radius, placing):

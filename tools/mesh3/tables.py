@@ -1,5 +1,7 @@
 """Points from text: numbers between blanks, commas or semicolons, with or without a header, a count, or elements.
 
+A text of three numbers a line and no more, as most are, goes straight to numpy.
+
 A separator is settled for the whole file; a text that could be read in two ways is refused with the option that settles
 it.
 """
@@ -58,6 +60,22 @@ def without_count(data, lines, wanted, warn):
     if rest:
         warn('several frames: the first is taken')
     return rows, True
+
+
+def without_head_of_qhull(lines, wanted):
+    """The lines behind the two that Qhull begins with, the dimension and how many points there are; None where a text
+    does not begin so. Words may stand behind the dimension, as rbox writes them."""
+    if len(lines) < 3 or not re.fullmatch(r'\s*3(\s+[A-Za-z].*)?\s*', lines[0][1]):
+        return None
+    count, first = lines[1][1].strip(), lines[2][1].split()
+    if not count.isdigit() or len(first) != 3 or not all(map(is_number, first)):
+        return None
+    found = len(lines) - 2
+    if int(count) == found:
+        return lines[2:]
+    if found == 3:  # a molecule of three atoms without elements, and a number for its comment
+        return None
+    raise wanted.fault(f'{count} points were announced, and {found} are there', lines[1][0])
 
 
 # ---- separators
@@ -175,12 +193,38 @@ def counts_on(words):
 # ---- the whole
 
 
+def told_of(word):
+    """What is wrong with a word that is no number, and what helps."""
+    if word is None:
+        return 'three numbers were expected'
+    if re.fullmatch(r'[+-]?(\d+\.?\d*|\.\d+)d[+-]?\d+', word, re.I):
+        return f"'{word}' is no number here: write the exponent of Fortran with an E, as by sed 's/[Dd]/E/g'"
+    return f"'{word[:40]}' is no number, and three were expected: --columns takes other columns"
+
+
+def plain_points(data):
+    """The points of a text that is three numbers a line and no more; None where it is another, or in doubt."""
+    if data.translate(None, b'0123456789+-.eE \t\r\n'):
+        return None
+    if any(len(line.split()) != 3 for line in data[:4096].split(b'\n', 2)[:2]):
+        return None
+    try:
+        points = np.loadtxt(io.BytesIO(data), ndmin=2, comments=None)
+    except ValueError:
+        return None
+    return points if points.shape[1] == 3 else None
+
+
 def points_of(data, wanted, warn):
     """The points of a text, shape (n, 3)."""
+    plain = None if wanted.columns or wanted.decimal_comma else plain_points(data)
+    if plain is not None:
+        return plain
     lines = lines_of(data, wanted)
     if not lines:
         raise wanted.fault('no points')
-    lines, molecule = without_count(data, lines, wanted, warn)
+    behind = without_head_of_qhull(lines, wanted)
+    lines, molecule = (behind, False) if behind else without_count(data, lines, wanted, warn)
     separator, lines = separated(lines, wanted)
     rows = [split(line, separator) for _, line in lines]
     header = None
@@ -195,5 +239,6 @@ def points_of(data, wanted, warn):
         text = io.StringIO('\n'.join(line for _, line in lines))
         return np.loadtxt(text, delimiter=separator, usecols=at, ndmin=2, comments=None)
     except ValueError:
-        number = next((number for (number, _), row in zip(lines, rows) if not all(is_number(row[i]) for i in at)), None)
-        raise wanted.fault('three numbers were expected', number) from None
+        number, word = next(((number, row[i]) for (number, _), row in zip(lines, rows) for i in at
+                             if not is_number(row[i])), (None, None))
+        raise wanted.fault(told_of(word), number) from None

@@ -13,7 +13,7 @@ TOP = os.path.realpath(os.path.join(os.path.dirname(os.path.realpath(__file__)),
 def open_door(told, table):
     """Runs what the first word names, with the other words; without a word the names are listed.
 
-    `table` has for each name what stands behind it and what that does, in a line.
+    `table` has for each name what stands behind it, and words of its own behind a path, and what that does, in a line.
     """
     door, names = os.path.basename(sys.argv[0]), sys.argv[1:]
     if not names or names[0] not in table:
@@ -24,6 +24,7 @@ def open_door(told, table):
         sys.exit(0 if asked else 2)
     behind = table[names[0]][0]
     if '/' in behind:
-        os.execv(os.path.join(TOP, behind), [behind, *names[1:]])
+        path, *first = behind.split()
+        os.execv(os.path.join(TOP, path), [path, *first, *names[1:]])
     sys.argv = [f'tools/{door} {names[0]}', *names[1:]]
     runpy.run_module(f'plain.{behind}', run_name='__main__')

@@ -20,7 +20,7 @@ def tool(name, *words, given=b''):
 def expect(what, holds):
     counts['passed' if holds else 'failed'] += 1
     if not holds:
-        print(f'failed: {what}')
+        print(f'failed: {what[:2000]}')
 
 
 def skip(what):

@@ -3,23 +3,8 @@ import csv
 import json
 import os
 
-from tool_cases import expect, library, refused, tool
-
-# Five points whose places on the grid follow by hand: the factor is 16383 / 3.2, and .2 of 3.2 comes to 1023.9 there.
-POINTS = [[0, 0, 0], [1.6, 0, 0], [0, 2.4, 0], [0, 0, 3.2], [0.2, 0.4, 0.8]]
-GRID = ['0 0 0', '8192 0 0', '0 12287 0', '0 0 16383', '1024 2048 4096']
-
-
-def grid_of(out):
-    """The point lines of an edit file."""
-    lines = out.decode().split('\n')
-    return lines[2:lines.index('edits')] if 'edits' in lines else lines
-
-
-def taken(what, name, *words, given=b'', points=GRID, said=''):
-    status, out, err = tool('points', name, *words, given=given)
-    expect(f'{what}: status {status}, {grid_of(out)}, {err!r}', status == 0 and grid_of(out) == points and said in err)
-
+from tool_cases import expect, inputs, library, losses, refused, tool
+from tool_cases.given import GRID, POINTS, bad, grid_of, rows, taken, xyz
 
 def text(what, lines, *words, points=GRID, said=''):
     taken(what, '-', '--format', 'csv', *words, given=lines.encode(), points=points, said=said)
@@ -27,20 +12,6 @@ def text(what, lines, *words, points=GRID, said=''):
 
 def bad_text(what, lines, *words, said=''):
     refused(what, 'points', '--format', 'csv', *words, given=lines.encode(), said=said)
-
-
-def xyz(lines, *words):
-    """Runs tools/points on a text: its status, output and errors."""
-    return tool('points', '--format', 'xyz', *words, given=lines.encode())
-
-
-def bad(what, words, said, lines='1 1 1\n'):
-    refused(what, 'points', '--format', 'xyz', *words, given=lines.encode(), said=said)
-
-
-def rows(form, head=''):
-    """The five points as a text, each by a form of str.format."""
-    return head + ''.join(form.format(*point, i=i) + '\n' for i, point in enumerate(POINTS))
 
 
 def commas(form):
@@ -265,33 +236,9 @@ def headers():
             ('an mmCIF without atoms', 'cif', 'data_x\n', '_atom_site'),
             ('an mmCIF that is cut', 'cif', 'loop_\n_atom_site.id\n_atom_site.Cartn_x\n1\n', '2 values an atom'),
             ('an mmCIF without a place', 'cif', 'loop_\n_atom_site.id\n1\n', 'Cartn_x'),
-            ('LAS', 'las', 'LASF', 'PLY or XYZ'),
             ('columns of a format without any', 'obj', 'v 0 0 0\n', '--columns')):
         words = ('--columns', '1', '2', '3') if said == '--columns' else ()
         refused(what, 'points', '--format', form, *words, given=given.encode(), said=said)
-
-
-def losses():
-    """Points that fall together, far points, flat clouds: what is warned of, and what helps."""
-    cloud = ''.join(f'{i % 10} {i // 10 % 10} {i // 100}\n' for i in range(1000))
-    status, out, err = xyz(cloud)
-    expect(f'nothing is warned of: {err!r}', status == 0 and 'warning' not in err)
-    far = cloud + '1e6 0 0\n'
-    status, out, err = xyz(far)
-    expect(f'far points are warned of: {err!r}', status == 0 and '% of the points fell' in err and '--box' in err)
-    for words in (('--drop-outliers',), ('--drop-outliers', '20'), ('--box', '0', '0', '0', '9', '9', '9')):
-        status, out, err = xyz(far, *words)
-        expect(f'{words} helps: {err!r}', status == 0 and len(grid_of(out)) == 1000 and 'warning' not in err and
-               '1 of 1001 points are left out' in err)
-    status, out, err = xyz(''.join(f'{i % 40 * 25} {i // 40 * 25} {(i * 7 % 11) / 1000}\n' for i in range(1600)))
-    expect(f'a flat terrain is warned of: {err!r}', status == 0 and 'warning: z is rounded by up to' in err)
-    status, out, err = xyz('1 1 1\n' * 10)
-    expect(f'one point ten times: {err!r}', status == 0 and '90 % of the points' in err and 'one plane' in err)
-    bad('a box that leaves nothing', ('--box', '5', '5', '5', '6', '6', '6'), 'no points are left')
-    bad('a box inside out', ('--box', '5', '5', '5', '4', '6', '6'), '--box')
-    bad('outliers that are nearer than the middle', ('--drop-outliers', '.5'), '--drop-outliers')
-    status, out, err = xyz('0 0 0\nnan 0 0\n1 1 1\n', '--drop-nan')
-    expect(f'points that are none are left out: {err!r}', status == 0 and len(grid_of(out)) == 2 and '1 of 3' in err)
 
 
 def placings(work):
@@ -335,5 +282,6 @@ def run(work):
     by_vtk(work)
     molecules(work)
     headers()
-    losses()
     placings(work)
+    inputs.run(work)
+    losses.run()

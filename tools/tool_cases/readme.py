@@ -1,11 +1,11 @@
-"""A reader's walk through the README: its commands as they stand, its sample of the library, links, and its length."""
+"""A reader's walk through the README: its commands as they stand, its lines of Python, links, and its length."""
 import glob
 import os
 import re
 import subprocess
 import sys
 
-from tool_cases import TOP, expect, is_built, skip, volume_of
+from tool_cases import TOP, expect, is_built, skip, surfaces, volume_of
 
 README = os.path.join(TOP, 'README.md')
 
@@ -51,8 +51,10 @@ def walk(work, text):
     low, high = mesh.points.min(axis=0), mesh.points.max(axis=0)
     expect(f'the surface lies where the cloud does: {low}, {high}', low[0] > 5.7 and high[0] < 9.3 and volume > 0)
     expect('the page is there', 'type="range"' in read(os.path.join(place, 'page.html')))
-    volume = volume_of(os.path.join(place, 'part.stl'))[0]
+    volume, mesh = volume_of(os.path.join(place, 'part.stl'))
     expect(f'the part encloses {volume}', volume > 0)
+    triangles = surfaces.joined(mesh.points, mesh.cells_dict['triangle'].tolist())
+    expect('the part is manifold', surfaces.is_manifold(triangles))
     expect('the filtration is there', os.path.getsize(os.path.join(place, 'scan.tree')) > 100000)
     from_python(place, text)
 
@@ -66,16 +68,6 @@ def from_python(place, text):
         words = [sys.executable, '-c', code + 'assert len(triangles) > 1000\n']
         done = subprocess.run(words, cwd=place, env=world, capture_output=True, timeout=600, check=False)
         expect(f'the lines of Python: {done.stderr.decode()}', done.returncode == 0)
-
-
-def sample(text):
-    """Each line of the sample of the library stands in the tour, which is proved and run by the gate."""
-    files = glob.glob(os.path.join(TOP, 'crates/tour/src/*.rt'))
-    tour = [line.strip() for name in files for line in read(name).splitlines()]
-    for code in fenced(text, 'rust'):
-        for line in code.splitlines():
-            line = re.sub(r'\s+//.*', '', line).strip()
-            expect(f'`{line}` stands in the tour', line in tour)
 
 
 def slug(heading):
@@ -99,14 +91,25 @@ def links():
                 expect(f'{told}: {link} is a heading', anchor in heads)
 
 
+def made(*words):
+    return subprocess.run([os.path.join(TOP, 'tools/make'), *words], capture_output=True, check=False)
+
+
 def run(work):
     text = read(README)
     lines = text.splitlines()
-    expect(f'the README has at most 120 lines: {len(lines)}', len(lines) <= 120)
+    expect(f'the README has at most 110 lines: {len(lines)}', len(lines) <= 110)
     expect('its lines have at most 120 columns', all(len(line) <= 120 for line in lines))
     helped = subprocess.run([os.path.join(TOP, 'delaunay'), '--help'], capture_output=True, check=False).stdout.decode()
-    for word in re.findall(r'^\| `([a-z]+)', text, re.M):
-        expect(f'{word} is in ./delaunay --help', f'\n  {word} ' in helped)
-    sample(text)
+    for row in re.findall(r'^\| (`[a-z]+.*?) \|', text, re.M):
+        for word in re.findall(r'`([a-z]+)', row):
+            expect(f'{word} is in ./delaunay --help', f'\n  {word} ' in helped)
+    for name in ('README.md', 'docs/SPEED.md'):
+        expect(f'each figure of {name} is there', 'FILL' not in read(os.path.join(TOP, name)))
+    words = [word for word in read(os.path.join(TOP, 'docs/SPEED.md')).split() if re.search(r'\w', word)]
+    expect(f'docs/SPEED.md has at most 900 words: {len(words)}', len(words) <= 900)
+    checked = made('decisions', '--check')
+    expect(f'each decision has a number: {checked.stdout.decode()}', checked.returncode == 0)
+    expect('the owners are those of crates.txt', made('owners').stdout.decode() == read(f'{TOP}/.github/CODEOWNERS'))
     links()
     walk(work, text)

@@ -2,10 +2,12 @@
 import collections
 import json
 import os
+import re
 import shutil
 import subprocess
+import textwrap
 
-from tool_cases import CASES, PROGRAM, expect, is_built, library, refused, skip, tool, volume_of
+from tool_cases import CASES, PROGRAM, TOOLS, expect, is_built, library, refused, skip, surfaces, tool, volume_of
 
 CUBE = os.path.join(CASES, '04-cube.shape')
 
@@ -47,6 +49,10 @@ def triangles(work):
             expect(f'the {what} to {suffix}: 12 triangles that enclose 8: {volume}, {err}',
                    status == 0 and abs(volume - 8) < 1e-6 and len(mesh.cells_dict['triangle']) == 12)
     import meshio
+    name = os.path.join(work, 'lines.vtu')
+    tool('export', CUBE, name, '--what', 'hull', '--edits', os.path.join(CASES, '04-cube.in'))
+    lines = sorted(meshio.read(name).point_data['line'].ravel().tolist())
+    expect(f'the line of each point of the hull: {lines}', lines == list(range(3, 11)))
     name = os.path.join(work, 'faces.vtu')
     status, out, err = tool('export', CUBE, name, '--what', 'faces', '--radius', '3')
     kinds = meshio.read(name).cell_data['kind']
@@ -129,13 +135,14 @@ def filtrations(work):
                                 ('steps without an alpha', given.replace(b'0 2 4', b'0 2'), 'line 4')):
         refused(what, 'export', '-', name, '--what', 'filtration', given=changed, said=said)
     refused('a report in place of steps', 'export', CUBE, name, '--what', 'filtration', said='line 1')
-    by_gudhi()
+    by_gudhi(work)
 
 
-def by_gudhi():
+def by_gudhi(work):
     gudhi = library('gudhi')
     if gudhi is None:
         return
+    handed_over(gudhi, work)
     beside_gudhi(gudhi, 'a tetrahedron', STEPS.encode(), [[0, 0, 0], [0, 0, 1], [0, 1, 0], [1, 0, 0]])
     for name in ('19-not-gabriel', '62-unit-corner'):
         points = set()
@@ -145,6 +152,21 @@ def by_gudhi():
                 (points.discard if word[0] == '-' else points.add)(tuple(int(x) for x in word[-3:]))
         steps = open(os.path.join(CASES, f'{name}.steps'), 'rb').read()
         beside_gudhi(gudhi, name, steps, sorted(points))
+
+
+def handed_over(gudhi, work):
+    """The lines of `tools/export --help` hand a file to GUDHI's Python; the persistence is that of its own complex."""
+    with open(os.path.join(TOOLS, 'export'), encoding='ascii') as file:
+        code = re.findall(r'(?:^    .*\n)+', file.read().split('"""')[1], re.M)[0]
+    name = os.path.join(work, 'scan.tree')
+    points = [[0, 0, 0], [0, 0, 1], [0, 1, 0], [1, 0, 0]]
+    tool('export', '-', name, '--what', 'filtration', given=STEPS.encode())
+    told = {}
+    exec(textwrap.dedent(code).replace('scan.tree', name), told)
+    peer = gudhi.AlphaComplex(points=points, precision='exact').create_simplex_tree().persistence()
+    ours, theirs = ([(dimension, *(round(x, 9) for x in ends)) for dimension, ends in pairs]
+                    for pairs in (told['pairs'], peer))
+    expect(f'the lines of the help: {ours}, {theirs}', sorted(ours) == sorted(theirs))
 
 
 def beside_gudhi(gudhi, what, steps, points):
@@ -161,7 +183,7 @@ def beside_gudhi(gudhi, what, steps, points):
     expect(f'{what}: {len(ours)} faces of {len(theirs)} of GUDHI', status == 0 and set(ours) == set(theirs) and near)
 
 
-def surfaces(work):
+def part_surfaces(work):
     given = os.path.join(CASES, '01-tetrahedron.boundary_48')
     for suffix in ('off', 'stl', 'ply', 'vtu'):
         name = os.path.join(work, f'part.{suffix}')
@@ -247,6 +269,7 @@ def run(work):
     radii(work)
     bad_reports(work)
     filtrations(work)
-    surfaces(work)
+    part_surfaces(work)
+    surfaces.run(work)
     by_vtk(work)
     by_meshlab(work)

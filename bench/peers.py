@@ -1,0 +1,29 @@
+"""How the programs that this one is measured beside are built: CGAL as a user who cares builds it, in this one place.
+
+That is with optimization for the machine that measures and without assertions, and with -frounding-math, which CGAL
+asks of this compiler. A peer reads its file at once, finds the vertex of a place in a table by hash, and writes its
+text at once (`peer_text.h`); where edits come one by one it has CGAL's hierarchy for location. Run as a program:
+peers.py NAME OUT builds the peer NAME.cpp.
+"""
+import os
+import subprocess
+import sys
+
+FOLDER = os.path.dirname(os.path.realpath(__file__))
+FLAGS = ['-O3', '-march=native', '-DNDEBUG', '-frounding-math', '-std=c++17']
+LIBRARIES = ['-lgmp', '-lmpfr']
+
+
+def build(name, out):
+    """Builds the peer of a name as the file `out`, whose name is given back."""
+    source = os.path.join(FOLDER, f'{name}.cpp')
+    with open(source, encoding='ascii') as file:
+        libraries = LIBRARIES if 'CGAL/' in file.read() else []
+    subprocess.run([os.environ.get('CXX', 'c++'), *FLAGS, '-o', out, source, *libraries], check=True)
+    return out
+
+
+if __name__ == '__main__':
+    if len(sys.argv) != 3:
+        sys.exit(__doc__)
+    build(*sys.argv[1:])
