@@ -76,7 +76,7 @@ fn add_stars(
     Ok(())
 }
 
-// The stars in a longer list, where there are fewer than so many. A list that grows doubles.
+// The stars in a longer list, where there are fewer than so many. A list that grows does so by a quarter.
 fn grown_stars(
     alloc: Global,
     stars: &[Around],

@@ -1,5 +1,5 @@
 -- A point that came, and is taken out again.
-use Rattle.std.specs.Prelude.{◌≡◌, ℕ, zero, suc, ◌+◌, ◌<◌, List, [], ◌∷◌, ◌++◌, length, map, slice_index_or}
+use Rattle.std.specs.Prelude.{◌≡◌, ℕ, zero, suc, ◌<◌, List, [], ◌∷◌, ◌++◌, length, map, slice_index_or}
 use Rattle.std.proofs.Common.{ap, arith, inl, inr}
 use Rattle.list_laws.proofs.Cited.{from_append, in_left, in_right}
 use Rattle.point_order.specs.declared.cell.Cell.{Cell}

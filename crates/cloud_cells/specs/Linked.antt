@@ -7,7 +7,7 @@ use Rattle.point_order.specs.Sets.{IsIn, with_point}
 use Rattle.hole_laws.specs.Edits.{IsNew, IsSolidSet}
 use Rattle.cloud_cells.specs.Clouds.{AreCellsOf}
 use Rattle.cloud_cells.specs.Digs.{IsHoleFilled}
-use Rattle.cloud_cells.specs.Nets.{cells_of_slots, slot_at}
+use Rattle.cloud_cells.specs.Nets.{slot_at}
 
 -- the cells are those of some set with the point
 abbrev pub AreCellsWith : ℕ → List Cell → Type 0
@@ -21,10 +21,11 @@ AreCellsLacking p cells = (s : List ℕ) × AreCellsOf s cells × IsNew s p
 abbrev pub NoneHasAt : ℕ → List (Option Cell) → ℕ → Type 0
 NoneHasAt v slots i = (q : Cell) → slot_at slots i ≡ Some q → ¬ (IsIn v (points_of q))
 
--- the cell is one of the slots, and has the point
-pub record IsSlotOf (v : ℕ) (slots : List (Option Cell)) (q : Cell) : Type 0 where
-  pub listed : IsIn q (cells_of_slots slots)
-  pub has : IsIn v (points_of q)
+-- the slot has a cell with the point
+pub record IsSlotOf (v : ℕ) (slots : List (Option Cell)) (i : ℕ) : Type 0 where
+  pub cell : Cell
+  pub at : slot_at slots i ≡ Some cell
+  pub has : IsIn v (points_of cell)
 
 -- what contracts see of linked cells: the cells, and how many can be put in without memory
 pub record LinkedView : Type 0 where

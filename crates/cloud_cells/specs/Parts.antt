@@ -2,17 +2,13 @@
 use Rattle.std.specs.Prelude.{◌≡◌, ℕ, List, [], ◌∷◌, ◌++◌, ◌⊎◌}
 use Rattle.list_laws.specs.Lists.{AreDistinct}
 use Rattle.point_order.specs.declared.cell.Cell.{Cell}
-use Rattle.point_order.specs.declared.cell.Facet.{Facet}
 use Rattle.point_order.specs.Coordinates.{IsKey}
 use Rattle.point_order.specs.Sets.{IsIn, with_point}
 use Rattle.hole_laws.specs.Edits.{IsNew}
-use Rattle.hole_laws.specs.Others.{IsOtherOf}
-use Rattle.cloud_cells.specs.Clouds.{AreCellsOf, HasOtherIn}
+use Rattle.cloud_cells.specs.Clouds.{AreCellsOf}
 use Rattle.cloud_cells.specs.Nets.{AreMoved}
-use Rattle.cloud_cells.specs.declared.net.Across.{Across}
-use Rattle.cloud_cells.specs.declared.net.Across.TheVariants.{Foreign, Gone, Here}
 use Rattle.cloud_cells.specs.declared.reach.Reach.{Reach}
-use Rattle.cloud_cells.specs.declared.reach.Reach.TheVariants.{Part, Whole}
+use Rattle.cloud_cells.specs.declared.reach.Reach.TheVariants.{Whole}
 
 -- the set with the points, one after another
 abbrev pub with_points : List ℕ → List ℕ → List ℕ
@@ -61,9 +57,3 @@ pub record AreOthers (four points others : List ℕ) : Type 0 where
   pub all : (q : ℕ) → IsIn q points → IsIn q four ⊎ IsIn q others
   pub each : (q : ℕ) → IsIn q others → IsIn q points × (¬ (IsIn q four)) × IsKey q
   pub once : AreDistinct points → AreDistinct others
-
--- what lies across a facet of a cell: another of the cells, one that was taken out, or in a part a foreign one
-abbrev pub IsAcross : Reach → List Cell → List Cell → Cell → Facet → Across → Type 0
-IsAcross reach cells gone cell facet (Here other) = IsOtherOf cells cell facet other
-IsAcross reach cells gone cell facet Gone = HasOtherIn gone cell facet
-IsAcross reach cells gone cell facet Foreign = reach ≡ Part

@@ -56,7 +56,15 @@ impl LinkedCells {
         ensures refused { OnErr result (AreMoved self.old.cells self.new.cells) }
     {
         let start = self.hints.start(&self.net, p);
-        let hole = arrived(alloc, &mut self.net, &mut self.edges, self.spare, p, start)?;
+        let hole = arrived(
+            alloc,
+            &mut self.net,
+            &mut self.edges,
+            &mut self.marks,
+            self.spare,
+            p,
+            start,
+        )?;
         self.spare = self
             .spare
             .saturating_add(hole.gone.len())

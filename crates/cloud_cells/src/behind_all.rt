@@ -1,30 +1,16 @@
 //! The cells behind the facets of those that were taken out of the net.
 
-ghost use Rattle.std.specs.Prelude.{◌≡◌, ◌++◌, [], IfOk, List, OnOk, ℕ};
+ghost use Rattle.std.specs.Prelude.{◌++◌, IfOk, List, OnOk, ℕ};
 ghost use Rattle.point_order.specs.Facets.{facets_of};
 ghost use Rattle.point_order.specs.Sets.{IsIn};
-ghost use Rattle.cloud_cells.specs.Clouds.{AreCellsOf, AreCellsOfSome, HasOtherIn};
-ghost use Rattle.hole_laws.specs.Others.{IsOtherOf};
+ghost use Rattle.cloud_cells.specs.Clouds.{AreCellsOf, AreCellsOfSome};
 ghost use Rattle.cloud_cells.specs.Nets.{cells_of_slots};
 ghost use Rattle.cloud_cells.specs.Stars.{AreBehind, AreBehindAll};
 
-use crate::corners::Face;
 use crate::net::Net;
-use crate::reach::Reach;
 use crate::spot::Spot;
 use point_order::Cell;
 use std::alloc::{AllocError, Global};
-
-// The cell across facet k of a cell.
-fn other_behind(net: &Net, gone: &[Spot], spot: &Spot, facet: &Face, k: usize) -> Cell
-    requires { HasOtherIn (cells_of_slots net.now ++ gone.now) spot.now facet.now }
-    ensures { IsOtherOf (cells_of_slots net.now ++ gone.now) spot.now facet.now result }
-{
-    match net.behind(gone, spot, facet, k, Reach::Whole) {
-        Some(other) => other.to_cell(),
-        None => unreachable!(),
-    }
-}
 
 // Adds the cells behind the facets of a cell.
 fn push_behind(
@@ -41,7 +27,7 @@ fn push_behind(
     let facets = spot.cell().facets();
     let mut k = 0;
     for facet in &facets {
-        cells.push(other_behind(net, gone, spot, facet, k))?;
+        cells.push(net.behind(gone, spot, facet, k).to_cell())?;
         k += 1;
     }
     Ok(())

@@ -68,7 +68,7 @@ fn first_point(cell: &Cell) -> Option<Point> {
 
 // The first point of the cell in a slot.
 fn point_at(net: &Net, slot: usize) -> Option<Point> {
-    let spot = net.spot_at(slot)?;
+    let spot = net.spot_in(slot)?;
     Some(point_of(spot.cell().a))
 }
 

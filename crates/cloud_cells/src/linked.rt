@@ -1,65 +1,42 @@
 //! The star of a point of the set is opened, and closed with other cells.
 
-ghost use Rattle.std.specs.Prelude.{◌≡◌, ◌+◌, ◌-◌, ◌≤◌, ◌++◌, length, IfOk, List, MatchOption, OnErr, OnOk, ℕ};
-ghost use Rattle.point_order.specs.Sets.{IsIn};
-ghost use Rattle.cloud_cells.specs.Clouds.{AreCellsOf};
+ghost use Rattle.std.specs.Prelude.{◌≡◌, ◌+◌, ◌-◌, ◌≤◌, ◌++◌, length, MatchBool, OnErr, OnOk};
 ghost use Rattle.cloud_cells.specs.Linked.{AreCellsWith, IsSlotOf, NoneHasAt};
 ghost use Rattle.cloud_cells.specs.Nets.{AreMoved, AreWithAll, cells_of_slots};
-ghost use Rattle.cloud_cells.specs.Stars.{AreStarOf, HaveRoom};
+ghost use Rattle.cloud_cells.specs.Stars.{HaveRoom};
 
+use crate::dig::Hole;
 use crate::edges::Edges;
 use crate::net::Net;
 use crate::refill::{fill, make_room};
-use crate::spot::Spot;
-use crate::star::{Star, give_back, star_of};
+use crate::star::give_back;
 use point_order::{Cell, Point};
-use std::alloc::{AllocError, Global};
+use std::alloc::AllocError;
 
-// The cell of a slot, where it has the point.
-fn with_point_at(net: &Net, i: usize, v: Point) -> Option<Spot>
-    ensures { MatchOption result (NoneHasAt v net.now i) (IsSlotOf v net.now) }
+// Whether a slot has a cell with the point.
+fn has_point_at(net: &Net, i: usize, v: Point) -> bool
+    ensures { MatchBool result (IsSlotOf v net.now i) (NoneHasAt v net.now i) }
 {
-    let spot = net.spot_in(i)?;
-    if spot.cell().has(v) {
-        return Some(spot);
+    match net.spot_in(i) {
+        Some(spot) => spot.cell().has(v),
+        None => false,
     }
-    None
 }
 
-// A cell with a point of the set, which is likely to stand in the slot of the hint.
-pub(crate) fn with_point(net: &Net, v: Point, hint: usize) -> Spot
+// The slot of a cell with a point of the set, which is likely to be the hint.
+pub(crate) fn with_point(net: &Net, v: Point, hint: usize) -> usize
     requires { AreCellsWith v (cells_of_slots net.now) }
     ensures { IsSlotOf v net.now result }
 {
-    if let Some(spot) = with_point_at(net, hint, v) {
-        return spot;
+    if has_point_at(net, hint, v) {
+        return hint;
     }
     for i in 0..net.len() {
-        if let Some(spot) = with_point_at(net, i, v) {
-            return spot;
+        if has_point_at(net, i, v) {
+            return i;
         }
     }
     unreachable!()
-}
-
-// Opens the star of a point of the set: its cells are taken out of the net.
-pub(crate) fn opened(
-    alloc: Global,
-    net: &mut Net,
-    v: Point,
-    hint: usize,
-) -> Result<Star, AllocError>
-    requires { AreCellsWith v (cells_of_slots net.old) }
-    ensures cells { IfOk result (λ star. AreMoved (cells_of_slots net.old)
-        (cells_of_slots net.new ++ star.gone.items)) }
-    ensures star { IfOk result (λ star. (s : List ℕ) → AreCellsOf s (cells_of_slots net.old) →
-        AreStarOf s v star.gone.items) }
-    ensures room { IfOk result (λ star. HaveRoom net.new (length star.gone.items)) }
-    ensures refused { OnErr result (AreMoved (cells_of_slots net.old) (cells_of_slots net.new)) }
-    ensures size { length net.new ≡ length net.old }
-{
-    let first = with_point(net, v, hint);
-    star_of(alloc, net, v, first)
 }
 
 // Makes what is needed to put so many cells into the net, where so many slots are known to be free.
@@ -85,7 +62,7 @@ pub(crate) fn closed(
     net: &mut Net,
     edges: &mut Edges,
     spare: usize,
-    star: &Star,
+    star: &Hole,
     cells: &[Cell],
 ) -> Result<(), AllocError>
     requires room { HaveRoom net.old spare }
@@ -102,7 +79,7 @@ pub(crate) fn closed(
             Ok(())
         }
         Err(e) => {
-            give_back(net, &star.gone);
+            give_back(net, &star.gone, 0);
             Err(e)
         }
     }

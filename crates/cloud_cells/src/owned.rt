@@ -10,12 +10,14 @@ ghost use Rattle.cloud_cells.specs.Nets.{AreMoved, AreWithAll, cells_of_slots};
 ghost use Rattle.cloud_cells.specs.Stars.{AreBehindAll, AreStarOf};
 
 use crate::behind_all::cells_behind;
+use crate::dig::Hole;
 use crate::edges::Edges;
-use crate::grow::{cells_of, net_of_points};
+use crate::grow::{cells_of, net_of_points, take_all};
 use crate::hints::Hints;
-use crate::linked::{closed, opened};
+use crate::linked::{closed, with_point};
+use crate::marking::Marks;
 use crate::net::Net;
-use crate::star::{Star, give_back};
+use crate::star::{give_back, star_of};
 use crate::walk::walked_to;
 use point_order::{Cell, Point, cells_in_order};
 use std::alloc::{AllocError, Global};
@@ -24,7 +26,7 @@ use std::marker::Model;
 /// The cells at a point, which were taken out of linked cells. Contracts see it as these.
 #[derive(Drop)]
 pub struct OpenStar {
-    star: Star,
+    star: Hole,
     cells: Vec<Cell>,
 }
 
@@ -54,6 +56,7 @@ impl OpenStar {
 pub struct LinkedCells {
     pub(crate) net: Net,
     pub(crate) edges: Edges,
+    pub(crate) marks: Marks,
     pub(crate) hints: Hints,
     pub(crate) spare: usize,
 }
@@ -70,8 +73,14 @@ impl Model for LinkedCells {
     ghost invariant = { λ c. HaveRoom c.net c.spare };
 }
 
-// Opens the star of a point of the set.
-fn open_at(alloc: Global, net: &mut Net, v: Point, start: usize) -> Result<OpenStar, AllocError>
+// Opens the star of a point of the set. On want of memory nothing changed.
+fn open_at(
+    alloc: Global,
+    net: &mut Net,
+    marks: &mut Marks,
+    v: Point,
+    start: usize,
+) -> Result<OpenStar, AllocError>
     requires { AreCellsWith v (cells_of_slots net.old) }
     ensures cells { IfOk result (λ star. AreMoved (cells_of_slots net.old) (cells_of_slots net.new ++ star)) }
     ensures star { IfOk result (λ star. (s : List ℕ) → AreCellsOf s (cells_of_slots net.old) → AreStarOf s v star) }
@@ -79,14 +88,11 @@ fn open_at(alloc: Global, net: &mut Net, v: Point, start: usize) -> Result<OpenS
     ensures size { length net.new ≡ length net.old }
 {
     let hint = walked_to(net, v, start);
-    let star = opened(alloc, net, v, hint)?;
-    match cells_of(alloc, &star.gone) {
-        Ok(cells) => Ok(OpenStar { star, cells }),
-        Err(e) => {
-            give_back(net, &star.gone);
-            Err(e)
-        }
-    }
+    let first = with_point(net, v, hint);
+    let star = star_of(alloc, net, marks, v, first)?;
+    let cells = cells_of(alloc, &star.gone)?;
+    take_all(net, &star.gone, 0);
+    Ok(OpenStar { star, cells })
 }
 
 impl LinkedCells {
@@ -104,6 +110,7 @@ impl LinkedCells {
         Ok(LinkedCells {
             net,
             edges: Edges::new(alloc),
+            marks: Marks::new(alloc),
             hints,
             spare: 0,
         })
@@ -123,7 +130,7 @@ impl LinkedCells {
         ensures kept { OnErr result (self.new.room ≡ self.old.room) }
     {
         let start = self.hints.start(&self.net, v);
-        let star = open_at(alloc, &mut self.net, v, start)?;
+        let star = open_at(alloc, &mut self.net, &mut self.marks, v, start)?;
         let _ = self.net.len();
         self.spare = self.spare.saturating_add(star.cells.len());
         Ok(star)
@@ -176,7 +183,7 @@ impl LinkedCells {
         ensures cells { AreMoved (self.old.cells ++ star) self.new.cells }
         ensures kept { self.old.room ≤ self.new.room + length star }
     {
-        give_back(&mut self.net, &star.star.gone);
+        give_back(&mut self.net, &star.star.gone, 0);
         self.spare = self.spare.saturating_sub(star.star.gone.len());
     }
 

@@ -81,6 +81,17 @@ impl Packed {
         }
     }
 
+    // What sorts cells: Full ones before Open ones, each kind by its keys. No contract speaks of it.
+    pub(crate) fn rank(&self) -> (u64, u64, u64, u64) {
+        let key = KEYS.wrapping_sub(1);
+        (
+            self.u & key | (self.v >> 62) << 42,
+            self.v & key,
+            self.w,
+            self.u >> 42 | (self.v >> 42) << 22,
+        )
+    }
+
     // The number beside, where there is no cell.
     pub(crate) fn number(&self) -> usize {
         if self.w < KEYS { 0 } else { self.u as usize }

@@ -6,9 +6,11 @@ ghost use Rattle.point_order.specs.Sets.{IsIn};
 ghost use Rattle.cloud_cells.specs.Clouds.{HasOtherIn};
 ghost use Rattle.hole_laws.specs.Others.{IsOtherOf, HaveNoOther};
 ghost use Rattle.cloud_cells.specs.Stars.{HaveRoom};
+ghost use Rattle.cloud_cells.specs.Marked.{IsOtherAt};
 ghost use Rattle.cloud_cells.specs.Nets.{AreMoved, AreWith, HasNoOther, IsOtherOn, IsWithout, cells_of_slots, slot_at};
 
 use crate::corners::{Corners, Face};
+use crate::edges::Door;
 use crate::packed::Packed;
 use crate::spot::Spot;
 use point_order::Cell;
@@ -157,26 +159,27 @@ fn is_other(other: &Corners, cell: &Corners, facet: &Face) -> bool
     other.number_of(facet) < 4 && !other.is_same(cell)
 }
 
-// The cell of a slot, where it is another on the facet.
-pub(crate) fn other_at(slots: &[Slot], i: usize, cell: &Corners, facet: &Face) -> Option<Corners>
+// Which of its facets the facet is of the cell of a slot, where that is another on it.
+pub(crate) fn other_at(slots: &[Slot], i: usize, cell: &Corners, facet: &Face) -> Option<usize>
     ensures { MatchOption result (HasNoOther slots.now i cell.now facet.now)
-        (λ other. IsOtherOf (cells_of_slots slots.now) cell.now facet.now other) }
+        (λ number. IsOtherAt slots.now cell.now facet.now i) }
 {
     let other = cell_at(slots, i)?;
-    if is_other(&other, cell, facet) {
-        return Some(other);
+    let number = other.number_of(facet);
+    if number < 4 && !other.is_same(cell) {
+        return Some(number);
     }
     None
 }
 
-// The cell across a facet of a cell, and its slot, where all are looked at. There is to be one.
-pub(crate) fn other_across(slots: &[Slot], cell: &Corners, facet: &Face) -> (Corners, usize)
+// The slot of the cell across a facet of a cell, where all are looked at. There is to be one.
+pub(crate) fn other_across(slots: &[Slot], cell: &Corners, facet: &Face) -> Door
     requires { HasOtherIn (cells_of_slots slots.now) cell.now facet.now }
-    ensures { IsOtherOf (cells_of_slots slots.now) cell.now facet.now result.0 }
+    ensures { IsOtherAt slots.now cell.now facet.now result.place }
 {
     for i in 0..slots.len() {
-        if let Some(other) = other_at(slots, i, cell, facet) {
-            return (other, i);
+        if let Some(number) = other_at(slots, i, cell, facet) {
+            return Door { place: i, number };
         }
     }
     unreachable!()
@@ -204,18 +207,6 @@ pub(crate) fn gone_across(
         }
     }
     None
-}
-
-// Takes a cell out of its slot, so many after the first, and answers which that was.
-pub(crate) fn take_out(slots: &mut Vec<Slot>, cell: &Corners, hint: usize, number: usize) -> usize
-    requires { IsIn cell.now (cells_of_slots slots.old.items) }
-    ensures { IsWithout (cells_of_slots slots.old.items) cell.now (cells_of_slots slots.new.items) }
-{
-    let place = place_of(slots, cell, hint);
-    if place < slots.len() {
-        slots[place].clear(number);
-    }
-    place
 }
 
 // Whether the slot is there, and free.

@@ -1,173 +1,132 @@
-//! The star of a point: the cells at it, which are taken out of the net, and the facets around them.
+//! The star of a point: the cells at it, and the facets around them.
 
-ghost use Rattle.std.specs.Prelude.{◌≡◌, ◌+◌, ◌++◌, ◌∷◌, [], length, IfOk, List, OnErr, OnOk, ℕ};
-ghost use Rattle.point_order.specs.Facets.{facets_of, points_of};
+ghost use Rattle.std.specs.Prelude.{◌≡◌, ◌+◌, ◌++◌, ◌∷◌, [], length, IfOk, List, OnOk, ℕ};
+ghost use Rattle.point_order.specs.Facets.{facets_of};
 ghost use Rattle.point_order.specs.Sets.{IsIn};
 ghost use Rattle.point_order.specs.declared.cell.Cell.{Cell as CellOf};
 ghost use Rattle.cloud_cells.specs.Clouds.{AreCellsOf, AreCellsOfSome};
-ghost use Rattle.cloud_cells.specs.Nets.{AreMoved, AreWithAll, cells_of_slots};
+ghost use Rattle.cloud_cells.specs.Linked.{IsSlotOf};
+ghost use Rattle.cloud_cells.specs.Marked.{AreMarkedIn, ArePicked};
+ghost use Rattle.cloud_cells.specs.Nets.{AreMoved, cells_of_slots};
 ghost use Rattle.cloud_cells.specs.Stars.{AreStarOf, CrossesAround, HaveRoom};
 
 use crate::corners::Face;
-use crate::dig::Side;
-use crate::net::{Across, Net};
+use crate::dig::{Hole, Side, find};
+use crate::marking::Marks;
+use crate::net::Net;
 use crate::reach::Reach;
 use crate::spot::Spot;
 use point_order::Point;
 use std::alloc::{AllocError, Global};
 
-// The cells at a point, and the facets behind which a cell stays.
-#[derive(Drop)]
-pub(crate) struct Star {
-    pub(crate) gone: Vec<Spot>,
-    pub(crate) rim: Vec<Side>,
+// The side of the rim at facet k of a cell. What is behind it is likely what was noted.
+fn side_of(net: &Net, spot: &Spot, facet: &Face, k: usize) -> Side {
+    let behind = net.link(spot.place(), k);
+    let number = match net.spot_in(behind) {
+        Some(other) => other.cell().number_of(facet),
+        None => 0,
+    };
+    Side::new(*facet, behind, number)
 }
 
-// Takes a cell out of the net, and puts it behind those found; both or neither.
-pub(crate) fn take_to(net: &mut Net, other: Spot, found: &mut Vec<Spot>) -> Result<(), AllocError>
-    requires { IsIn other (cells_of_slots net.old) }
-    ensures found { OnOk result (found.new.items ≡ found.old.items ++ other ∷ []) }
-    ensures cells { AreMoved (cells_of_slots net.old ++ found.old.items) (cells_of_slots net.new ++ found.new.items) }
-    ensures size { length net.new ≡ length net.old }
-{
-    let cell = *other.cell();
-    let place = other.place();
-    let number = found.len();
-    net.note_free(place)?;
-    found.push(other)?;
-    net.clear(&cell, place, number);
-    Ok(())
-}
-
-// Crosses facet k of a found cell at v. Where the facet has v, the cell behind it was found or is taken out of the net;
-// else the facet is one of the rim.
+// Crosses facet k of a found cell at v. Where the facet has v, the cell behind it is found, if it was not; else the
+// facet is one of the rim.
 fn cross_around(
-    net: &mut Net,
+    net: &Net,
+    marks: &mut Marks,
     v: Point,
     spot: &Spot,
     facet: &Face,
     k: usize,
-    found: &mut Vec<Spot>,
-    rim: &mut Vec<Side>,
+    star: &mut Hole,
 ) -> Result<(), AllocError>
-    requires cells { AreCellsOfSome (cells_of_slots net.old ++ found.old.items) }
-    requires among { IsIn spot.now found.old.items }
+    requires cells { AreCellsOfSome (cells_of_slots net.now) }
+    requires among { IsIn spot.now star.old.gone.items }
     requires facet { IsIn facet.now (facets_of spot.now) }
-    ensures more { OnOk result ((more : List CellOf) × (found.new.items ≡ found.old.items ++ more)) }
-    ensures cells { AreMoved (cells_of_slots net.old ++ found.old.items) (cells_of_slots net.new ++ found.new.items) }
-    ensures size { length net.new ≡ length net.old }
-    ensures crossed { OnOk result ((s : List ℕ) → AreCellsOf s (cells_of_slots net.old ++ found.old.items) →
-        CrossesAround s v (facet.now ∷ []) found.old.items found.new.items) }
+    requires marked { AreMarkedIn net.now marks.old star.old.gone.items }
+    ensures more { OnOk result ((more : List CellOf) × (star.new.gone.items ≡ star.old.gone.items ++ more)) }
+    ensures marked { OnOk result (AreMarkedIn net.now marks.new star.new.gone.items) }
+    ensures crossed { OnOk result ((s : List ℕ) → AreCellsOf s (cells_of_slots net.now) →
+        CrossesAround s v (facet.now ∷ []) star.old.gone.items star.new.gone.items) }
 {
     if !facet.has(v) {
-        let behind = net.link(spot.place(), k);
-        let number = match net.spot_at(behind) {
-            Some(other) => other.cell().number_of(facet),
-            None => 0,
-        };
-        rim.push(Side::new(*facet, behind, number))?;
+        star.rim.push(side_of(net, spot, facet, k))?;
         return Ok(());
     }
-    match net.across(found, spot, facet, k, Reach::Whole) {
-        Across::Here(other) => {
-            take_to(net, other, found)?;
-            Ok(())
-        }
-        Across::Gone => Ok(()),
-        Across::Foreign => unreachable!(),
+    let door = match net.across(spot, facet, k, Reach::Whole) {
+        Some(door) => door,
+        None => unreachable!(),
+    };
+    if marks.is_gone(door.place) {
+        return Ok(());
     }
+    let other = net.cell_in(door.place);
+    find(marks, &mut star.gone, other, door.place)?;
+    Ok(())
 }
 
 // Crosses the four facets of a found cell.
 fn explore_around(
-    net: &mut Net,
+    net: &Net,
+    marks: &mut Marks,
     v: Point,
     spot: &Spot,
-    found: &mut Vec<Spot>,
-    rim: &mut Vec<Side>,
+    star: &mut Hole,
 ) -> Result<(), AllocError>
-    requires cells { AreCellsOfSome (cells_of_slots net.old ++ found.old.items) }
-    requires among { IsIn spot.now found.old.items }
-    ensures more { OnOk result ((more : List CellOf) × (found.new.items ≡ found.old.items ++ more)) }
-    ensures cells { AreMoved (cells_of_slots net.old ++ found.old.items) (cells_of_slots net.new ++ found.new.items) }
-    ensures size { length net.new ≡ length net.old }
-    ensures explored { OnOk result ((s : List ℕ) → AreCellsOf s (cells_of_slots net.old ++ found.old.items) →
-        CrossesAround s v (facets_of spot.now) found.old.items found.new.items) }
+    requires cells { AreCellsOfSome (cells_of_slots net.now) }
+    requires among { IsIn spot.now star.old.gone.items }
+    requires marked { AreMarkedIn net.now marks.old star.old.gone.items }
+    ensures more { OnOk result ((more : List CellOf) × (star.new.gone.items ≡ star.old.gone.items ++ more)) }
+    ensures marked { OnOk result (AreMarkedIn net.now marks.new star.new.gone.items) }
+    ensures explored { OnOk result ((s : List ℕ) → AreCellsOf s (cells_of_slots net.now) →
+        CrossesAround s v (facets_of spot.now) star.old.gone.items star.new.gone.items) }
 {
     let facets = spot.cell().facets();
     let mut k = 0;
     for facet in &facets {
-        cross_around(net, v, spot, facet, k, found, rim)?;
+        cross_around(net, marks, v, spot, facet, k, star)?;
         k += 1;
     }
     Ok(())
 }
 
-// Takes the cells at v out of the net, from one of them on.
-fn find_star(
-    net: &mut Net,
+// The cells at v, from that of a slot on. The net is only looked at.
+pub(crate) fn star_of(
+    alloc: Global,
+    net: &Net,
+    marks: &mut Marks,
     v: Point,
-    first: Spot,
-    gone: &mut Vec<Spot>,
-    rim: &mut Vec<Side>,
-) -> Result<(), AllocError>
-    requires cells { AreCellsOfSome (cells_of_slots net.old) }
-    requires none { gone.old.items ≡ [] }
-    requires first { IsIn first (cells_of_slots net.old) }
-    requires has { IsIn v (points_of first) }
-    ensures cells { AreMoved (cells_of_slots net.old) (cells_of_slots net.new ++ gone.new.items) }
-    ensures size { length net.new ≡ length net.old }
-    ensures star { OnOk result ((s : List ℕ) → AreCellsOf s (cells_of_slots net.old) →
-        AreStarOf s v gone.new.items) }
+    first: usize,
+) -> Result<Hole, AllocError>
+    requires cells { AreCellsOfSome (cells_of_slots net.now) }
+    requires first { IsSlotOf v net.now first }
+    ensures picked { IfOk result (λ star. ArePicked (cells_of_slots net.now) star.gone.items) }
+    ensures star { IfOk result (λ star. (s : List ℕ) → AreCellsOf s (cells_of_slots net.now) →
+        AreStarOf s v star.gone.items) }
 {
-    take_to(net, first, gone)?;
+    let mut star = Hole::new(alloc);
+    marks.begin(net.len())?;
+    find(marks, &mut star.gone, net.cell_in(first), first)?;
     let mut explored = 0;
-    'star: while explored < gone.len() {
-        let spot = gone[explored].copied();
-        explore_around(net, v, &spot, gone, rim)?;
+    'star: while explored < star.gone.len() {
+        let spot = star.gone[explored].copied();
+        explore_around(net, marks, v, &spot, &mut star)?;
         explored += 1;
     }
-    Ok(())
+    Ok(star)
 }
 
-// Puts the cells that were taken out back.
-pub(crate) fn give_back(net: &mut Net, gone: &[Spot])
+// Puts the cells that were taken out back. The slots of all but so many were noted to be free.
+pub(crate) fn give_back(net: &mut Net, gone: &[Spot], kept: usize)
     requires { HaveRoom net.old (length gone.now) }
     ensures cells { AreMoved (cells_of_slots net.old ++ gone.now) (cells_of_slots net.new) }
     ensures size { length net.new ≡ length net.old }
     ensures count { length (cells_of_slots net.new) ≡ length (cells_of_slots net.old) + length gone.now }
 {
+    let mut number: usize = 0;
     for spot in gone {
-        let _ = net.free_hint();
+        net.forget_free(number >= kept);
         let _ = net.refill(spot.cell(), spot.place());
-    }
-}
-
-// The cells at v, which are taken out of the net, from one of them on. On want of memory the net has its cells still.
-pub(crate) fn star_of(
-    alloc: Global,
-    net: &mut Net,
-    v: Point,
-    first: Spot,
-) -> Result<Star, AllocError>
-    requires cells { AreCellsOfSome (cells_of_slots net.old) }
-    requires first { IsIn first (cells_of_slots net.old) }
-    requires has { IsIn v (points_of first) }
-    ensures cells { IfOk result (λ star. AreMoved (cells_of_slots net.old)
-        (cells_of_slots net.new ++ star.gone.items)) }
-    ensures star { IfOk result (λ star. (s : List ℕ) → AreCellsOf s (cells_of_slots net.old) →
-        AreStarOf s v star.gone.items) }
-    ensures room { IfOk result (λ star. HaveRoom net.new (length star.gone.items)) }
-    ensures refused { OnErr result (AreMoved (cells_of_slots net.old) (cells_of_slots net.new)) }
-    ensures size { length net.new ≡ length net.old }
-{
-    let mut gone = Vec::with_capacity(alloc, 64)?;
-    let mut rim = Vec::with_capacity(alloc, 64)?;
-    match find_star(net, v, first, &mut gone, &mut rim) {
-        Ok(()) => Ok(Star { gone, rim }),
-        Err(e) => {
-            give_back(net, &gone);
-            Err(e)
-        }
+        number = number.wrapping_add(1);
     }
 }

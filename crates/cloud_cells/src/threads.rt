@@ -15,6 +15,7 @@ use crate::groups::pass;
 use crate::grow::put_points;
 use crate::net::Net;
 use crate::opening::{cells_of_four, four_of};
+use crate::ranked::ranked;
 use crate::reach::Reach;
 use crate::turns::{Turn, turns_of};
 use point_order::{Cell, Point, cells_in_order};
@@ -149,5 +150,6 @@ pub fn complex_by_threads<R: Threads + Sync>(
     ensures { IfOk result (λ cells. cells.items ≡ complex points.now) }
 {
     let net = net_by_threads(rt, alloc, points, threads)?;
-    Ok(cells_in_order(net.cells(alloc)?))
+    let cells = ranked(alloc, net)?;
+    Ok(cells_in_order(cells))
 }

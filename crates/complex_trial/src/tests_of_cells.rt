@@ -44,7 +44,7 @@ fn flat(a: Point, b: Point, c: Point, d: Point) -> bool
 }
 
 /// Whether four of the points, all different, are a Full cell.
-pub fn is_full_cell(points: &[Point], a: Point, b: Point, c: Point, d: Point) -> bool
+pub(crate) fn is_full_cell(points: &[Point], a: Point, b: Point, c: Point, d: Point) -> bool
     requires { AreFour a b c d }
     ensures { result ≡ is_full points.now (a ∷ b ∷ c ∷ d ∷ []) }
 {
@@ -127,7 +127,7 @@ fn is_open_seen_from(points: &[Point], a: Point, b: Point, c: Point) -> bool
 }
 
 /// Whether three of the points, all different, are an Open cell.
-pub fn is_open_cell(points: &[Point], a: Point, b: Point, c: Point) -> bool
+pub(crate) fn is_open_cell(points: &[Point], a: Point, b: Point, c: Point) -> bool
     requires { AreThree a b c }
     ensures { result ≡ is_open points.now (a ∷ b ∷ c ∷ []) }
 {

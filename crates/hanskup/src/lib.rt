@@ -1,7 +1,8 @@
 //! Hanskup: the Delaunay triangulation of points in space, and its alpha complexes, from one crate.
 //!
 //! Points have whole coordinates from 0 to 16383; ties are broken by one fixed rule; all is exact and proved. This
-//! crate passes on what a program needs of the library. The program `tour` calls it, and runs as it stands.
+//! crate passes on what a program needs of the library. The program `tour` calls it, and runs as it stands: the sample
+//! below has its lines, and CALLING.md beside has it whole, with the contracts.
 //!
 //! | I want | call |
 //! |---|---|
@@ -25,12 +26,13 @@
 //! An alpha is a squared radius in sixteenths of the square of the unit of the grid.
 //!
 //! ```
-//! let four = find_four(&points)?;                                   // NotSolid: all points lie in one plane
-//! let mut mesh = begin_cloud(alloc, grid_for(points.len()), &points, four)?;
-//! let receipt = apply(alloc, &mut mesh, 9, Edit::Add(p))?;          // Inserted or Duplicate, and its number
-//! let cells = complex(alloc, &mesh)?;                               // sorted; triangles of the hull are Open cells
-//! let faces = faces(&rt, alloc, &cells)?;
-//! let shape = alpha(&rt, alloc, &faces, 16 * 270)?;                 // of the squared radius 270
+//! let four = opening_points(&corners)?;                   // with their tags; NotSolid: all lie in one plane
+//! let grid = Grid::new(4)?;
+//! Ok(begin(alloc, grid, four)?)
+//! let receipt = apply(alloc, mesh, tag, edit)?;           // Inserted, Duplicate, .. and the number of the entry
+//! let cells = complex(alloc, mesh)?;                      // sorted; triangles of the hull are Open cells
+//! let faces = faces(rt, alloc, &cells)?;
+//! let shape = alpha(rt, alloc, faces, 16 * radius)?;      // of a squared radius
 //! ```
 #![tactic(auto)]
 

@@ -39,7 +39,7 @@ pub(crate) struct Side {
 }
 
 // A number for the facet, which hardly another one has.
-fn number_of(facet: &Facet) -> u32 {
+fn hash_of(facet: &Facet) -> u32 {
     match facet {
         Facet::Three(tri) => {
             let (a, b, c) = tri.corners();
@@ -62,7 +62,7 @@ impl Side {
         Side {
             facet,
             up,
-            number: number_of(&facet),
+            number: hash_of(&facet),
         }
     }
 }

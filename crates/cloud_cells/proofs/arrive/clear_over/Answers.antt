@@ -53,7 +53,8 @@ loop-side-preserved c =
     let e : c.over-cell.result ≡ x = c.over-cell.ensures ∙ ap over c.facet.ensures in
     let old = cells_of_slots c.args.net.now in
     let net = cells_of_slots c.loop-side.net in
-    let now = cells_of_slots c.clear.new.self in (
+    let now = cells_of_slots c.clear.new.self in
+    rw c.note_free.ensures (
       moved_on old (net ++ take i fresh) (now ++ take (i + 1) fresh) c.loop-side.invariant.0
           (subst (λ (v : List Cell). AreMoved (net ++ take i fresh) (now ++ v)) (sym (take_next fresh i x lt at))
           (taken net (take i fresh) now x (subst (λ (q : Cell). IsWithout net q now) e c.clear.ensures.taken))),

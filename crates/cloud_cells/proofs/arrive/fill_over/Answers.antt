@@ -26,14 +26,14 @@ refill-place-requires c =
     let i = c.loop-side.invariant in
     let room = c.requires.room in
     let h : HaveRoom c.loop-side.net 1 = omega (arith, room, i.1, i.2, c.loop-side-test.true) in
-    subst (λ (n : List (Option Cell)). HaveRoom n 1) (sym c.free_hint-hint.ensures) h
+    subst (λ (n : List (Option Cell)). HaveRoom n 1) (sym c.slot_for-hint.ensures) h
 
 -- one cell more is put in
 pub loop-side-preserved : goal.loop-side-preserved
 loop-side-preserved c =
     let i = c.loop-side.invariant in
     let e = c.refill-place.ensures in
-    let f = c.free_hint-hint.ensures in
+    let f = c.slot_for-hint.ensures in
     let over : Facet → Cell = λ f. cell_over f c.args.p in
     let n = c.loop-side.side-index in
     let x = c.side-item.result in
@@ -45,7 +45,7 @@ loop-side-preserved c =
     ∙ sym (map-append over (take n rim) (x ∷ [])) ∙ ap (map over) (sym
     (take_next rim n x c.loop-side-test.true c.side-item.is)) in
     let w = subst (λ (n : List (Option Cell)). AreWith (cells_of_slots n) c.over.result now) f e.with_cell in
-    rw c.link_over.ensures (
+    rw c.link.ensures (
       subst (λ (k : List Cell). AreWithAll l k now) g
           (with_more l (map over (take n rim)) (cells_of_slots c.loop-side.net) now c.over.result i.0 w),
       e.size ∙ ap length f ∙ i.1,

@@ -13,8 +13,8 @@ use Rattle.cloud_cells.proofs.Behind.{behind_more}
 use Rattle.cloud_cells.proofs.Standing.{other_of, some_other}
 use Rattle.cloud_cells.proofs.behind_all.push_behind.Goals as goal
 
-pub other_behind-requires : goal.other_behind-requires
-other_behind-requires c =
+pub behind-requires : goal.behind-requires
+behind-requires c =
     let r = c.requires.cells in
     let l = cells_of_slots c.args.net.now in
     let facets = c.facets-facets.result in
@@ -38,11 +38,11 @@ loop-facet-preserved c =
           let less : c.loop-facet.facet-index < length facets = omega (arith, c.type_inv.facet-items) in
           let m = subst (λ (k : List Facet). IsIn c.facet-item.result k) same
           (at_place facets c.loop-facet.facet-index c.facet-item.result c.facet-item.result less c.facet-item.is) in
-          let o = other_of s all k c.args.spot.now c.facet-item.result c.other_behind.result
-          (subst (λ (f : Facet). IsOtherOf all c.args.spot.now f c.other_behind.result) (sym c.facet-item.is)
-          c.other_behind.ensures) in
+          let o = other_of s all k c.args.spot.now c.facet-item.result c.to_cell.result
+          (subst (λ (f : Facet). IsOtherOf all c.args.spot.now f c.to_cell.result) (sym c.facet-item.is)
+          (rw c.to_cell.ensures c.behind.ensures)) in
           rw c.in_ok-push.ensures.items
-          (behind_more s k.solid.set c.args.spot.now c.other_behind.result facets c.loop-facet.facet-index
+          (behind_more s k.solid.set c.args.spot.now c.to_cell.result facets c.loop-facet.facet-index
           c.facet-item.result c.args.cells.now.items c.loop-facet.cells.items
           ((k.members c.args.spot.now).0 (in_right c.args.spot.now l c.args.gone.now c.requires.among)) m less
           c.facet-item.is o (i.0 s k))),

@@ -1,4 +1,5 @@
 use Rattle.std.proofs.Common.{subst, sym, ◌∙◌, List, ◌≡◌}
+use Rattle.std.proofs.lemmas.Bool.{MatchBool-at_false, MatchBool-at_true}
 use Rattle.std.specs.Prelude.{◌↔◌}
 use Rattle.list_laws.specs.Lists.{AreDistinct}
 use Rattle.point_order.specs.declared.cell.Cell.{Cell}
@@ -19,15 +20,17 @@ hole_of-requires c = (
 )
 
 pub unreachable-requires : goal.unreachable-requires
-unreachable-requires c = let e : Whole ≡ Part = rw c.in-None.is at c.in_ok-dug.ensures.hole in cc e
+unreachable-requires c =
+    let e : Whole ≡ Part = MatchBool-at_false _ _ c.if-not-could.true c.in_ok-could.ensures.hole in cc e
 
 pub returns-clause-taken : goal.returns-clause-taken
 returns-clause-taken c =
     let new : IsNew c.args.points.now c.args.p = record { key = c.key.ensures.bound; absent = c.requires.absent } in
     let w = whole_within c.args.points.now (cells_of_slots c.in_ok-net.net) c.in_ok-net.ensures in
-    let hole = c.in-Some.hole in
+    let hole = c.hole_of.new.hole in
     let dug : InEach c.args.p (cells_of_slots c.in_ok-net.net)
-    (λ s. IsHoleOf s c.args.p hole.gone.items hole.rim.items) = rw c.in-Some.is at c.in_ok-dug.ensures.hole in
+    (λ s. IsHoleOf s c.args.p hole.gone.items hole.rim.items) =
+    MatchBool-at_true _ _ c.if-not-could.false c.in_ok-could.ensures.hole in
     ok_then _ _ c.cells_of.result
     (λ cells e q. subst (λ (l : List Cell). IsIn q l ↔ GoesFrom c.args.points.now c.args.p q)
     (sym (e ∙ c.deref.ensures.value)) ((dug w.others w.set w.cells_of new).gone_is q)) c.cells_of.ensures
@@ -36,9 +39,10 @@ pub returns-clause-once : goal.returns-clause-once
 returns-clause-once c =
     let new : IsNew c.args.points.now c.args.p = record { key = c.key.ensures.bound; absent = c.requires.absent } in
     let w = whole_within c.args.points.now (cells_of_slots c.in_ok-net.net) c.in_ok-net.ensures in
-    let hole = c.in-Some.hole in
+    let hole = c.hole_of.new.hole in
     let dug : InEach c.args.p (cells_of_slots c.in_ok-net.net)
-    (λ s. IsHoleOf s c.args.p hole.gone.items hole.rim.items) = rw c.in-Some.is at c.in_ok-dug.ensures.hole in
+    (λ s. IsHoleOf s c.args.p hole.gone.items hole.rim.items) =
+    MatchBool-at_true _ _ c.if-not-could.false c.in_ok-could.ensures.hole in
     ok_then _ _ c.cells_of.result
     (λ cells e. subst (λ (l : List Cell). AreDistinct l) (sym (e ∙ c.deref.ensures.value))
     (dug w.others w.set w.cells_of new).gone_once) c.cells_of.ensures

@@ -1,7 +1,9 @@
-use Rattle.std.proofs.Common.{append-nil, subst, sym, ◌∙◌, ◌∷◌, [], ℕ}
+use Rattle.std.proofs.Common.{append-nil, subst, sym, ◌∙◌, ◌∷◌, [], ℕ, List, Option}
 use Rattle.std.proofs.lemmas.Bool.{MatchBool-at_false, MatchBool-at_true}
-use Rattle.cloud_cells.specs.Nets.{cells_of_slots}
+use Rattle.point_order.specs.declared.cell.Cell.{Cell}
+use Rattle.cloud_cells.specs.Nets.{AreMoved, cells_of_slots}
 use Rattle.cloud_cells.specs.Parts.{Grow}
+use Rattle.cloud_cells.proofs.Moving.{moved_none}
 use Rattle.cloud_cells.proofs.Parts.{put_each, put_none}
 use Rattle.cloud_cells.proofs.grow.put_or_leave.Goals as goal
 
@@ -25,7 +27,8 @@ returns-clause-put c =
       c.args.turn.now ∷ [],
       rw c.copied.ensures at c.in_ok-push.ensures.items,
       put_none (c.args.turn.now ∷ []) old new
-          (MatchBool-at_false _ _ c.if-is_put.false c.in_ok-is_put.ensures).1,
+          (subst (λ (n : List (Option Cell)). AreMoved old (cells_of_slots n))
+          (sym (MatchBool-at_false _ _ c.if-is_put.false c.in_ok-is_put.ensures).1) (moved_none old)),
     )
 
 -- of the whole none is left

@@ -1,12 +1,17 @@
-use Rattle.std.proofs.Common.{subst, List, ◌++◌}
-use Rattle.point_order.specs.declared.cell.Cell.{Cell}
-use Rattle.cloud_cells.specs.Nets.{AreMoved, cells_of_slots}
-use Rattle.cloud_cells.proofs.Moving.{moved_on}
+use Rattle.list_laws.proofs.Cited.{on_err}
+use Rattle.cloud_cells.specs.Nets.{cells_of_slots}
+use Rattle.cloud_cells.proofs.Moving.{moved_none}
 use Rattle.cloud_cells.proofs.owned.open_at.Goals as goal
 
-pub returns-in-Err-clause-refused : goal.returns-in-Err-clause-refused
-returns-in-Err-clause-refused c =
-    let l = cells_of_slots c.opened.new.net in
-    let now = cells_of_slots c.give_back.new.net in
-    moved_on (cells_of_slots c.args.net.now) (l ++ c.in_ok-star.star.gone.items) now c.in_ok-star.ensures.cells
-    (subst (λ (g : List Cell). AreMoved (l ++ g) now) c.deref-in-Err.ensures.value c.give_back.ensures.cells)
+pub star_of-requires-clause-cells : goal.star_of-requires-clause-cells
+star_of-requires-clause-cells c = (c.requires.0, c.requires.1)
+
+pub take_all-requires : goal.take_all-requires
+take_all-requires c = rw c.deref-2.ensures.value c.in_ok-star.ensures.picked
+
+pub returns-in_err-star-clause-refused : goal.returns-in_err-star-clause-refused
+returns-in_err-star-clause-refused c = on_err c.from_residual.result (moved_none (cells_of_slots c.args.net.now))
+
+pub returns-in_err-cells-clause-refused : goal.returns-in_err-cells-clause-refused
+returns-in_err-cells-clause-refused c =
+    on_err c.from_residual-in_err-cells.result (moved_none (cells_of_slots c.args.net.now))

@@ -13,19 +13,19 @@ refill-requires c =
     let i = c.loop-spot.invariant in
     let room = c.requires in
     let h : HaveRoom c.loop-spot.net 1 = omega (arith, room, i.1, i.2, c.loop-spot-test.true) in
-    subst (λ (n : List (Option Cell)). HaveRoom n 1) (sym c.free_hint.ensures) h
+    subst (λ (n : List (Option Cell)). HaveRoom n 1) (sym c.forget_free.ensures) h
 
 -- one cell more is put back
 pub loop-spot-preserved : goal.loop-spot-preserved
 loop-spot-preserved c =
     let i = c.loop-spot.invariant in
     let e = c.refill.ensures in
-    let f = c.free_hint.ensures in
+    let f = c.forget_free.ensures in
     let l = cells_of_slots c.args.net.now in
     let now = cells_of_slots c.refill.new.self in
     let gone = c.args.gone.now in
     let w = subst (λ (n : List (Option Cell)). AreWith (cells_of_slots n) c.spot-item.result now) f
-    (subst (λ (q : Cell). AreWith (cells_of_slots c.free_hint.new.self) q now) c.cell.ensures e.with_cell) in (
+    (subst (λ (q : Cell). AreWith (cells_of_slots c.forget_free.new.self) q now) c.cell.ensures e.with_cell) in (
       subst (λ (g : List Cell). AreWithAll l g now)
           (sym (take_next gone c.loop-spot.spot-index c.spot-item.result c.loop-spot-test.true c.spot-item.is))
           (with_more l (take c.loop-spot.spot-index gone) (cells_of_slots c.loop-spot.net) now c.spot-item.result i.0

@@ -1,34 +1,85 @@
-use Rattle.std.proofs.Common.{subst, List, ◌++◌, length, arith}
+use Rattle.std.specs.Prelude.{◌≡◌, slice_index_or}
+use Rattle.std.proofs.Common.{refl, inl, sym, ◌∙◌, ap, subst, List, ◌<◌, ◌≤◌, ◌++◌, length, [], ◌∷◌, arith}
+use Rattle.list_laws.proofs.Cited.{at_place, in_left, one_value}
 use Rattle.point_order.specs.declared.cell.Cell.{Cell}
-use Rattle.cloud_cells.specs.Nets.{AreMoved, cells_of_slots}
-use Rattle.cloud_cells.specs.Stars.{HaveRoom}
-use Rattle.cloud_cells.proofs.Moving.{few_cells, moved_few, moved_on}
+use Rattle.point_order.specs.Facets.{points_of}
+use Rattle.point_order.specs.Sets.{IsIn}
+use Rattle.cloud_cells.specs.Nets.{cells_of_slots}
+use Rattle.cloud_cells.specs.Marked.{mark_at}
+use Rattle.cloud_cells.proofs.Marked.{marked_gone, marked_none, picked_few, slot_below}
+use Rattle.cloud_cells.proofs.Nets.{live_in}
+use Rattle.cloud_cells.proofs.StarSearch.{star_begins, star_found, star_on}
 use Rattle.cloud_cells.proofs.star.star_of.Goals as goal
 
--- the gone cells have left their slots
-pub give_back-requires : goal.give_back-requires
-give_back-requires c =
-    let e = c.in-Err.ensures in
-    let few = moved_few (cells_of_slots c.args.net.now) (cells_of_slots c.find_star.new.net)
-    c.find_star.new.gone.items c.requires.cells.1.once e.cells in
-    let all = few_cells c.args.net.now in
-    let size = e.size in
-    let h : HaveRoom c.find_star.new.net (length c.find_star.new.gone.items) = omega (arith, few, all, size) in
-    rw c.deref.ensures.value h
+pub explore_around-requires-clause-among : goal.explore_around-requires-clause-among
+explore_around-requires-clause-among c =
+    let less : c.star.explored < length c.star.star.gone.items =
+    omega (arith, c.len-in-star.ensures, c.star-test.true) in
+    let at = subst (λ (q : Cell). q ≡ slice_index_or c.star.star.gone.items c.star.explored q)
+    (sym c.copied-spot.ensures) c.index.ensures in
+    at_place c.star.star.gone.items c.star.explored c.copied-spot.result c.copied-spot.result less at
 
-pub returns-in-Ok-clause-room : goal.returns-in-Ok-clause-room
-returns-in-Ok-clause-room c =
-    let e = c.in-Ok.ensures in
-    let few = moved_few (cells_of_slots c.args.net.now) (cells_of_slots c.find_star.new.net)
-    c.find_star.new.gone.items c.requires.cells.1.once e.cells in
-    let all = few_cells c.args.net.now in
-    let size = e.size in
-    omega (arith, few, all, size)
+pub cell_in-requires : goal.cell_in-requires
+cell_in-requires c = (c.requires.first.cell, c.requires.first.at)
 
-pub returns-in-Err-clause-refused : goal.returns-in-Err-clause-refused
-returns-in-Err-clause-refused c =
-    let l = cells_of_slots c.find_star.new.net in
-    moved_on (cells_of_slots c.args.net.now) (l ++ c.find_star.new.gone.items) (cells_of_slots c.give_back.new.net)
-    c.in-Err.ensures.cells
-    (subst (λ (g : List Cell). AreMoved (l ++ g) (cells_of_slots c.give_back.new.net)) c.deref.ensures.value
-    c.give_back.ensures.cells)
+pub find-requires : goal.find-requires
+find-requires c =
+    let below = slot_below c.args.net.now c.args.first c.requires.first.cell c.requires.first.at in
+    let room = c.in_ok-begin.ensures.room in
+    omega (arith, below, room, c.len.ensures)
+
+-- the first cell is found
+pub star-init : goal.star-init
+star-init c =
+    let e = c.in_ok-find.ensures in
+    let old = cells_of_slots c.args.net.now in
+    let marks = c.begin.new.self in
+    let x = c.cell_in.result in
+    let f = c.requires.first in
+    let there = one_value f.cell x (sym f.at ∙ c.cell_in.ensures) in
+    let found = e.found ∙ ap (λ (l : List Cell). l ++ x ∷ []) c.new-star.ensures.gone in
+    let room : length c.args.net.now ≤ length marks.of =
+    (let r = c.in_ok-begin.ensures.room in omega (arith, r, c.len.ensures)) in
+    let low : mark_at marks c.args.first < marks.stamp = c.in_ok-begin.ensures.none c.args.first in
+    rw (e.marks, found) (
+      marked_gone (λ q. Unit {0}) c.args.net.now marks [] c.requires.cells.1.once
+          (marked_none (λ q. Unit {0}) c.args.net.now marks [] room c.in_ok-begin.ensures.none refl)
+          c.args.first x c.cell_in.ensures
+          (λ z. (let k : mark_at marks c.args.first ≡ marks.stamp = z in absurd (omega (arith, low, k)))),
+      (x, inl refl),
+      λ s k. star_begins s c.args.v x (record {
+        listed = (k.members x).0 (live_in c.args.net.now c.args.first x c.cell_in.ensures);
+        has = subst (λ (q : Cell). IsIn c.args.v (points_of q)) there f.has;
+      }),
+    )
+
+pub star-smaller : goal.star-smaller
+star-smaller c =
+    let few = picked_few (cells_of_slots c.args.net.now) c.star.star.gone.items c.star.invariant.0.picked in
+    let less : c.star.explored < length c.star.star.gone.items =
+    omega (arith, c.len-in-star.ensures, c.star-test.true) in
+    omega (arith, few, less)
+
+-- one cell more is explored
+pub star-preserved : goal.star-preserved
+star-preserved c =
+    let v = c.star.invariant in
+    let e = c.in_ok-explore_around.ensures in
+    let old = c.star.star.gone.items in
+    let new = c.explore_around.new.star.gone.items in
+    let less : c.star.explored < length old = omega (arith, c.len-in-star.ensures, c.star-test.true) in
+    let at = subst (λ (q : Cell). q ≡ slice_index_or old c.star.explored q) (sym c.copied-spot.ensures)
+    c.index.ensures in (
+      e.marked,
+      (v.1.0, subst (λ (g : List Cell). IsIn v.1.0 g) (sym e.more.1) (in_left v.1.0 old e.more.0 v.1.1)),
+      λ s k. star_on s c.args.v c.star.explored old new c.copied-spot.result less at e.more (e.explored s k) (v.2 s k),
+    )
+
+pub returns-clause-picked : goal.returns-clause-picked
+returns-clause-picked c = c.star.invariant.0.picked
+
+pub returns-clause-star : goal.returns-clause-star
+returns-clause-star c s k =
+    let v = c.star.invariant in
+    star_found s c.args.v c.star.explored c.star.star.gone.items v.1.0 k.solid.set
+    (omega (arith, c.len-in-star.ensures, c.star-test.false)) v.0.picked.once v.1.1 (v.2 s k)
