@@ -10,8 +10,6 @@ use Rattle.byte_ends.specs.declared.loops.Reached.{Reached}
 use Rattle.byte_ends.specs.declared.loops.ReadError.{ReadError}
 use Rattle.byte_ends.specs.declared.loops.ReadError.TheVariants.{Fault as SourceFault, Memory as NoRoom}
 use Rattle.byte_ends.specs.Ends.{TakesInto}
-use Rattle.mesh_reader.specs.declared.pieces.MeshReader.{MeshReader}
-use Rattle.mesh_reader.specs.Pieces.{HasTaken}
 use Rattle.command_pages.specs.Reading.{HasTakenAll}
 use Rattle.command_pages.specs.Run.{ReadsTo, mesh_limit}
 use Rattle.command_pages.specs.Statuses.{IsEarly}
@@ -24,20 +22,11 @@ pub record HasRoom (old now : Option (List ℕ)) (taken : List ℕ) (room : ℕ)
   pub consumed : Consumes old now taken
   pub count : length taken + room ≡ mesh_limit + 1
 
--- and a reader has taken them
-pub record HasRead (old now : Option (List ℕ)) (reader : MeshReader) (room : ℕ) : Type 0 where
-  pub taken : List ℕ
-  pub by : HasTaken reader taken
-  pub so_far : HasRoom old now taken room
-
 -- nothing yet
-pub none_read : (left : Option (List ℕ)) (reader : MeshReader) → HasTaken reader [] →
-    HasRead left left reader (mesh_limit + 1)
-none_read left reader h = record {
-  taken = [];
-  by = h;
-  so_far = record { consumed = Consumes-nil left; count = omega arith };
-}
+pub none_read : (left : Option (List ℕ)) (taken : List ℕ) → taken ≡ [] → HasRoom left left taken (mesh_limit + 1)
+none_read left taken e =
+    subst (λ (t : List ℕ). HasRoom left left t (mesh_limit + 1)) (sym e)
+    (record { consumed = Consumes-nil left; count = omega arith })
 
 -- one piece more
 pub piece_read : (old mid now : Option (List ℕ)) (taken before piece : List ℕ) (room most rest : ℕ) →
@@ -52,15 +41,12 @@ piece_read old mid now taken before piece room most rest h t e l =
     }
 
 -- so it is with a reader that takes the piece
-pub reader_read : (old mid now : Option (List ℕ)) (reader next : MeshReader) (before piece given : List ℕ)
-    (room most rest : ℕ) → HasRead old mid reader room → TakesInto mid now before piece most → before ≡ [] →
-    length piece + rest ≡ room → given ≡ piece
-    → ((bytes : List ℕ) → HasTaken reader bytes → HasTaken next (bytes ++ given)) → HasRead old now next rest
-reader_read old mid now reader next before piece given room most rest h t e l g n = record {
-  taken = h.taken ++ piece;
-  by = subst (λ (p : List ℕ). HasTaken next (h.taken ++ p)) g (n h.taken h.by);
-  so_far = piece_read old mid now h.taken before piece room most rest h.so_far t e l;
-}
+pub reader_read : (old mid now : Option (List ℕ)) (taken next before piece given : List ℕ) (room most rest : ℕ) →
+    HasRoom old mid taken room → TakesInto mid now before piece most → before ≡ [] → length piece + rest ≡ room →
+    given ≡ piece → next ≡ taken ++ given → HasRoom old now next rest
+reader_read old mid now taken next before piece given room most rest h t e l g n =
+    subst (λ (p : List ℕ). HasRoom old now p rest) (sym (n ∙ ap (λ (p : List ℕ). taken ++ p) g))
+    (piece_read old mid now taken before piece room most rest h t e l)
 
 -- a piece is no longer than what was asked for
 pub piece_within : (mid now : Option (List ℕ)) (before piece : List ℕ) (most : ℕ) →
@@ -78,11 +64,11 @@ pub some_room : (room most piece : ℕ) → most ≤ room → piece ≤ most →
 some_room room most piece a b n = omega (arith, a, b, n)
 
 -- what is left of a room behind a piece that is shorter than what was asked for
-pub read_on : (left mid now : Option (List ℕ)) (reader : MeshReader) (room most : ℕ) (before piece : List ℕ) →
-    (h : HasRead left mid reader room) → most ≤ room → before ≡ [] → TakesInto mid now before piece most →
-    HasRoom left now (h.taken ++ piece) (room - length piece)
-read_on left mid now reader room most before piece h l e t =
-    piece_read left mid now h.taken before piece room most (room - length piece) h.so_far t e
+pub read_on : (left mid now : Option (List ℕ)) (taken : List ℕ) (room most : ℕ) (before piece : List ℕ) →
+    HasRoom left mid taken room → most ≤ room → before ≡ [] → TakesInto mid now before piece most →
+    HasRoom left now (taken ++ piece) (room - length piece)
+read_on left mid now taken room most before piece h l e t =
+    piece_read left mid now taken before piece room most (room - length piece) h t e
     (left_room room most (length piece) l (piece_within mid now before piece most t e))
 
 -- a piece is as long as what was asked for exactly where the limit was reached
@@ -146,18 +132,15 @@ told_past (Some xs) None taken h = absurd h.consumed
 told_past (Some xs) (Some ys) taken h =
     let c = h.count in let l = ap length h.consumed ∙ length-append taken ys in omega (arith, c, l)
 
--- at the end the reader has taken all that the source told
-pub all_read : (old now : Option (List ℕ)) (reader : MeshReader) (room : ℕ) → HasRead old now reader room →
-    0 < room → IsAtEnd now → HasTakenAll old reader
-all_read old now reader room h l e =
-    record {
-      bytes = h.taken;
-      taken = h.by;
-      within = let c = h.so_far.count in omega (arith, c, l);
-      told = told old now h.so_far.consumed e;
-    }
+-- at the end all that the source told was taken
+pub all_read : (old now : Option (List ℕ)) (taken : List ℕ) (room : ℕ) → HasRoom old now taken room → 0 < room →
+    IsAtEnd now → HasTakenAll old taken
+all_read old now taken room h l e = record {
+  within = let c = h.count in omega (arith, c, l);
+  told = told old now h.consumed e;
+}
   where
-    told : (a b : Option (List ℕ)) → Consumes a b h.taken → IsAtEnd b → IfSome a (λ told. told ≡ h.taken)
+    told : (a b : Option (List ℕ)) → Consumes a b taken → IsAtEnd b → IfSome a (λ told. told ≡ taken)
     told None b c e = tt
     told (Some xs) None c e = absurd c
-    told (Some xs) (Some ys) c e = c ∙ ap (λ (l : List ℕ). h.taken ++ l) e ∙ append-nil h.taken
+    told (Some xs) (Some ys) c e = c ∙ ap (λ (l : List ℕ). taken ++ l) e ∙ append-nil taken

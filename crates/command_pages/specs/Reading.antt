@@ -1,15 +1,11 @@
 -- What the reader of the text of a mesh has taken of a source, as private functions speak of it.
 use Rattle.std.specs.Prelude.{◌≡◌, ◌≤◌, ℕ, List, length, Option, IfSome}
-use Rattle.mesh_reader.specs.declared.pieces.MeshReader.{MeshReader}
 use Rattle.mesh_reader.specs.Grammar.{IsMeshText, MeshParts}
 use Rattle.mesh_reader.specs.Order.{IsInOrder}
-use Rattle.mesh_reader.specs.Pieces.{HasTaken}
 use Rattle.command_pages.specs.Run.{mesh_limit}
 
--- The reader has taken all that the source told, within the limit.
-pub record HasTakenAll (left : Option (List ℕ)) (reader : MeshReader) : Type 0 where
-  pub bytes : List ℕ
-  pub taken : HasTaken reader bytes
+-- The bytes are all that the source told, within the limit.
+pub record HasTakenAll (left : Option (List ℕ)) (bytes : List ℕ) : Type 0 where
   pub within : length bytes ≤ mesh_limit
   pub told : IfSome left (λ told. told ≡ bytes)
 

@@ -8,7 +8,6 @@ ghost use Rattle.edit_files.specs.declared.fault.ReadRefused.TheVariants.{Bad};
 ghost use Rattle.mesh_reader.specs.Faults.{IsMeshFault};
 ghost use Rattle.mesh_reader.specs.Grammar.{IsMeshText, parts};
 ghost use Rattle.mesh_reader.specs.Order.{IsInOrder};
-ghost use Rattle.mesh_reader.specs.Pieces.{HasTaken};
 ghost use Rattle.command_pages.specs.Checked.{IsChecked, IsJudged, IsUnchecked, TellsVerdict};
 ghost use Rattle.command_pages.specs.Reading.{HasTakenAll, IsMeshOf};
 ghost use Rattle.command_pages.specs.Page.{IsFitToWrite, text_of_page};
@@ -41,7 +40,7 @@ enum Early {
 }
 
 // A reader, and the complex of the points that it has read: the net in which it is made is gone before the cells come.
-// Contracts see it as the reader.
+// Contracts see it as the reader, by the bytes that it has taken.
 #[derive(Drop)]
 struct Watched {
     reader: MeshReader,
@@ -49,9 +48,9 @@ struct Watched {
 }
 
 impl Model for Watched {
-    ghost use Rattle.mesh_reader.specs.declared.pieces.MeshReader.{MeshReader};
+    ghost use Rattle.std.specs.Prelude.{List, ℕ};
 
-    ghost Value = { MeshReader };
+    ghost Value = { List ℕ };
 
     ghost view = { λ w. w.reader };
 }
@@ -93,7 +92,7 @@ fn complex_in(early: Early) -> Option<Complex> {
 impl Watched {
     // A reader that has taken nothing.
     fn new(alloc: Global) -> Watched
-        ensures { HasTaken result [] }
+        ensures { result ≡ [] }
     {
         Watched {
             reader: MeshReader::new(alloc),
@@ -103,8 +102,7 @@ impl Watched {
 
     // Takes the piece that follows.
     fn take(self, alloc: Global, piece: &[u8]) -> Result<Watched, AllocError>
-        ensures { IfOk result (λ reader. (bytes : List ℕ) → HasTaken self bytes
-            → HasTaken reader (bytes ++ piece.now)) }
+        ensures { IfOk result (λ reader. reader ≡ self ++ piece.now) }
     {
         let Watched { reader, early } = self;
         let reader = reader.take(piece)?;
@@ -114,11 +112,9 @@ impl Watched {
 
     // The mesh that the bytes are of, as a reader tells it.
     fn finish(self) -> Result<Read, ReadRefused>
-        ensures accepted { (bytes : List ℕ) → HasTaken self bytes →
-            IfOk result (λ read. IsMeshText bytes (parts read)) }
-        ensures order { (bytes : List ℕ) → HasTaken self bytes → IfOk result (λ read. IsInOrder (parts read)) }
-        ensures fault { (bytes : List ℕ) (fault : FaultParts) → HasTaken self bytes → result ≡ Err (Bad fault)
-            → IsMeshFault bytes fault }
+        ensures accepted { IfOk result (λ read. IsMeshText self (parts read)) }
+        ensures order { IfOk result (λ read. IsInOrder (parts read)) }
+        ensures fault { (fault : FaultParts) → result ≡ Err (Bad fault) → IsMeshFault self fault }
     {
         let Watched { reader, early } = self;
         let mesh = reader.finish()?;

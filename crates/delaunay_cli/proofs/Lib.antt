@@ -10,3 +10,4 @@ pub mod PlainTexts
 pub mod AnchoredRuns
 pub mod DealtLines
 pub mod ChecksTold
+pub mod OneWorker

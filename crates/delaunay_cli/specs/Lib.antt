@@ -7,3 +7,4 @@ pub mod Ends
 pub mod Laws
 pub mod Drawn
 pub mod PlainText
+pub mod MeshLists

@@ -11,6 +11,7 @@
 mod drawn;
 pub mod laws;
 mod mesh;
+mod mesh_lists;
 mod mesh_of_lines;
 mod mesh_of_source;
 mod outcome;

@@ -6,37 +6,16 @@ ghost use Rattle.command_pages.specs.Page.{AreReportParts, report_of_parts};
 ghost use Rattle.command_pages.specs.Report.{AreRadii, report_of};
 ghost use Rattle.delaunay_cli.specs.Reported.{IsMeshed, IsUnmeshed};
 
-use crate::mesh_of_lines::mesh_of_lines;
-use cell_store::Mesh;
+use crate::mesh_lists::MeshLists;
+use crate::mesh_of_lines::lists_of_lines;
 use command_pages::{Parts, made_of_points, parts_of};
 use command_words::{Asked, Making, Stop};
 use edit_files::File;
 use edit_history::Entry;
 use grid_claims::Gate;
-use one_mesh::{find_four, into_parts, points};
-use std::alloc::{AllocError, Global};
+use one_mesh::find_four;
+use std::alloc::Global;
 use std::thread::Threads;
-
-// The history of the mesh of a file's lines, and the parts of its report. The mesh is let go while it is read.
-fn parts(
-    alloc: Global,
-    making: Making,
-    asked: Asked,
-    file: &File,
-    mesh: Mesh,
-) -> Result<(Vec<Entry>, Parts), AllocError>
-    requires radii { AreRadii file.now.version file.now.radii.items }
-    requires lines { length file.now.points.items + length file.now.edits.items < 2 ^ 32 }
-    ensures history { IfOk result (λ both. both.0.items ≡ mesh.history) }
-    ensures report { IfOk result (λ both. report_of_parts both.1
-        ≡ report_of asked.shape asked.order (content file.now) mesh.history) }
-    ensures ready { IfOk result (λ both. AreReportParts both.1) }
-{
-    let points = points(alloc, &mesh)?;
-    let (kept, cells) = into_parts(alloc, mesh)?;
-    let parts = parts_of(alloc, making, asked, file, points, cells, &kept)?;
-    Ok((kept, parts))
-}
 
 /// Makes the mesh of the file's lines by workers, its history, and the parts of the report of what that leaves, with
 /// a shape for each radius and with the tags of the history, each where it is asked for. Of a file without edit lines
@@ -66,7 +45,12 @@ pub fn history_and_parts<R: Threads + Sync, G: Gate + Sync>(
     if file.edits.is_empty() {
         return Ok(made_of_points(alloc, making, asked, file, four)?);
     }
-    let mesh = mesh_of_lines(rt, alloc, file, four, making, gate)?;
-    let both = parts(alloc, making, asked, file, mesh)?;
-    Ok(both)
+    let lists = lists_of_lines(rt, alloc, file, four, making, gate)?;
+    let MeshLists {
+        history,
+        points,
+        cells,
+    } = lists;
+    let parts = parts_of(alloc, making, asked, file, points, cells, &history)?;
+    Ok((history, parts))
 }

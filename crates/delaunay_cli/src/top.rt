@@ -35,8 +35,9 @@ use std::thread::Threads;
 /// each of its queries the nearest point of its mesh. `gen`, with `--count`, `--start`
 /// and `--text`, reads nothing: it draws an edit file, and writes the summary of its mesh or the file's text. Each of
 /// these takes `--workers`, 1 to 64, and `--grid`, 1, 2, 4, 8 or 16: so many workers make the edits side by side, over
-/// buckets of this grid. `gate` is told of the moments of their edits. `check` makes no edit and takes no option: it
-/// reads the text of a mesh, which may be longer, and writes the verdict on it.
+/// buckets of this grid; one makes them in their order, without buckets. `gate` is told of the moments of their edits.
+/// `check` makes no edit and takes no option: it reads the text of a mesh, which may be longer, and writes the verdict
+/// on it.
 ///
 /// The clauses by name are those of the files that are read and of their reports. `Ends` in specs/ says how each run
 /// ends; what a command promises is its line of `Promise`, the field `promise`. Which words are taken, and what else

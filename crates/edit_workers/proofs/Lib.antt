@@ -10,3 +10,4 @@ pub mod Unworked
 pub mod Worked
 pub mod Waits
 pub mod Cited
+pub mod InOrder

@@ -5,8 +5,8 @@ use Rattle.std.specs.Ordering.{is_eq, nat_cmp}
 use Rattle.std.specs.Set.{remove_key}
 use Rattle.std.proofs.Common.{refl, sym, ◌∙◌, ap, subst, inl, inr, arith}
 use Rattle.std.proofs.lemmas.Bool.{ne_eqb}
-use Rattle.list_laws.proofs.Cited.{below_each, eq_same, in_snoc, not_among, ordered, same_from}
-use Rattle.list_laws.proofs.Cited.{same_members, snoc_new, snoc_old, take_next}
+use Rattle.list_laws.proofs.Cited.{below_each, eq_same, in_snoc, not_among, ordered, same_from, same_members, snoc_new}
+use Rattle.list_laws.proofs.Cited.{snoc_old, take_next}
 use Rattle.point_order.specs.Sets.{IsIn, IsAscending, is_among, with_point, without_point}
 use Rattle.point_order.proofs.Cited.{ascending_with, in_with, in_with_new, in_with_old}
 use Rattle.hole_laws.proofs.Cited.{without_from, without_true}

@@ -3,3 +3,4 @@ pub mod Keys
 pub mod Replied
 pub mod Clouds
 pub mod Moved
+pub mod Opened

@@ -3,7 +3,8 @@
 //! A mesh is seen as its history. Its cells stand in no buckets, and no other thread can take part.
 //!
 //! ```
-//! let mut mesh = begin_cloud(alloc, &points, find_four(&points)?)?;
+//! let mut mesh = begin(alloc, [(0, a), (1, b), (2, c), (3, d)])?;  // independent points, with tags
+//! let cloud = begin_cloud(alloc, &points, find_four(&points)?)?;   // all at once
 //! let receipt = apply(alloc, &mut mesh, 4, Edit::Add(p))?;  // its number and its reply; less than 2^32 entries before
 //! let cells = complex(alloc, &mesh)?;                       // sorted
 //! let (entries, cells) = into_parts(alloc, mesh)?;          // both, and the mesh is let go
@@ -11,12 +12,17 @@
 #![tactic(auto)]
 
 mod mesh;
+mod opening;
 mod set;
 mod shift;
 mod take;
 
 pub use edit_history::{Edit, Receipt, find_four};
-pub use mesh::{LinkedMesh, apply, begin_cloud, complex, history, into_parts, of_history, points};
+pub use mesh::{
+    LinkedMesh, apply, begin_cloud, complex, count, has_point, history, into_parts, of_history,
+    points,
+};
+pub use opening::begin;
 pub use set::LinkedSet;
 pub use shift::move_point;
 pub use take::take_point;

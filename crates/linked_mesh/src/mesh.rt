@@ -4,7 +4,7 @@ ghost use Rattle.std.specs.Prelude.{◌≡◌, ◌<◌, ◌≤◌, ◌^◌, ◌�
 ghost use Rattle.std.specs.Prelude.{OnOk};
 ghost use Rattle.std.specs.Vec.{vec_capacity, vec_len};
 ghost use Rattle.point_order.specs.Complex.{complex as complex_of};
-ghost use Rattle.point_order.specs.Sets.{IsAscending, ascending};
+ghost use Rattle.point_order.specs.Sets.{IsAscending, ascending, is_among};
 ghost use Rattle.point_order.specs.Solid.{is_solid};
 ghost use Rattle.del_laws.specs.Keys.{AreKeys};
 ghost use Rattle.edit_history.specs.Edits.{reply_to};
@@ -41,7 +41,7 @@ impl Model for LinkedMesh {
 }
 
 // The points of a list, ascending and each once.
-fn set_of(alloc: Global, list: &[Point]) -> Result<Vec<Point>, AllocError>
+pub(crate) fn set_of(alloc: Global, list: &[Point]) -> Result<Vec<Point>, AllocError>
     ensures set { IfOk result (λ points. points.items ≡ ascending list.now) }
     ensures ascending { IfOk result (λ points. IsAscending points.items) }
 {
@@ -129,6 +129,20 @@ pub fn apply(
     let entry = receipt.entry(0, tag, edit);
     push_entry(&mut mesh.entries, entry);
     Ok(receipt)
+}
+
+/// How many entries the mesh's history has.
+pub fn count(mesh: &LinkedMesh) -> u64
+    ensures { result ≡ length mesh.now }
+{
+    mesh.entries.len() as u64
+}
+
+/// Whether a point is one of those that the mesh's history leaves. It takes no memory.
+pub fn has_point(mesh: &LinkedMesh, p: Point) -> bool
+    ensures { result ≡ is_among p (replay mesh.now) }
+{
+    mesh.set.has_point(p)
 }
 
 /// The mesh's history.

@@ -160,6 +160,13 @@ impl LinkedSet {
         Ok(LinkedSet { linked, points })
     }
 
+    /// Whether it has the point. It takes no memory.
+    pub fn has_point(&self, p: Point) -> bool
+        ensures { result ≡ is_among p self.now }
+    {
+        has(&self.points, p)
+    }
+
     /// Adds a point, where it is not there.
     ///
     /// # Errors

@@ -14,6 +14,7 @@
 //! - `cloud POINTS`: the same of points that are not of one plane, made at once.
 //! - `orient` of four points, `collinear` of three, `sphere` and `outside` of five, `conflict CELL; MATE POINT`.
 //! - `inside POINTS; POINT`: whether the last point is inside the smallest sphere of the edge or triangle.
+//! - `boxed CELL; LOW HIGH`: whether the sphere of the cell is strictly inside the box with these corners.
 //! - `within POINTS; ALPHA`: whether the smallest sphere of the edge, triangle or cell is within, and the least alpha.
 //! - `gabriel POINTS; CELLS; FACES`: the faces that are not Gabriel, each judged by its link; cells and faces are the
 //!   digits of their points.
@@ -131,6 +132,7 @@ fn put_case<R: Threads + Sync>(
         "collinear" | "outside" => predicates::truth(answer, lists),
         "conflict" => predicates::in_conflict(answer, lists),
         "inside" => spheres::inside(answer, lists),
+        "boxed" => spheres::boxed(answer, lists),
         "within" => spheres::within(answer, lists),
         "gabriel" => gabriel::faces(alloc, answer, lists),
         "handle" => handles::put(alloc, answer, lists),

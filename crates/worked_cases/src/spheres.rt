@@ -4,8 +4,8 @@ use crate::reading::{at, list_at};
 use crate::telling::Answer;
 use point_order::Point;
 use small_spheres::{
-    cell_least, cell_within, edge_least, edge_within, inside_edge, inside_triangle, triangle_least,
-    triangle_within,
+    cell_least, cell_within, edge_least, edge_within, inside_edge, inside_triangle, sphere_inside,
+    triangle_least, triangle_within,
 };
 
 /// Answers whether a point is inside the smallest sphere of an edge or a triangle.
@@ -14,6 +14,17 @@ pub(crate) fn inside(answer: &mut Answer, lists: &str) -> Option<()> {
     match *answer.all::<Point>(list_at(lists, 0)) {
         [a, b] => answer.put(inside_edge(a, b, e)),
         [a, b, c] => answer.put(inside_triangle(a, b, c, e)),
+        _ => return None,
+    }
+    Some(())
+}
+
+/// Answers whether the sphere of a cell is strictly inside a box, which has two corners.
+pub(crate) fn boxed(answer: &mut Answer, lists: &str) -> Option<()> {
+    let low = at(list_at(lists, 1), 0)?;
+    let high = at(list_at(lists, 1), 1)?;
+    match *answer.all::<Point>(list_at(lists, 0)) {
+        [a, b, c, d] => answer.put(sphere_inside(a, b, c, d, low, high)),
         _ => return None,
     }
     Some(())

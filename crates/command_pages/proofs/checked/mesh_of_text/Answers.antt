@@ -9,7 +9,7 @@ returns-in-Ok-clause-mesh g c =
     let t = c.in_ok-reader.ensures.taken in
     let read : List ℕ → Type 0 = λ bytes. (length bytes ≤ mesh_limit) × IsMeshText bytes (parts c.in-Ok.mesh) in
     record {
-      in_order = c.in-Ok.ensures.order t.bytes t.taken;
-      told = if_some (λ told. told ≡ t.bytes) read (g.S.Source.left c.args.src.now)
-          (λ told e. subst read (sym e) (t.within, c.in-Ok.ensures.accepted t.bytes t.taken)) t.told;
+      in_order = c.in-Ok.ensures.order;
+      told = if_some (λ told. told ≡ c.in_ok-reader.reader) read (g.S.Source.left c.args.src.now)
+          (λ told e. subst read (sym e) (t.within, c.in-Ok.ensures.accepted)) t.told;
     }

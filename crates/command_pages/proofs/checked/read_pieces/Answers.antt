@@ -85,4 +85,4 @@ returns-clause-stop g c =
     let none : c.loop-room.room ≡ 0 = let l = c.loop-room-test.false in omega (arith, l) in
     let old = g.S.Source.left c.args.src.now in
     let now = g.S.Source.left c.loop-room.src in
-    told_past old now read.taken (subst (λ (n : ℕ). HasRoom old now read.taken n) none read.so_far)
+    told_past old now c.loop-room.reader (subst (λ (n : ℕ). HasRoom old now c.loop-room.reader n) none read)

@@ -1,11 +1,11 @@
 -- the reader has taken what was taken of the source, with so much room left
 use Rattle.std.proofs.Common.{◌≤◌}
-use Rattle.command_pages.proofs.PiecesRead.{HasRead}
+use Rattle.command_pages.proofs.PiecesRead.{HasRoom}
 use Rattle.command_pages.proofs.checked.read_pieces.Given as goal
 
 abbrev pub invariant-loop-room : goal.invariant-loop-room
 invariant-loop-room g l = record {
-  read : HasRead (g.S.Source.left l.initial.src) (g.S.Source.left l.src) l.reader l.room;
+  read : HasRoom (g.S.Source.left l.initial.src) (g.S.Source.left l.src) l.reader l.room;
   later : g.S.Source.faults l.initial.src ≤ g.S.Source.faults l.src;
 }
 

@@ -3,8 +3,8 @@ use Rattle.list_laws.proofs.Cited.{on_err}
 use Rattle.point_order.specs.Sets.{is_among}
 use Rattle.point_order.specs.Solid.{is_solid}
 use Rattle.edit_history.specs.Edits.{moved_to}
-use Rattle.linked_mesh.proofs.Replied.{left_flat, left_missing, left_moved, left_occupied}
-use Rattle.linked_mesh.proofs.Replied.{move_flat, move_made, move_missing, move_occupied}
+use Rattle.linked_mesh.proofs.Replied.{left_flat, left_missing, left_moved, left_occupied, move_flat, move_made}
+use Rattle.linked_mesh.proofs.Replied.{move_missing, move_occupied}
 use Rattle.linked_mesh.proofs.set.LinkedSet.shift.Goals as goal
 
 pub returns-then-not-has-clause-reply : goal.returns-then-not-has-clause-reply
