@@ -11,6 +11,7 @@
 #![tactic(auto)]
 
 mod board;
+mod edits;
 mod event;
 pub mod laws;
 mod trial;

@@ -2,7 +2,7 @@ use Rattle.std.proofs.Common.{◌∙◌, ap}
 use Rattle.cell_store.specs.Buckets.{InHand, Room}
 use Rattle.cell_store.proofs.Cited.{all_are_held, goal_free, point_held}
 use Rattle.claim_rule.proofs.Committing.{swapped_same}
-use Rattle.claim_rule.proofs.board.exchange.Goals as goal
+use Rattle.claim_rule.proofs.edits.exchange.Goals as goal
 
 pub reserve-requires-clause-gone : goal.reserve-requires-clause-gone
 reserve-requires-clause-gone c =

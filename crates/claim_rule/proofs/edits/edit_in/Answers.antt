@@ -2,8 +2,8 @@ use Rattle.std.proofs.Common.{Bool, true, subst, sym}
 use Rattle.cell_store.specs.Buckets.{InHand}
 use Rattle.claim_rule.specs.Making.{EditGives}
 use Rattle.claim_rule.proofs.Committing.{places_whole, made_of, unmade_of}
-use Rattle.claim_rule.proofs.board.edit_in.Goals as goal
-use Rattle.claim_rule.proofs.board.edit_in.Goals.{then-own+in_ok-exchange, else-own}
+use Rattle.claim_rule.proofs.edits.edit_in.Goals as goal
+use Rattle.claim_rule.proofs.edits.edit_in.Goals.{then-own+in_ok-exchange, else-own}
 
 pub trial_of-requires : goal.trial_of-requires
 trial_of-requires c =
