@@ -17,3 +17,4 @@ mod codes;
 mod edited;
 mod looks;
 mod many;
+mod parts;

@@ -1,6 +1,6 @@
 -- Many edits and many looks, one after another.
-use Rattle.std.proofs.Common.{◌≡◌, ◌∙◌, ℕ, ◌+◌, ◌<◌, ◌≤◌, ◌++◌, ap, arith, inl, inr, refl, sym, subst, List, []}
-use Rattle.std.proofs.Common.{◌∷◌, drop, get_or, length, set, take}
+use Rattle.std.proofs.Common.{◌≡◌, ◌∙◌, ℕ, ◌+◌, ◌<◌, ◌≤◌, ◌++◌, ap, arith, inl, inr, refl, sym, subst, List, [], ◌∷◌}
+use Rattle.std.proofs.Common.{drop, get_or, length, set, take}
 use Rattle.std.specs.Prelude.{Option, Result, Ok, Err, IfOk, IfErr, OnErr, HoldsAt}
 use Rattle.std.specs.List.{AllZip}
 use Rattle.std.proofs.lemmas.List.{drop-drop, drop-set-lt, get_or_default, take_more, take_more_set}

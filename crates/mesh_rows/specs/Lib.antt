@@ -3,3 +3,4 @@ pub mod Across
 pub mod Linked
 pub mod Meshes
 pub mod Rooms
+pub mod Parts

@@ -64,8 +64,8 @@ fn triangle(points: &[Point], tri: &Tri) -> TriangleRow
     }
 }
 
-// The row of a tetrahedron.
-fn tetrahedron(points: &[Point], quad: &Quad) -> CellRow
+/// The row of a tetrahedron.
+pub fn tetrahedron(points: &[Point], quad: &Quad) -> CellRow
     requires few { length points.now < 2 ^ 32 }
     requires ascending { IsAscending points.now }
     ensures { result ≡ cell_row points.now quad.now }

@@ -8,8 +8,8 @@ use crate::mesh::Made;
 use crate::rows::{CellRow, EdgeRow, FaceSizes, MeshSizes, Place, TriangleRow};
 use alpha_complex::FaceAlphas;
 
-// Puts rows to the front of a room, and leaves what is behind them.
-fn put<T: Copy>(room: &mut [T], rows: &[T])
+/// Puts rows to the front of a room, and leaves what is behind them.
+pub fn put<T: Copy>(room: &mut [T], rows: &[T])
     requires { length rows.now ≤ length room.old }
     ensures { IsPut rows.now room.old room.new }
 {

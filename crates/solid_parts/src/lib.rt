@@ -11,6 +11,7 @@
 //! }
 //! put_parts(&mut out, 4800, &sizes(alloc, &parts)?)?;
 //! let least = least_alpha(rt, alloc, &faces, 1)?;     // at which all points are in one part
+//! let least = least_alpha_alone(alloc, &faces, 1)?;   // the same, by the thread that calls
 //! ```
 #![tactic(auto)]
 
@@ -39,7 +40,7 @@ pub mod part;
 mod texts;
 mod turning;
 
-use alpha_complex::{Alphas, alphas};
+use alpha_complex::{Alphas, alphas, alphas_alone};
 use climb::{Climb, climb_to, count_to};
 use face_list::{Faces, few_faces};
 use gathering::gather;
@@ -150,6 +151,19 @@ pub fn least_alpha<R: Threads + Sync>(
     ensures { IfOk result (λ least. (s : List ℕ) → AreFacesOf s faces.now → IsLeastAlpha s k least) }
 {
     let known = alphas(rt, alloc, faces)?;
+    let start = cover_least(&known);
+    first_compact(alloc, faces, &known.cells, start, k)
+}
+
+/// What `least_alpha` gives, made by the thread that calls.
+///
+/// # Errors
+/// Want of memory.
+pub fn least_alpha_alone(alloc: Global, faces: &Faces, k: u32) -> Result<Option<u64>, AllocError>
+    requires { AreFaces faces.now }
+    ensures { IfOk result (λ least. (s : List ℕ) → AreFacesOf s faces.now → IsLeastAlpha s k least) }
+{
+    let known = alphas_alone(alloc, faces)?;
     let start = cover_least(&known);
     first_compact(alloc, faces, &known.cells, start, k)
 }
