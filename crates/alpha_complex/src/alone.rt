@@ -23,7 +23,7 @@ fn at_one<T, F: Fn(usize, &mut T)>(f: &F, i: usize, it: &mut T)
 }
 
 /// Calls `f(i, &mut s[i])` at each place, in order.
-pub fn each_in_turn<T, F: Fn(usize, &mut T)>(s: &mut [T], f: F)
+pub(crate) fn each_in_turn<T, F: Fn(usize, &mut T)>(s: &mut [T], f: F)
     requires { AcceptsEach F.Fn f s.old }
     ensures { ChangesEach F.Fn f s.old s.new }
 {
@@ -33,7 +33,7 @@ pub fn each_in_turn<T, F: Fn(usize, &mut T)>(s: &mut [T], f: F)
 }
 
 /// The least alpha of each cell.
-pub fn leasts_of_cells(alloc: Global, cells: &[Cell]) -> Result<Vec<u64>, AllocError>
+pub(crate) fn leasts_of_cells(alloc: Global, cells: &[Cell]) -> Result<Vec<u64>, AllocError>
     ensures { IfOk result (λ v. AreLeastOf is_small_cell cells.now v.items) }
 {
     let mut leasts = vec![in alloc; BEYOND; cells.len()]?;
@@ -50,7 +50,7 @@ pub fn leasts_of_cells(alloc: Global, cells: &[Cell]) -> Result<Vec<u64>, AllocE
 }
 
 /// The least alpha at which each triple is admitted, by the numbers of the cells.
-pub fn leasts_of_triples(
+pub(crate) fn leasts_of_triples(
     alloc: Global,
     faces: &Faces,
     cells: &[u64],
@@ -92,7 +92,7 @@ fn leasts_by_higher(alloc: Global, higher: &HigherAlphas) -> Result<Vec<u64>, Al
 }
 
 /// The least alpha at which each pair is admitted, by the numbers of the cells and of the triples.
-pub fn leasts_of_pairs(
+pub(crate) fn leasts_of_pairs(
     alloc: Global,
     faces: &Faces,
     cells: &[u64],

@@ -91,7 +91,7 @@ fn cell_cover_least(higher: &HigherAlphas, pair: &Pair, number: u32) -> u64
 
 /// The least alpha at which some triple that contains the pair and is a facet of one of the cells of some numbers is
 /// admitted.
-pub fn cover_least(higher: &HigherAlphas, pair: &Pair, around: &[u32]) -> u64
+pub(crate) fn cover_least(higher: &HigherAlphas, pair: &Pair, around: &[u32]) -> u64
     requires higher { AreHigher higher.now }
     requires numbers { All (λ n. n < length higher.now.faces.now.cells) around.now }
     ensures { IsLeastOf (λ alpha. list_any (covers (admitted_triples alpha higher.now.faces.now.triples) pair.now)

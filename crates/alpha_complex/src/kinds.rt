@@ -95,7 +95,7 @@ fn kind_where_admitted(level: &Level, part: Part, leasts: &[u64], index: usize) 
 }
 
 /// The kinds of the points, which are all admitted.
-pub fn kinds_of_points(alloc: Global, level: &Level) -> Result<Vec<Kind>, AllocError>
+pub(crate) fn kinds_of_points(alloc: Global, level: &Level) -> Result<Vec<Kind>, AllocError>
     requires { IsLevel level.now }
     ensures { IfOk result (λ v. v.items ≡ map (kind_of level.now.alpha) level.now.faces.now.points) }
 {
@@ -113,7 +113,7 @@ pub fn kinds_of_points(alloc: Global, level: &Level) -> Result<Vec<Kind>, AllocE
 }
 
 /// The kinds of the faces of a part that are admitted, and none at the others.
-pub fn kinds_of_part(
+pub(crate) fn kinds_of_part(
     alloc: Global,
     level: &Level,
     part: Part,
@@ -140,14 +140,14 @@ pub fn kinds_of_part(
 }
 
 /// Which of the numbers are at most alpha.
-pub fn marks(alloc: Global, leasts: &[u64], alpha: u64) -> Result<Vec<bool>, AllocError>
+pub(crate) fn marks(alloc: Global, leasts: &[u64], alpha: u64) -> Result<Vec<bool>, AllocError>
     ensures { IfOk result (λ v. v.items ≡ map (λ n. nat_le n alpha) leasts.now) }
 {
     leasts.iter().map(|least| *least <= alpha).collect(alloc)
 }
 
 /// What `kinds_of_points` gives, made by several threads.
-pub fn points_by_threads<R: Threads + Sync>(
+pub(crate) fn points_by_threads<R: Threads + Sync>(
     rt: &R,
     alloc: Global,
     level: &Level,
@@ -170,7 +170,7 @@ pub fn points_by_threads<R: Threads + Sync>(
 }
 
 /// What `kinds_of_part` gives, made by several threads.
-pub fn part_by_threads<R: Threads + Sync>(
+pub(crate) fn part_by_threads<R: Threads + Sync>(
     rt: &R,
     alloc: Global,
     level: &Level,
@@ -199,7 +199,7 @@ pub fn part_by_threads<R: Threads + Sync>(
 }
 
 /// What `marks` gives, made by several threads.
-pub fn marks_by_threads<R: Threads + Sync>(
+pub(crate) fn marks_by_threads<R: Threads + Sync>(
     rt: &R,
     alloc: Global,
     leasts: &[u64],

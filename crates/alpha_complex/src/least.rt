@@ -11,7 +11,7 @@ use crate::rounds::some_least;
 use face_list::Faces;
 
 /// The least alpha at which the triple of an index is admitted, by the numbers of the cells.
-pub fn triple_least(faces: &Faces, cells: &[u64], index: usize) -> u64
+pub(crate) fn triple_least(faces: &Faces, cells: &[u64], index: usize) -> u64
     requires cells { AreLeastOf is_small_cell faces.now.cells cells.now }
     requires index { index < length faces.now.triples }
     ensures { IsLeastOf (λ alpha. is_admitted_triple alpha (face_at faces.now.triples index)) result }
@@ -23,7 +23,7 @@ pub fn triple_least(faces: &Faces, cells: &[u64], index: usize) -> u64
 }
 
 /// The least alpha at which the pair of an index is admitted, by those of the cells and of the triples.
-pub fn pair_least(higher: &HigherAlphas, index: usize) -> u64
+pub(crate) fn pair_least(higher: &HigherAlphas, index: usize) -> u64
     requires higher { AreHigher higher.now }
     requires index { index < length higher.now.faces.now.pairs }
     ensures { IsLeastOf (λ alpha. is_admitted_pair higher.now.faces.now.triples alpha

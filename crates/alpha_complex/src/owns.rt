@@ -18,7 +18,7 @@ use small_spheres::{cell_least, edge_least, triangle_least};
 pub const BEYOND: u64 = 1 << 34;
 
 /// The number of an index.
-pub fn number_at(numbers: &[u64], index: usize) -> u64
+pub(crate) fn number_at(numbers: &[u64], index: usize) -> u64
     requires { index < length numbers.now }
     ensures { result ≡ slice_index_or numbers.now index 0 }
 {
@@ -38,7 +38,7 @@ fn within_least(face: &[Point]) -> u64
 }
 
 /// The least alpha at which the cell is Full and within alpha.
-pub fn cell_least_of(cell: &Cell) -> u64
+pub(crate) fn cell_least_of(cell: &Cell) -> u64
     ensures { IsLeastOf (λ alpha. is_small_cell alpha cell.now) result }
 {
     match cell {
@@ -48,7 +48,7 @@ pub fn cell_least_of(cell: &Cell) -> u64
 }
 
 /// Whether the point is one of the face's.
-pub fn is_one_of(face: &[Point], p: Point) -> bool
+pub(crate) fn is_one_of(face: &[Point], p: Point) -> bool
     ensures { result ≡ is_among p face.now }
 {
     face.contains(&p)
@@ -93,7 +93,7 @@ fn is_gabriel_beside(face: &[Point], cells: &[Cell], around: &[u32]) -> bool
 
 /// The least alpha at which a face, beside the cells that contain it, told by their numbers, is Gabriel and within
 /// alpha.
-pub fn own_least(face: &[Point], cells: &[Cell], around: &[u32]) -> u64
+pub(crate) fn own_least(face: &[Point], cells: &[Cell], around: &[u32]) -> u64
     requires { All (λ n. n < length cells.now) around.now }
     ensures { IsLeastOf (λ alpha. is_small_by alpha (face.now, cells_numbered cells.now around.now)) result }
 {

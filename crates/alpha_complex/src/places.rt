@@ -29,7 +29,7 @@ fn put_place(places: &mut [[u32; 4]], cells: &[Cell], number: usize, tri: &Tri, 
 ///
 /// # Errors
 /// Want of memory.
-pub fn places_of(alloc: Global, faces: &Faces) -> Result<Vec<[u32; 4]>, AllocError> {
+pub(crate) fn places_of(alloc: Global, faces: &Faces) -> Result<Vec<[u32; 4]>, AllocError> {
     let mut places = vec![in alloc; [0; 4]; faces.cells().len()]?;
     for index in 0..faces.triples().len() {
         let (tri, around) = faces.triple(index);
@@ -41,7 +41,7 @@ pub fn places_of(alloc: Global, faces: &Faces) -> Result<Vec<[u32; 4]>, AllocErr
 }
 
 /// The places of the facets of a cell.
-pub fn places_at(places: &[[u32; 4]], number: usize) -> [u32; 4] {
+pub(crate) fn places_at(places: &[[u32; 4]], number: usize) -> [u32; 4] {
     match places.get(number) {
         Some(places) => *places,
         None => [0; 4],

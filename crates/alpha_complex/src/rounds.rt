@@ -19,7 +19,7 @@ fn least_at(faces: &Faces, cells: &[u64], number: u32) -> u64
 }
 
 /// The least alpha at which some of the cells of some numbers is Full and within alpha.
-pub fn some_least(faces: &Faces, cells: &[u64], around: &[u32]) -> u64
+pub(crate) fn some_least(faces: &Faces, cells: &[u64], around: &[u32]) -> u64
     requires cells { AreLeastOf is_small_cell faces.now.cells cells.now }
     requires numbers { All (λ n. n < length faces.now.cells) around.now }
     ensures { IsLeastOf (λ alpha. list_any (is_small_cell alpha) (cells_numbered faces.now.cells around.now)) result }
@@ -39,7 +39,7 @@ fn greater(m: u64, n: u64) -> u64
 }
 
 /// The least alpha at which all of the cells of some numbers are Full and within alpha.
-pub fn all_least(faces: &Faces, cells: &[u64], around: &[u32]) -> u64
+pub(crate) fn all_least(faces: &Faces, cells: &[u64], around: &[u32]) -> u64
     requires cells { AreLeastOf is_small_cell faces.now.cells cells.now }
     requires numbers { All (λ n. n < length faces.now.cells) around.now }
     ensures { IsLeastOf (λ alpha. list_all (is_small_cell alpha) (cells_numbered faces.now.cells around.now)) result }

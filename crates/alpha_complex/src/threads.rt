@@ -16,7 +16,7 @@ use std::alloc::{AllocError, Global};
 use std::thread::Threads;
 
 /// The least alpha of each cell.
-pub fn leasts_of_cells<R: Threads + Sync>(
+pub(crate) fn leasts_of_cells<R: Threads + Sync>(
     rt: &R,
     alloc: Global,
     cells: &[Cell],
@@ -38,7 +38,7 @@ pub fn leasts_of_cells<R: Threads + Sync>(
 }
 
 /// The least alpha at which each triple is admitted, by the numbers of the cells.
-pub fn leasts_of_triples<R: Threads + Sync>(
+pub(crate) fn leasts_of_triples<R: Threads + Sync>(
     rt: &R,
     alloc: Global,
     faces: &Faces,
@@ -87,7 +87,7 @@ fn leasts_by_higher<R: Threads + Sync>(
 }
 
 /// The least alpha at which each pair is admitted, by the numbers of the cells and of the triples.
-pub fn leasts_of_pairs<R: Threads + Sync>(
+pub(crate) fn leasts_of_pairs<R: Threads + Sync>(
     rt: &R,
     alloc: Global,
     faces: &Faces,

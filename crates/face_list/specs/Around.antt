@@ -15,8 +15,8 @@ abbrev pub first_point : List ℕ → ℕ
 first_point part = slice_index_or part 0 0
 
 -- what was put behind old items has a number, and its keys are parts that begin with a point
-abbrev pub ArePut : {K : Type 0} → List K → (K → ℕ) → ℕ → ℕ → List (K × ℕ) → List (K × ℕ) → Type 0
-ArePut {K} parts first_of number first old new =
+abbrev pub ArePartsPut : {K : Type 0} → List K → (K → ℕ) → ℕ → ℕ → List (K × ℕ) → List (K × ℕ) → Type 0
+ArePartsPut {K} parts first_of number first old new =
     (i : K × ℕ) → IsIn i new → IsIn i old ⊎ (IsIn i.0 parts × (i.1 ≡ number) × (first_of i.0 ≡ first))
 
 -- The table has the keys of Full cells among some items, each with its numbers: `sorted` are the items so far in order,

@@ -10,7 +10,7 @@ ghost use Rattle.point_order.specs.Facets.{points_of};
 ghost use Rattle.point_order.specs.Sets.{IsIn};
 ghost use Rattle.point_order.specs.Subsets.{subsets};
 ghost use Rattle.face_list.specs.declared.table.Table.{Table};
-ghost use Rattle.face_list.specs.Around.{ArePut, CanAdd, GathersPoints, first_point};
+ghost use Rattle.face_list.specs.Around.{ArePartsPut, CanAdd, GathersPoints, first_point};
 ghost use Rattle.face_list.specs.Gather.{items_from, GathersItems};
 ghost use Rattle.face_list.specs.Order.{before_by_first};
 ghost use Rattle.face_list.specs.Tables.{IsTable, cell_at};
@@ -66,7 +66,8 @@ pub trait Part: Ord + First {
         number: u32,
         first: Point,
     ) -> Result<(), AllocError>
-        ensures { OnOk result (ArePut (parts_of cell.now) Self.first_of number first items.old.items items.new.items) };
+        ensures { OnOk result (ArePartsPut (parts_of cell.now) Self.first_of number first items.old.items
+            items.new.items) };
 
     /// About how many different parts some points have, whose cells have so many in all.
     fn room(total: usize, points: usize) -> usize;
@@ -142,7 +143,7 @@ fn put_first<K: First>(
     number: u32,
     first: Point,
 ) -> Result<(), AllocError>
-    ensures { OnOk result (ArePut parts.now K.first_of number first items.old.items items.new.items) }
+    ensures { OnOk result (ArePartsPut parts.now K.first_of number first items.old.items items.new.items) }
 {
     for part in parts {
         if part.first().key() == first.key() {
@@ -233,7 +234,11 @@ pub struct Room {
 }
 
 /// Nothing yet, of the points from an index on, with room for so many keys and numbers.
-pub fn nothing<K: Part>(alloc: Global, room: Room, from: usize) -> Result<Gathering<K>, AllocError>
+pub(crate) fn nothing<K: Part>(
+    alloc: Global,
+    room: Room,
+    from: usize,
+) -> Result<Gathering<K>, AllocError>
     ensures { IfOk result (λ g. (cells : List Cell) (points : Table ℕ) → from ≤ length points.keys.items →
         GathersPoints K.cmp K.parts_of K.first_of cells points from from g) }
 {
@@ -250,7 +255,7 @@ pub fn nothing<K: Part>(alloc: Global, room: Room, from: usize) -> Result<Gather
 }
 
 /// Adds the items of the points up to an index.
-pub fn add_points<K: Part>(
+pub(crate) fn add_points<K: Part>(
     alloc: Global,
     cells: &[Cell],
     points: &Table<Point>,
@@ -270,7 +275,7 @@ pub fn add_points<K: Part>(
 }
 
 /// The room for all items, and how many there are.
-pub fn room_for<K: Part>(cells: &[Cell], points: &Table<Point>) -> Result<Room, AllocError>
+pub(crate) fn room_for<K: Part>(cells: &[Cell], points: &Table<Point>) -> Result<Room, AllocError>
     ensures { IfOk result (λ room. room.numbers ≡ length (items_from 0 K.parts_of cells.now)) }
 {
     let numbers = part_count::<K>(cells)?;
@@ -279,7 +284,7 @@ pub fn room_for<K: Part>(cells: &[Cell], points: &Table<Point>) -> Result<Room, 
 }
 
 /// The table of what was gathered, where it is of so many items.
-pub fn whole<K: Part>(so_far: Gathering<K>, total: usize) -> Option<Table<K>>
+pub(crate) fn whole<K: Part>(so_far: Gathering<K>, total: usize) -> Option<Table<K>>
     ensures { IfSome result (λ t. (t ≡ so_far.table) × (so_far.count ≡ total)) }
 {
     if so_far.count == total {
@@ -294,7 +299,7 @@ pub fn whole<K: Part>(so_far: Gathering<K>, total: usize) -> Option<Table<K>>
 ///
 /// # Errors
 /// Want of memory. Where there are more numbers than 32 bits count, there is none.
-pub fn table_around<K: Part>(
+pub(crate) fn table_around<K: Part>(
     alloc: Global,
     cells: &[Cell],
     points: &Table<Point>,

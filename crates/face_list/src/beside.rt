@@ -184,7 +184,7 @@ fn gather_in_rounds<R: Threads + Sync, K: Part + Send>(
 ///
 /// # Errors
 /// Want of memory. Where there are more numbers than 32 bits count, there is none.
-pub fn table_beside<R: Threads + Sync, K: Part + Send>(
+pub(crate) fn table_beside<R: Threads + Sync, K: Part + Send>(
     rt: &R,
     alloc: Global,
     cells: &[Cell],

@@ -23,7 +23,7 @@ pub fn number_of(count: usize) -> Result<u32, AllocError>
 ///
 /// # Errors
 /// Want of memory, where it is 2^64 or more.
-pub fn sum_of(a: usize, b: usize) -> Result<usize, AllocError>
+pub(crate) fn sum_of(a: usize, b: usize) -> Result<usize, AllocError>
     ensures { IfOk result (λ sum. sum ≡ a + b) }
 {
     match a.checked_add(b) {

@@ -31,7 +31,7 @@ fn each_once<K: Ord + Copy>(mut items: Vec<(K, u32)>) -> Vec<(K, u32)>
 }
 
 /// The items in order, each once.
-pub fn sorted<K: Ord + Copy>(mut items: Vec<(K, u32)>) -> Vec<(K, u32)>
+pub(crate) fn sorted<K: Ord + Copy>(mut items: Vec<(K, u32)>) -> Vec<(K, u32)>
     requires { CmpEqualImpliesEq K.cmp }
     ensures order { IsStrictlySortedBy (item_cmp K.cmp) result.items }
     ensures same { (i : K × ℕ) → IsIn i result.items ↔ IsIn i items.items }
@@ -102,7 +102,7 @@ fn key_count<K: Ord>(cells: &[Cell], items: &[(K, u32)]) -> usize {
 }
 
 /// The keys of the items of Full cells, each once.
-pub fn keys_of_full<K: Ord + Copy>(
+pub(crate) fn keys_of_full<K: Ord + Copy>(
     alloc: Global,
     cells: &[Cell],
     items: &[(K, u32)],
@@ -148,7 +148,7 @@ fn put_numbers<'a, K: Ord + Copy>(
 }
 
 /// Puts where the numbers end.
-pub fn put_end(ends: &mut Vec<u32>, count: usize) -> Result<(), AllocError>
+pub(crate) fn put_end(ends: &mut Vec<u32>, count: usize) -> Result<(), AllocError>
     ensures { OnOk result (ends.new.items ≡ ends.old.items ++ count ∷ []) }
 {
     let end = number_of(count)?;
@@ -157,7 +157,7 @@ pub fn put_end(ends: &mut Vec<u32>, count: usize) -> Result<(), AllocError>
 }
 
 /// Puts the numbers of each key's items behind other numbers, and where they end.
-pub fn put_lists<K: Ord + Copy>(
+pub(crate) fn put_lists<K: Ord + Copy>(
     ends: &mut Vec<u32>,
     numbers: &mut Vec<u32>,
     keys: &[K],
@@ -182,7 +182,7 @@ pub fn put_lists<K: Ord + Copy>(
 }
 
 /// The keys, each with the numbers of its items.
-pub fn with_numbers<K: Ord + Copy>(
+pub(crate) fn with_numbers<K: Ord + Copy>(
     alloc: Global,
     keys: Vec<K>,
     items: &[(K, u32)],
@@ -208,7 +208,7 @@ pub fn with_numbers<K: Ord + Copy>(
 
 // Each key of a Full cell, in order, with the numbers of the cells of its items, in order. It is refused as want of
 // memory where there are more numbers than 32 bits count.
-pub fn gather<R: Threads + Sync, K: Ord + Copy + Send>(
+pub(crate) fn gather<R: Threads + Sync, K: Ord + Copy + Send>(
     rt: &R,
     alloc: Global,
     cells: &[Cell],

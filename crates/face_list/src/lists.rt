@@ -17,7 +17,7 @@ use std::alloc::{AllocError, Global};
 use std::thread::{Threads, available_parallelism, join};
 
 /// The points of Full cells, with the cells that have them. The points of each cell ascend.
-pub fn point_table<R: Threads + Sync>(
+pub(crate) fn point_table<R: Threads + Sync>(
     rt: &R,
     alloc: Global,
     cells: &[Cell],
@@ -90,7 +90,7 @@ fn thread_count<R: Threads>(rt: &R) -> usize {
 
 /// The pairs and the triples inside Full cells, with their cells, both kinds at once, and each by as many threads as
 /// there are processors.
-pub fn pair_and_triple_tables<R: Threads + Sync>(
+pub(crate) fn pair_and_triple_tables<R: Threads + Sync>(
     rt: &R,
     alloc: Global,
     cells: &[Cell],

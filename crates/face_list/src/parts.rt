@@ -9,7 +9,7 @@ use point_order::{Cell, Pair, Point, Tri};
 use std::alloc::{AllocError, Global};
 
 /// The one triple of an Open cell.
-pub fn triples_of_tri(tri: Tri) -> [Tri; 1]
+pub(crate) fn triples_of_tri(tri: Tri) -> [Tri; 1]
     ensures { result ≡ subsets 3 tri }
 {
     let _ = tri.corners();
@@ -27,7 +27,7 @@ fn put<K: Copy>(items: &mut Vec<(K, u32)>, parts: &[K], number: u32) -> Result<(
 }
 
 /// The number of each cell under each of its points, which ascend in each cell.
-pub fn point_items(alloc: Global, cells: &[Cell]) -> Result<Vec<(Point, u32)>, AllocError>
+pub(crate) fn point_items(alloc: Global, cells: &[Cell]) -> Result<Vec<(Point, u32)>, AllocError>
     requires { length cells.now < 2 ^ 32 }
     ensures items { IfOk result (λ v. v.items ≡ items_from 0 points_of cells.now) }
     ensures ascending { OnOk result (AreAscending cells.now) }
@@ -40,7 +40,7 @@ pub fn point_items(alloc: Global, cells: &[Cell]) -> Result<Vec<(Point, u32)>, A
 }
 
 /// The number of each cell under each of its pairs.
-pub fn pair_items(alloc: Global, cells: &[Cell]) -> Result<Vec<(Pair, u32)>, AllocError>
+pub(crate) fn pair_items(alloc: Global, cells: &[Cell]) -> Result<Vec<(Pair, u32)>, AllocError>
     requires { length cells.now < 2 ^ 32 }
     ensures { IfOk result (λ v. v.items ≡ items_from 0 (λ c. subsets 2 (points_of c)) cells.now) }
 {
@@ -55,7 +55,7 @@ pub fn pair_items(alloc: Global, cells: &[Cell]) -> Result<Vec<(Pair, u32)>, All
 }
 
 /// The number of each cell under each of its triples.
-pub fn triple_items(alloc: Global, cells: &[Cell]) -> Result<Vec<(Tri, u32)>, AllocError>
+pub(crate) fn triple_items(alloc: Global, cells: &[Cell]) -> Result<Vec<(Tri, u32)>, AllocError>
     requires { length cells.now < 2 ^ 32 }
     ensures { IfOk result (λ v. v.items ≡ items_from 0 (λ c. subsets 3 (points_of c)) cells.now) }
 {

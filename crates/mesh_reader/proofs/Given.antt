@@ -10,7 +10,6 @@ use Rattle.mesh_reader.specs.declared.place.Part.{Part}
 use Rattle.mesh_reader.specs.declared.place.Part.TheVariants.{Replies, Points, Cells, Hull}
 use Rattle.mesh_reader.specs.declared.place.Due.{Due}
 use Rattle.mesh_reader.specs.declared.place.Due.TheVariants.{Title, Head, Body, Last, Nothing}
-use Rattle.mesh_reader.specs.declared.pieces.MeshReader.{MeshReader}
 use Rattle.mesh_reader.specs.declared.pieces.State.{State}
 use Rattle.mesh_reader.specs.declared.pieces.State.TheVariants.{Right}
 use Rattle.mesh_reader.specs.Grammar.{AllLead, IsMeshText, IsTaken, Leads, MeshParts, Reached, at_end, lines_due}
@@ -110,22 +109,21 @@ given_ascend counted given h =
     (λ x k. subst IsAscending (sym k.0) (ascends_says counted.reader.file.points.items counted.ascending)) h
 
 -- the points of a reader that has them all are those of each mesh whose text goes on from what it has taken
-those_points : (r : MeshReader) (counted : Counted) → r.state ≡ Right counted → HasAllPoints counted.reader.due
-    → (bytes more : List ℕ) (mesh : MeshParts) → HasTaken r bytes → IsMeshText (bytes ++ more) mesh
-    → mesh.points ≡ counted.reader.file.points.items
-those_points r counted s d bytes more mesh h t =
-    let lines = lines_of (r.begun.items ++ more) in
+those_points : (state : State) (begun bytes : List ℕ) (counted : Counted) → HasTaken state begun bytes
+    → state ≡ Right counted → HasAllPoints counted.reader.due → (more : List ℕ) (mesh : MeshParts)
+    → IsMeshText (bytes ++ more) mesh → mesh.points ≡ counted.reader.file.points.items
+those_points state begun bytes counted h s d more mesh t =
+    let lines = lines_of (begun ++ more) in
     let here = ap (λ (v : State). comes_to v lines) (sym s) in
     all_points lines (reached counted.reader) (at_end mesh) d
     (leads_all counted.number (reached counted.reader) lines mesh
     (here ∙ h.same more ∙ mesh_judged (bytes ++ more) mesh t))
 
 -- and those are given
-pub given_points : (r : MeshReader) (counted : Counted) → r.state ≡ Right counted → (given : Option (Bor (List ℕ)))
-    → AreThose counted given → IfSome given (λ x. (bytes more : List ℕ) (mesh : MeshParts) → HasTaken r bytes
-    → IsMeshText (bytes ++ more) mesh → mesh.points ≡ x.now)
-given_points r counted s given h =
+pub given_points : (state : State) (begun bytes : List ℕ) (counted : Counted) → HasTaken state begun bytes
+    → state ≡ Right counted → (given : Option (Bor (List ℕ))) → AreThose counted given
+    → IfSome given (λ x. (more : List ℕ) (mesh : MeshParts) → IsMeshText (bytes ++ more) mesh → mesh.points ≡ x.now)
+given_points state begun bytes counted h s given g =
     if_some (λ x. (x.now ≡ counted.reader.file.points.items) × HasAllPoints counted.reader.due)
-    (λ x. (bytes more : List ℕ) (mesh : MeshParts) → HasTaken r bytes → IsMeshText (bytes ++ more) mesh
-    → mesh.points ≡ x.now) given
-    (λ x k bytes more mesh taken text. those_points r counted s k.1 bytes more mesh taken text ∙ sym k.0) h
+    (λ x. (more : List ℕ) (mesh : MeshParts) → IsMeshText (bytes ++ more) mesh → mesh.points ≡ x.now) given
+    (λ x k more mesh text. those_points state begun bytes counted h s k.1 more mesh text ∙ sym k.0) g

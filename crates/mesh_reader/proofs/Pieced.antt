@@ -1,10 +1,10 @@
 -- A text that comes in pieces: its lines are counted, and what is left of it is judged as all of it.
-use Rattle.std.proofs.Common.{◌≡◌, ℕ, zero, suc, ◌+◌, ◌<◌, ◌≤◌, ◌≢◌, List, [], ◌∷◌, ◌++◌, append_assoc, append-nil}
-use Rattle.std.proofs.Common.{add-one, length, take, drop, take-append-drop, get_or, eqb, ◌==◌, ne_eqb, false, true}
-use Rattle.std.proofs.Common.{vec_len, Result, Ok, Err, refl, sym, ap, subst, ◌∙◌, arith}
+use Rattle.std.proofs.Common.{◌≡◌, ℕ, zero, suc, ◌+◌, ◌<◌, ◌≤◌, List, [], ◌∷◌, ◌++◌, append_assoc, append-nil, length}
+use Rattle.std.proofs.Common.{eqb, ◌==◌, false, true, vec_len, Result, Ok, Err, refl, sym, ap, subst, ◌∙◌, arith}
 use Rattle.std.specs.List.{onto_first}
+use Rattle.std.specs.Prelude.{Vec}
+use Rattle.std.specs.declared.alloc.Global.{Global}
 use Rattle.std.proofs.lemmas.Bool.{eqb-false, eqb-true}
-use Rattle.std.proofs.Math.Seq.{drop-cons, take-suc}
 use Rattle.edit_files.specs.declared.fault.Fault.{Fault}
 use Rattle.edit_files.specs.declared.fault.ReadRefused.{ReadRefused}
 use Rattle.edit_files.specs.declared.fault.ReadRefused.TheVariants as refusals
@@ -18,7 +18,6 @@ use Rattle.mesh_reader.specs.declared.place.Due.{Due}
 use Rattle.mesh_reader.specs.declared.place.Due.TheVariants.{Title, Head, Body, Last, Nothing}
 use Rattle.mesh_reader.specs.declared.reader.LineRefused.{LineRefused}
 use Rattle.mesh_reader.specs.declared.reader.LineRefused.TheVariants as line_refusals
-use Rattle.mesh_reader.specs.declared.pieces.MeshReader.{MeshReader}
 use Rattle.mesh_reader.specs.declared.pieces.State.{State}
 use Rattle.mesh_reader.specs.Grammar.{Leads, MeshParts, Reached, at_title, behind, lines_due, most_of, parts}
 use Rattle.edit_files.specs.Judging.{Gives}
@@ -110,24 +109,36 @@ line_taken before state next all rest line behind h t p more =
 
 -- ---- what a reader has taken
 
--- then it makes of the line that is begun what is to be made of the text
-pub taken_all : (r : MeshReader) (bytes : List ℕ) → HasTaken r bytes → comes_to r.state (lines_of r.begun.items)
-    ≡ judge_mesh 1 at_title (lines_of bytes)
-taken_all r bytes h =
-    ap (λ (l : List ℕ). comes_to r.state (lines_of l)) (sym (append-nil r.begun.items)) ∙ h.same []
-    ∙ ap (λ (l : List ℕ). judge_mesh 1 at_title (lines_of l)) (append-nil bytes)
+module _ (state : State) (begun bytes : List ℕ) (h : HasTaken state begun bytes) where
+  -- it makes of the line that is begun what is to be made of the text
+  taken_all : comes_to state (lines_of begun) ≡ judge_mesh 1 at_title (lines_of bytes)
+  taken_all =
+      ap (λ (l : List ℕ). comes_to state (lines_of l)) (sym (append-nil begun)) ∙ h.same []
+      ∙ ap (λ (l : List ℕ). judge_mesh 1 at_title (lines_of l)) (append-nil bytes)
 
--- no line is begun
-pub none_begun : (r : MeshReader) (bytes : List ℕ) → HasTaken r bytes → r.begun.items ≡ []
-    → comes_to r.state [] ≡ judge_mesh 1 at_title (lines_of bytes)
-none_begun r bytes h e = ap (λ (l : List ℕ). comes_to r.state (lines_of l)) (sym e) ∙ taken_all r bytes h
+  -- no line is begun
+  none_begun : begun ≡ [] → comes_to state [] ≡ judge_mesh 1 at_title (lines_of bytes)
+  none_begun e = ap (λ (l : List ℕ). comes_to state (lines_of l)) (sym e) ∙ taken_all
 
--- the line that is begun is the last
-pub last_taken : (r : MeshReader) (bytes : List ℕ) (next : State) → HasTaken r bytes → 0 < length r.begun.items
-    → ((lines : List (List ℕ)) → comes_to next lines ≡ comes_to r.state (r.begun.items ∷ lines))
-    → comes_to next [] ≡ judge_mesh 1 at_title (lines_of bytes)
-last_taken r bytes next h l t =
-    t [] ∙ ap (comes_to r.state) (sym (last_line r.begun.items h.begun l)) ∙ taken_all r bytes h
+  -- the line that is begun is the last
+  last_taken : (next : State) → 0 < length begun
+      → ((lines : List (List ℕ)) → comes_to next lines ≡ comes_to state (begun ∷ lines))
+      → comes_to next [] ≡ judge_mesh 1 at_title (lines_of bytes)
+  last_taken next l t = t [] ∙ ap (comes_to state) (sym (last_line begun h.begun l)) ∙ taken_all
+
+  -- a piece that ends a line
+  pub piece_taken : (next now : State) (piece line behind rest left : List ℕ)
+      → (piece ≡ line ++ 10 ∷ behind) × HasNoFeed line
+      → ((lines : List (List ℕ)) → comes_to next lines ≡ comes_to state ((begun ++ line) ∷ lines))
+      → LeavesOf next behind now rest → HasNoFeed rest → left ≡ rest → HasTaken now left (bytes ++ piece)
+  piece_taken next now piece line behind rest left p t l n b = record {
+    begun = subst HasNoFeed (sym b) n;
+    same = λ more.
+        ap (λ (v : List ℕ). comes_to now (lines_of (v ++ more))) b ∙ l more ∙ t (lines_of (behind ++ more))
+        ∙ ap (comes_to state) (sym (line_cut begun line behind piece more h.begun p.1 p.0))
+        ∙ h.same (piece ++ more)
+        ∙ ap (λ (v : List ℕ). judge_mesh 1 at_title (lines_of v)) (sym (append_assoc bytes piece more));
+  }
 
 -- the line that is taken is the one that was begun
 pub line_begun : (state next : State) (line whole : List ℕ) → line ≡ whole
@@ -136,62 +147,29 @@ pub line_begun : (state next : State) (line whole : List ℕ) → line ≡ whole
 line_begun state next line whole e t =
     subst (λ (l : List ℕ). (lines : List (List ℕ)) → comes_to next lines ≡ comes_to state (l ∷ lines)) e t
 
--- a piece behind a wrong line
-pub piece_ignored : (r now : MeshReader) (piece : List ℕ)
-    → ((lines others : List (List ℕ)) → comes_to r.state lines ≡ comes_to r.state others)
-    → ◌≡◌ {A = State} now.state r.state → now.begun.items ≡ [] → (bytes : List ℕ) → HasTaken r bytes
-    → HasTaken now (bytes ++ piece)
-piece_ignored r now piece any s b bytes h =
-    record {
-      begun = subst HasNoFeed (sym b) tt;
-      same = λ more.
-          ap (λ (v : State). comes_to v (lines_of (now.begun.items ++ more))) s
-          ∙ any (lines_of (now.begun.items ++ more)) (lines_of (r.begun.items ++ (piece ++ more)))
-          ∙ h.same (piece ++ more)
-          ∙ ap (λ (l : List ℕ). judge_mesh 1 at_title (lines_of l)) (sym (append_assoc bytes piece more));
-    }
-
--- and one that ends a line
-pub piece_taken : (r now : MeshReader) (next : State) (piece line behind rest : List ℕ)
-    → (piece ≡ line ++ 10 ∷ behind) × HasNoFeed line
-    → ((lines : List (List ℕ)) → comes_to next lines ≡ comes_to r.state ((r.begun.items ++ line) ∷ lines))
-    → LeavesOf next behind now.state rest → HasNoFeed rest → now.begun.items ≡ rest → (bytes : List ℕ)
-    → HasTaken r bytes → HasTaken now (bytes ++ piece)
-piece_taken r now next piece line behind rest p t l n b bytes h =
-    record {
-      begun = subst HasNoFeed (sym b) n;
-      same = λ more.
-          ap (λ (v : List ℕ). comes_to now.state (lines_of (v ++ more))) b ∙ l more ∙ t (lines_of (behind ++ more))
-          ∙ ap (comes_to r.state) (sym (line_cut r.begun.items line behind piece more h.begun p.1 p.0))
-          ∙ h.same (piece ++ more)
-          ∙ ap (λ (v : List ℕ). judge_mesh 1 at_title (lines_of v)) (sym (append_assoc bytes piece more));
-    }
-
 -- ---- what a call gave
 
--- an end of a text that begins no line
-pub none_given : (r : MeshReader) (bytes : List ℕ) → HasTaken r bytes → (vec_len r.begun == 0) ≡ true
-    → (given : Result PackedMesh ReadRefused) → Gives parts given (comes_to r.state [])
-    → Gives parts given (judge_mesh 1 at_title (lines_of bytes))
-none_given r bytes h z given g =
-    let k : vec_len r.begun ≡ 0 = eqb-true (vec_len r.begun) 0 z in
-    let none : length r.begun.items ≡ 0 = omega (arith, k, r.begun.ok.0) in
-    subst (λ (v : Result MeshParts Fault). Gives parts given v)
-    (none_begun r bytes h (empty_list r.begun.items none)) g
-  where
-    empty_list : (l : List ℕ) → length l ≡ 0 → l ≡ []
-    empty_list [] e = refl
-    empty_list (x ∷ l) e = absurd (omega (arith, e))
+module _ (state : State) (begun : Vec ℕ Global) (bytes : List ℕ) (h : HasTaken state begun.items bytes) where
+  -- an end of a text that begins no line
+  pub none_given : (vec_len begun == 0) ≡ true → (given : Result PackedMesh ReadRefused)
+      → Gives parts given (comes_to state []) → Gives parts given (judge_mesh 1 at_title (lines_of bytes))
+  none_given z given g =
+      let k : vec_len begun ≡ 0 = eqb-true (vec_len begun) 0 z in
+      let none : length begun.items ≡ 0 = omega (arith, k, begun.ok.0) in
+      subst (λ (v : Result MeshParts Fault). Gives parts given v)
+      (none_begun state begun.items bytes h (empty_list begun.items none)) g
+    where
+      empty_list : (l : List ℕ) → length l ≡ 0 → l ≡ []
+      empty_list [] e = refl
+      empty_list (x ∷ l) e = absurd (omega (arith, e))
 
--- and of one whose last line ends without a line feed
-pub last_given : (r : MeshReader) (bytes : List ℕ) → HasTaken r bytes → (vec_len r.begun == 0) ≡ false
-    → (line : List ℕ) → line ≡ r.begun.items → (next : State)
-    → ((lines : List (List ℕ)) → comes_to next lines ≡ comes_to r.state (line ∷ lines))
-    → (given : Result PackedMesh ReadRefused) → Gives parts given (comes_to next [])
-    → Gives parts given (judge_mesh 1 at_title (lines_of bytes))
-last_given r bytes h z line e next t given g =
-    let k = eqb-false (vec_len r.begun) 0 z in
-    let some : 0 < length r.begun.items = omega (arith, k, r.begun.ok.0) in
-    subst (λ (v : Result MeshParts Fault). Gives parts given v)
-    (last_taken r bytes next h some
-    (subst (λ (l : List ℕ). (lines : List (List ℕ)) → comes_to next lines ≡ comes_to r.state (l ∷ lines)) e t)) g
+  -- and of one whose last line ends without a line feed
+  pub last_given : (vec_len begun == 0) ≡ false → (line : List ℕ) → line ≡ begun.items → (next : State)
+      → ((lines : List (List ℕ)) → comes_to next lines ≡ comes_to state (line ∷ lines))
+      → (given : Result PackedMesh ReadRefused) → Gives parts given (comes_to next [])
+      → Gives parts given (judge_mesh 1 at_title (lines_of bytes))
+  last_given z line e next t given g =
+      let k = eqb-false (vec_len begun) 0 z in
+      let some : 0 < length begun.items = omega (arith, k, begun.ok.0) in
+      subst (λ (v : Result MeshParts Fault). Gives parts given v)
+      (last_taken state begun.items bytes h next some (line_begun state next line begun.items e t)) g

@@ -3,7 +3,6 @@ use Rattle.std.specs.Prelude.{◌≡◌, ℕ, ◌==◌, false, List, ◌++◌, R
 use Rattle.std.specs.List.{AllByRecursion}
 use Rattle.edit_files.specs.declared.fault.Fault.{Fault}
 use Rattle.edit_files.specs.Lines.{lines_of}
-use Rattle.mesh_reader.specs.declared.pieces.MeshReader.{MeshReader}
 use Rattle.mesh_reader.specs.declared.pieces.State.{State}
 use Rattle.mesh_reader.specs.declared.pieces.State.TheVariants.{Right, Wrong}
 use Rattle.mesh_reader.specs.Grammar.{MeshParts, at_title}
@@ -23,9 +22,9 @@ abbrev pub LeavesOf : State → List ℕ → State → List ℕ → Type 0
 LeavesOf before all now left =
     (more : List ℕ) → comes_to now (lines_of (left ++ more)) ≡ comes_to before (lines_of (all ++ more))
 
--- The reader has taken these bytes: whatever follows them, it makes of the line that is begun and of what follows the
--- same as is made of the whole text.
-pub record HasTaken (r : MeshReader) (bytes : List ℕ) : Type 0 where
-  pub begun : HasNoFeed r.begun.items
-  pub same : (more : List ℕ) → comes_to r.state (lines_of (r.begun.items ++ more))
+-- A reader with this state and this line that is begun has taken these bytes: whatever follows them, it makes of the
+-- line and of what follows the same as is made of the whole text.
+pub record HasTaken (state : State) (line bytes : List ℕ) : Type 0 where
+  pub begun : HasNoFeed line
+  pub same : (more : List ℕ) → comes_to state (lines_of (line ++ more))
       ≡ judge_mesh 1 at_title (lines_of (bytes ++ more))

@@ -23,6 +23,7 @@ mod mesh_file;
 mod pieces;
 pub mod place;
 mod reader;
+mod taken_bytes;
 
 pub use mesh_file::{MeshFile, PackedMesh};
 pub use pieces::{MeshReader, read_mesh};

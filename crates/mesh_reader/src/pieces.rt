@@ -9,13 +9,15 @@ ghost use Rattle.mesh_reader.specs.Faults.{IsMeshFault};
 ghost use Rattle.mesh_reader.specs.Grammar.{IsMeshText, MeshParts, file_parts, parts};
 ghost use Rattle.edit_files.specs.Judging.{Gives};
 ghost use Rattle.mesh_reader.specs.Order.{IsInOrder};
-ghost use Rattle.mesh_reader.specs.Pieces.{HasNoFeed, HasTaken, LeavesOf, comes_to};
+ghost use Rattle.mesh_reader.specs.Pieces.{HasNoFeed, LeavesOf, comes_to};
 
 use crate::counted::Counted;
 use crate::mesh_file::{MeshFile, PackedMesh};
+use crate::taken_bytes::TakenBytes;
 use edit_files::{Fault, ReadRefused};
 use point_order::Point;
 use std::alloc::{AllocError, Global};
+use std::marker::Model;
 
 // The bytes up to the first line feed, and those behind it, where there is one.
 fn whole_line(bytes: &[u8]) -> Option<(&[u8], &[u8])>
@@ -90,7 +92,7 @@ impl State {
     }
 }
 
-/// Reads the text of a mesh that comes in pieces, however it is cut. `HasTaken` says which bytes it has taken.
+/// Reads the text of a mesh that comes in pieces, however it is cut. Contracts see the bytes that it has taken.
 ///
 /// It keeps what the text names and the line that is begun, so that it takes memory in proportion to these and not to
 /// the text; behind a wrong line it keeps nothing more.
@@ -99,16 +101,30 @@ pub struct MeshReader {
     state: State,
     // The bytes behind the last line feed.
     begun: Vec<u8>,
+    taken: TakenBytes,
+}
+
+impl Model for MeshReader {
+    ghost use Rattle.std.specs.Prelude.{List, ℕ};
+
+    ghost Value = { List ℕ };
+
+    ghost use Rattle.mesh_reader.specs.Pieces.{HasTaken};
+
+    ghost view = { λ r. r.taken.bytes };
+
+    ghost invariant = { λ r. HasTaken r.state r.begun.items r.taken.bytes };
 }
 
 impl MeshReader {
     /// A reader that has taken nothing.
     pub fn new(alloc: Global) -> MeshReader
-        ensures { HasTaken result [] }
+        ensures { result ≡ [] }
     {
         MeshReader {
             state: State::Right(Counted::new(alloc)),
             begun: Vec::new(alloc),
+            taken: TakenBytes::nothing(),
         }
     }
 
@@ -116,8 +132,8 @@ impl MeshReader {
     /// taken (`those`). That they are given as soon as they are known, no clause says.
     pub fn points(&self) -> Option<&[Point]>
         ensures ascending { IfSome result (λ points. IsAscending points.now) }
-        ensures those { IfSome result (λ points. (bytes more : List ℕ) (mesh : MeshParts) → HasTaken self.now bytes
-            → IsMeshText (bytes ++ more) mesh → mesh.points ≡ points.now) }
+        ensures those { IfSome result (λ points. (more : List ℕ) (mesh : MeshParts) →
+            IsMeshText (self.now ++ more) mesh → mesh.points ≡ points.now) }
     {
         match &self.state {
             State::Right(counted) => counted.reader.points(),
@@ -130,23 +146,39 @@ impl MeshReader {
     /// # Errors
     /// `AllocError` where there is no memory for what it names.
     pub fn take(self, piece: &[u8]) -> Result<MeshReader, AllocError>
-        ensures { IfOk result (λ reader. (bytes : List ℕ) → HasTaken self bytes
-            → HasTaken reader (bytes ++ piece.now)) }
+        ensures { IfOk result (λ reader. reader ≡ self ++ piece.now) }
     {
-        let MeshReader { state, mut begun } = self;
+        let MeshReader {
+            state,
+            mut begun,
+            taken,
+        } = self;
+        let taken = taken.and(piece);
         if state.is_wrong() {
             begun.clear();
-            return Ok(MeshReader { state, begun });
+            return Ok(MeshReader {
+                state,
+                begun,
+                taken,
+            });
         }
         let Some((line, behind)) = whole_line(piece) else {
             begun.extend_from_slice(piece)?;
-            return Ok(MeshReader { state, begun });
+            return Ok(MeshReader {
+                state,
+                begun,
+                taken,
+            });
         };
         begun.extend_from_slice(line)?;
         let (state, rest) = state.take_line(&begun)?.take_lines(behind)?;
         begun.clear();
         begun.extend_from_slice(rest)?;
-        Ok(MeshReader { state, begun })
+        Ok(MeshReader {
+            state,
+            begun,
+            taken,
+        })
     }
 
     /// The mesh that the bytes are of, as `read_mesh` tells it.
@@ -154,13 +186,15 @@ impl MeshReader {
     /// # Errors
     /// Where they are of none, their one fault; and want of memory.
     pub fn finish(self) -> Result<PackedMesh, ReadRefused>
-        ensures accepted { (bytes : List ℕ) → HasTaken self bytes →
-            IfOk result (λ mesh. IsMeshText bytes (parts mesh)) }
-        ensures order { (bytes : List ℕ) → HasTaken self bytes → IfOk result (λ mesh. IsInOrder (parts mesh)) }
-        ensures fault { (bytes : List ℕ) (fault : FaultParts) → HasTaken self bytes → result ≡ Err (Bad fault)
-            → IsMeshFault bytes fault }
+        ensures accepted { IfOk result (λ mesh. IsMeshText self (parts mesh)) }
+        ensures order { IfOk result (λ mesh. IsInOrder (parts mesh)) }
+        ensures fault { (fault : FaultParts) → result ≡ Err (Bad fault) → IsMeshFault self fault }
     {
-        let MeshReader { state, begun } = self;
+        let MeshReader {
+            state,
+            begun,
+            taken: _,
+        } = self;
         if begun.is_empty() {
             return state.finish();
         }

@@ -6,4 +6,5 @@ returns-in-Right-clause-ascending c = given_ascend c.in-Right.counted c.points.r
 
 pub returns-in-Right-clause-those : goal.returns-in-Right-clause-those
 returns-in-Right-clause-those c =
-    given_points c.args.self.now c.in-Right.counted c.in-Right.is c.points.result c.points.ensures
+    rw (← c.self.view_is) (given_points c.self.inside.state c.self.inside.begun.items c.self.inside.taken.bytes
+    c.in-Right.counted c.self.invariant c.in-Right.is c.points.result c.points.ensures)
