@@ -6,11 +6,16 @@ use Rattle.whole_ring.proofs.Cited.{read, within_fits}
 use Rattle.point_order.specs.Orientation.{normal_x, normal_y, normal_z, square_of_step, distance}
 use Rattle.point_order.specs.Sizes.{greatest_minor}
 use Rattle.small_spheres.specs.Inside.{dot, square_of_normal}
-use Rattle.small_spheres.specs.Within.{cell_centre_x, cell_centre_y, cell_centre_z}
+use Rattle.small_spheres.specs.Within.{cell_centre_x, cell_centre_y, cell_centre_z, square_of_centre}
+use Rattle.small_spheres.specs.Sizes.{greatest_scalar}
 
 -- a coordinate of a normal is read as itself
 pub read_minor : {x : ℤ} → IsWithin greatest_minor x → to_z w64 (of_z w64 x) ≡ x
 read_minor h = read (within_fits w64 h (lit< tt))
+
+-- and such a scalar product
+pub read_scalar : {x : ℤ} → IsWithin greatest_scalar x → to_z w64 (of_z w64 x) ≡ x
+read_scalar h = read (within_fits w64 h (lit< tt))
 
 -- equal numbers have equal scalar products
 pub same_dot : {ux uy uz vx vy vz kx ky kz lx ly lz : ℤ} → ux ≡ kx → uy ≡ ky → uz ≡ kz → vx ≡ lx → vy ≡ ly → vz ≡ lz
@@ -41,3 +46,12 @@ pub centre_z_from : (a b c d : ℕ) {p q r k l m : ℤ} → p ≡ distance a b �
     → k ≡ normal_z a c d → l ≡ normal_z a d b → m ≡ normal_z a b c → dot p q r k l m ≡ cell_centre_z a b c d
 unfolding cell_centre_z
 centre_z_from a b c d = same_dot
+
+-- the square of the step to the centre
+same_square : {x y z k l m : ℤ} → x ≡ k → y ≡ l → z ≡ m → square_of_step x y z ≡ square_of_step k l m
+same_square e f g = cc
+
+pub centre_square_from : (a b c d : ℕ) {x y z : ℤ} → x ≡ cell_centre_x a b c d → y ≡ cell_centre_y a b c d
+    → z ≡ cell_centre_z a b c d → square_of_step x y z ≡ square_of_centre a b c d
+unfolding square_of_centre
+centre_square_from a b c d = same_square

@@ -3,42 +3,12 @@
 ghost use Rattle.std.specs.Prelude.{◌≡◌, ℕ, pos, ◌==◌, ◌&&◌, ◌||◌};
 ghost use Rattle.whole_ring.specs.Bounds.{IsWithin};
 ghost use Rattle.point_order.specs.Sizes.{greatest_difference, greatest_orientation};
-ghost use Rattle.small_spheres.specs.Within.{cell_centre_x, cell_centre_y, cell_centre_z};
 ghost use Rattle.small_spheres.specs.Boxes.{low_gap, high_gap, is_clear, is_inside_box};
 ghost use Rattle.small_spheres.specs.Sizes.{greatest_gap, greatest_scalar};
 
-use crate::products::{product_of, sum_of_products};
-use crate::radii::centre_square;
+use crate::products::product_of;
+use crate::radii::{centre_of, square_of};
 use point_order::{Point, Step};
-
-// The coordinates of `N`.
-#[derive(Clone, Copy)]
-struct Centre {
-    x: i64,
-    y: i64,
-    z: i64,
-    ghost x_within: { IsWithin greatest_scalar x },
-    ghost y_within: { IsWithin greatest_scalar y },
-    ghost z_within: { IsWithin greatest_scalar z },
-}
-
-// `N = |u|^2 (v x w) + |v|^2 (w x u) + |w|^2 (u x v)`, for the steps from `a`
-fn centre_of(a: Point, b: Point, c: Point, d: Point) -> Centre
-    ensures x { result.x ≡ cell_centre_x a b c d }
-    ensures y { result.y ≡ cell_centre_y a b c d }
-    ensures z { result.z ≡ cell_centre_z a b c d }
-{
-    let u = Step::between(a, b);
-    let v = Step::between(a, c);
-    let w = Step::between(a, d);
-    let (p, q, r) = (u.square(), v.square(), w.square());
-    let (k, l, m) = (v.cross(w), w.cross(u), u.cross(v));
-    Centre {
-        x: sum_of_products(p, q, r, k.x, l.x, m.x),
-        y: sum_of_products(p, q, r, k.y, l.y, m.y),
-        z: sum_of_products(p, q, r, k.z, l.z, m.z),
-    }
-}
 
 // `n - 2 o (s - 1)`, below 2^61
 fn gap_low(o: i64, n: i64, s: i64) -> i64
@@ -117,8 +87,8 @@ pub fn sphere_inside(a: Point, b: Point, c: Point, d: Point, low: Point, high: P
     ensures { result ≡ is_inside_box a b c d low high }
 {
     let o = Step::between(a, b).triple(Step::between(a, c), Step::between(a, d));
-    let square = centre_square(a, b, c, d);
     let n = centre_of(a, b, c, d);
+    let square = square_of(n);
     let s = Step::between(a, low);
     let t = Step::between(a, high);
     all_of(

@@ -21,7 +21,7 @@ fn quotient_up(p: u128, d: u128) -> u64
 }
 
 /// The least alpha below 2^34 with `p <= d alpha`, and 2^34 where there is none.
-pub fn least_factor(p: i128, d: i128) -> u64
+pub(crate) fn least_factor(p: i128, d: i128) -> u64
     requires { pos 0 ≤ℤ d }
     ensures { (alpha : ℕ) → alpha < 2 ^ 34 → le_z p (d *ℤ pos alpha) ≡ nat_le result alpha }
 {

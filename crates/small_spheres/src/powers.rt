@@ -9,7 +9,7 @@ use crate::products::{difference, sum_of_products, term};
 use point_order::{Normal, Point, Step};
 
 /// `(a - e) . (b - e)`
-pub fn power_of_edge(a: Point, b: Point, e: Point) -> i64
+pub(crate) fn power_of_edge(a: Point, b: Point, e: Point) -> i64
     ensures { result ≡ edge_power a b e }
 {
     let u = Step::between(e, a);
@@ -18,7 +18,7 @@ pub fn power_of_edge(a: Point, b: Point, e: Point) -> i64
 }
 
 /// `n . m`
-pub fn dot_of_normals(n: Normal, m: Normal) -> i64
+pub(crate) fn dot_of_normals(n: Normal, m: Normal) -> i64
     ensures value { result ≡ dot n.x n.y n.z m.x m.y m.z }
     ensures bound { IsWithin greatest_scalar result }
 {
@@ -29,7 +29,7 @@ pub fn dot_of_normals(n: Normal, m: Normal) -> i64
 ///
 /// It is `|e - a|^2 |n|^2 - (e - a) . V`, and `(n x u) . t = n . (u x t)`: so each term is the square of a step times
 /// a scalar product of two normals.
-pub fn power_of_triangle(a: Point, b: Point, c: Point, e: Point) -> i128
+pub(crate) fn power_of_triangle(a: Point, b: Point, c: Point, e: Point) -> i128
     ensures { result ≡ triangle_power a b c e }
 {
     let u = Step::between(a, b);

@@ -9,7 +9,7 @@ use Rattle.point_order.specs.Coordinates.{x_of, y_of, z_of}
 use Rattle.point_order.specs.Orientation.{x_from, y_from, z_from, minor, triple, normal_x, normal_y, normal_z}
 use Rattle.point_order.specs.Orientation.{orientation}
 use Rattle.del_laws.proofs.CellFacts.{open_by_mate}
-use Rattle.tile_cells.specs.Tiles.{Box, IsInBox, over_plane, IsAbove, AboveIsWhole}
+use Rattle.tile_cells.specs.Tiles.{Box, LiesIn, over_plane, IsAbove, AboveIsWhole}
 
 -- products of a difference
 parted : (m a b : ℤ) → m *ℤ (a -ℤ b) ≡ m *ℤ a -ℤ m *ℤ b
@@ -73,7 +73,7 @@ height_of a b c e =
     (z_from a e)
 
 -- a point of a box above the plane is above it
-above : (a b c e : ℕ) (k : Box) → IsAbove a b c k → IsInBox k e → pos 0 <ℤ orientation a b c e
+above : (a b c e : ℕ) (k : Box) → IsAbove a b c k → LiesIn k e → pos 0 <ℤ orientation a b c e
 unfolding over_plane
 above a b c e k u m =
     let n1 = normal_x a b c in

@@ -36,7 +36,7 @@ pub record Box : Type 0 where
   pub high : ℕ
 
 -- the point e lies in it
-pub record IsInBox (k : Box) (e : ℕ) : Type 0 where
+pub record LiesIn (k : Box) (e : ℕ) : Type 0 where
   pub x_low : x_of k.low ≤ x_of e
   pub x_high : x_of e ≤ x_of k.high
   pub y_low : y_of k.low ≤ y_of e
@@ -66,5 +66,5 @@ pub record IsAbove (a b c : ℕ) (k : Box) : Type 0 where
 abbrev pub AboveIsWhole : Type 0
 AboveIsWhole =
     (h : ℕ → ℕ) (t s : List ℕ) (boxes : List Box) (a b c : ℕ) → ((e : ℕ) → IsIn e t → IsIn e s) →
-    ((e : ℕ) → IsIn e s → IsIn e t ⊎ ((k : Box) × IsIn k boxes × IsInBox k e)) →
+    ((e : ℕ) → IsIn e s → IsIn e t ⊎ ((k : Box) × IsIn k boxes × LiesIn k e)) →
     ((k : Box) → IsIn k boxes → IsAbove a b c k) → Open h t a b c → Open h s a b c

@@ -8,7 +8,7 @@ use Rattle.point_order.specs.Sizes.{greatest_difference}
 use Rattle.point_order.proofs.Cited.{orientation_from}
 use Rattle.small_spheres.specs.Within.{square_of_centre}
 use Rattle.small_spheres.specs.Boxes.{low_gap, high_gap, is_clear}
-use Rattle.small_spheres.specs.Sizes.{greatest_scalar}
+use Rattle.small_spheres.proofs.ScalarProducts.{centre_square_from, read_scalar}
 use Rattle.small_spheres.proofs.boxes.sphere_inside.Goals as goal
 
 -- equal numbers have the same planes beyond
@@ -25,15 +25,12 @@ same_six : {r k l m n p q e f g h i j : Bool} → r ≡ ((k && l) && (m && n) &&
     n ≡ h → p ≡ i → q ≡ j → r ≡ ((e && f) && (g && h) && (i && j))
 same_six a b c d x y z = cc
 
--- a coordinate, a step and a scalar product are read as themselves
+-- a coordinate and a step are read as themselves
 read_coordinate : {x : ℤ} {k : ℕ} → x ≡ pos k → k < 16384 → to_z w64 (of_z w64 x) ≡ pos k
 read_coordinate e h = read (within_fits w64 (within_as e (within_below h)) (lit< tt)) ∙ e
 
 read_step : {x : ℤ} → IsWithin greatest_difference x → to_z w64 (of_z w64 x) ≡ x
 read_step h = read (within_fits w64 h (lit< tt))
-
-read_scalar : {x : ℤ} → IsWithin greatest_scalar x → to_z w64 (of_z w64 x) ≡ x
-read_scalar h = read (within_fits w64 h (lit< tt))
 
 pub returns : goal.returns
 returns c =
@@ -46,8 +43,9 @@ returns c =
     let o : to_z w64 (of_z w64 c.triple-o.result) ≡ orientation c.args.a c.args.b c.args.c c.args.d =
     read (within_fits w64 c.triple-o.ensures.bound (lit< tt)) ∙ c.triple-o.ensures.value
     ∙ orientation_from c.args.a c.args.b c.args.c c.args.d u.x u.y u.z v.x v.y v.z w.x w.y w.z in
-    let q : to_z w128 (of_z w128 c.centre_square-square.result) ≡ square_of_centre c.args.a c.args.b c.args.c c.args.d =
-    read (within_fits w128 c.centre_square-square.ensures.bound (lit< tt)) ∙ c.centre_square-square.ensures.value in
+    let q : to_z w128 (of_z w128 c.square_of-square.result) ≡ square_of_centre c.args.a c.args.b c.args.c c.args.d =
+    read (within_fits w128 c.square_of-square.ensures.bound (lit< tt)) ∙ c.square_of-square.ensures.value
+    ∙ centre_square_from c.args.a c.args.b c.args.c c.args.d n.ensures.x n.ensures.y n.ensures.z in
     same_six c.all_of.ensures
     (same_low c.low_end.ensures
     (c.is_first.ensures (x_of c.args.low) (read_coordinate c.x.ensures.value c.x.ensures.bound)) o q

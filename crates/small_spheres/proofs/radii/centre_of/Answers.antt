@@ -3,7 +3,7 @@ use Rattle.whole_ring.proofs.Cited.{read, within_fits}
 use Rattle.point_order.specs.Orientation.{distance}
 use Rattle.point_order.proofs.Cited.{distance_from, normal_x_from, normal_y_from, normal_z_from}
 use Rattle.small_spheres.proofs.ScalarProducts.{centre_x_from, centre_y_from, centre_z_from, read_minor}
-use Rattle.small_spheres.proofs.boxes.centre_of.Goals as goal
+use Rattle.small_spheres.proofs.radii.centre_of.Goals as goal
 
 pub returns-clause-x : goal.returns-clause-x
 returns-clause-x s =
