@@ -1,5 +1,6 @@
 /* Reads lines of three whole numbers, and writes the mesh as the command `mesh` does behind its replies, or with the
- * word `steps` the least alphas as the command `steps` does. */
+ * word `steps` the least alphas as the command `steps` does, or with `parts ALPHA` or `most COUNT` the solid parts as
+ * the command `parts` does. */
 #include "put.h"
 #include <string.h>
 
@@ -104,7 +105,63 @@ static int steps(void) {
     return 0;
 }
 
+/* Whether the points of a tetrahedron but one are all points of another. */
+static int is_side(const uint32_t *one, int but, const uint32_t *other) {
+    for (int i = 0; i < 4; i++) {
+        if (i != but && one[i] != other[0] && one[i] != other[1] && one[i] != other[2] && one[i] != other[3]) {
+            return 0;
+        }
+    }
+    return 1;
+}
+
+/* How many triangles only one of these tetrahedra has. */
+static uint64_t outer(const struct delaunay_c_cell *cells, uint64_t n) {
+    uint64_t sides = 0;
+    for (uint64_t i = 0; i < n; i++) {
+        for (int but = 0; but < 4; but++) {
+            int others = 0;
+            for (uint64_t k = 0; k < n; k++) {
+                others += k != i && is_side(&cells[i].a, but, &cells[k].a);
+            }
+            sides += others == 0;
+        }
+    }
+    return sides;
+}
+
+static int parts(uint64_t alpha) {
+    struct delaunay_c_part_sizes n = {0, 0};
+    struct delaunay_c_cell one;
+    uint64_t one_count;
+    int status = delaunay_c_solid_parts(given, count, alpha, &one, 0, &one_count, 0, &n);
+    struct delaunay_c_cell *cells = room(n.cells, sizeof *cells);
+    uint64_t *counts = room(n.parts, sizeof *counts);
+    if (status == DELAUNAY_C_ROOM) {
+        status = delaunay_c_solid_parts(given, count, alpha, cells, n.cells, counts, n.parts, &n);
+    }
+    if (status != DELAUNAY_C_OK) {
+        return status;
+    }
+    printf("mesh3-parts 1\nalpha %" PRIu64 "\nparts %" PRIu64 "\n", alpha, n.parts);
+    for (uint64_t i = 0; i < n.parts; cells += counts[i++]) {
+        printf("part %" PRIu64 " %" PRIu64 "\n", counts[i], outer(cells, counts[i]));
+    }
+    printf("end\n");
+    return 0;
+}
+
+static int most(uint32_t many) {
+    uint64_t alpha;
+    int status = delaunay_c_least_alpha(given, count, many, &alpha);
+    return status != DELAUNAY_C_OK ? status : parts(alpha);
+}
+
 int main(int argc, char **argv) {
     read_places();
-    return argc > 1 && strcmp(argv[1], "steps") == 0 ? steps() : mesh();
+    if (argc == 3) {
+        uint64_t number = strtoull(argv[2], NULL, 10);
+        return strcmp(argv[1], "parts") == 0 ? parts(number) : most((uint32_t)number);
+    }
+    return argc == 2 ? steps() : mesh();
 }

@@ -75,6 +75,9 @@ struct delaunay_c_mesh_sizes {
 struct delaunay_c_face_sizes {
     uint64_t points, edges, triangles, cells;
 };
+struct delaunay_c_part_sizes {
+    uint64_t cells, parts;
+};
 
 /* The mesh of the points at the given places, in any order; equal ones count once.
  *
@@ -106,6 +109,23 @@ uint8_t delaunay_c_alphas(const struct delaunay_c_place *given, size_t given_len
                           size_t edge_alphas_len, struct delaunay_c_triangle *triangles, size_t triangles_len,
                           struct delaunay_c_alphas *triangle_alphas, size_t triangle_alphas_len,
                           uint64_t *cell_alphas, size_t cell_alphas_len, struct delaunay_c_face_sizes *sizes);
+
+/* The solid parts of the alpha complex at an alpha: tetrahedra are of one part where a chain of admitted ones joins
+ * them, each sharing a triangle with the next. An alpha from DELAUNAY_C_BEYOND on counts as the one before.
+ *
+ * cells    the admitted tetrahedra, by numbers of the points of delaunay_c_mesh, one part after another, each part in
+ *          lexicographic order, the parts in that of their first tetrahedra
+ * counts   how many tetrahedra each part has
+ *
+ * OK, MEMORY, OUTSIDE, FLAT, ROOM or FULL. */
+uint8_t delaunay_c_solid_parts(const struct delaunay_c_place *given, size_t given_len, uint64_t alpha,
+                               struct delaunay_c_cell *cells, size_t cells_len, uint64_t *counts, size_t counts_len,
+                               struct delaunay_c_part_sizes *sizes);
+
+/* The least alpha at which each point is in an admitted tetrahedron and there are at most so many solid parts;
+ * DELAUNAY_C_BEYOND where there is none, as of no parts. Their number may rise again with alpha. OK, MEMORY, OUTSIDE,
+ * FLAT or FULL. */
+uint8_t delaunay_c_least_alpha(const struct delaunay_c_place *given, size_t given_len, uint32_t parts, uint64_t *least);
 
 /* A mesh that is edited. The caller keeps this struct anywhere, begins with {0}, which is the handle with no mesh, and
  * gives its address to the calls below. What the caller owes, no one checks:

@@ -25,9 +25,10 @@ static struct rooms {
     struct delaunay_c_triangle hull[ROOM], triangles[ROOM];
     struct delaunay_c_edge edges[ROOM];
     struct delaunay_c_alphas point_alphas[ROOM], edge_alphas[ROOM], triangle_alphas[ROOM];
-    uint64_t cell_alphas[ROOM];
+    uint64_t cell_alphas[ROOM], counts[ROOM], least;
     struct delaunay_c_mesh_sizes mesh;
     struct delaunay_c_face_sizes faces;
+    struct delaunay_c_part_sizes parts;
 } rooms, before, want;
 
 static struct delaunay_c_place given[COUNT];
@@ -42,6 +43,13 @@ static int alphas(void) {
     return delaunay_c_alphas(given, COUNT, r->point_alphas, ROOM, r->edges, ROOM, r->edge_alphas, ROOM, r->triangles,
                              ROOM, r->triangle_alphas, ROOM, r->cell_alphas, ROOM, &r->faces);
 }
+
+static int parts(void) {
+    struct rooms *r = &rooms;
+    return delaunay_c_solid_parts(given, COUNT, 1 << 20, r->cells, ROOM, r->counts, ROOM, &r->parts);
+}
+
+static int least(void) { return delaunay_c_least_alpha(given, COUNT, 1, &rooms.least); }
 
 /* How many allocations a call makes, each refused once; -1 where an answer is wrong. */
 static long refused(int (*call)(void)) {
@@ -192,12 +200,13 @@ int main(void) {
         }
         given[i] = (struct delaunay_c_place){v[0], v[1], v[2]};
     }
-    long of_mesh = refused(mesh), of_alphas = refused(alphas);
-    if (of_mesh <= 0 || of_alphas <= 0) {
-        printf("a wrong answer after a refusal: %ld %ld\n", of_mesh, of_alphas);
+    long of_mesh = refused(mesh), of_alphas = refused(alphas), of_parts = refused(parts), of_least = refused(least);
+    if (of_mesh <= 0 || of_alphas <= 0 || of_parts <= 0 || of_least <= 0) {
+        printf("a wrong answer after a refusal: %ld %ld %ld %ld\n", of_mesh, of_alphas, of_parts, of_least);
         return 1;
     }
-    printf("refusals: %ld of a mesh, %ld of alphas\n", of_mesh, of_alphas);
+    printf("refusals: %ld of a mesh, %ld of alphas, ", of_mesh, of_alphas);
+    printf("%ld of solid parts, %ld of a least alpha\n", of_parts, of_least);
     long of_open = refused_edit(opens, 99), of_add = refused_edit(adds, DELAUNAY_C_INSERTED);
     long of_take = refused_edit(takes, DELAUNAY_C_REMOVED), of_move = refused_edit(moves, DELAUNAY_C_MOVED);
     long of_complex = refused(edited), of_many = refused_many();

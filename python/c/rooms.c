@@ -22,10 +22,11 @@ static struct rooms {
     struct delaunay_c_triangle hull[ROOM], triangles[ROOM];
     struct delaunay_c_edge edges[ROOM];
     struct delaunay_c_alphas point_alphas[ROOM], edge_alphas[ROOM], triangle_alphas[ROOM];
-    uint64_t cell_alphas[ROOM];
+    uint64_t cell_alphas[ROOM], counts[ROOM];
 } r;
 static struct delaunay_c_mesh_sizes mesh;
 static struct delaunay_c_face_sizes faces;
+static struct delaunay_c_part_sizes parts;
 
 /* Whether all bytes of a room behind so many rows are as they were set. */
 static int is_blank(const void *room, size_t row, uint64_t rows) {
@@ -58,6 +59,10 @@ static int spare_rows(void) {
     CHECK(IS_BLANK(r.edge_alphas, faces.edges) && IS_BLANK(r.triangles, faces.triangles));
     CHECK(IS_BLANK(r.triangle_alphas, faces.triangles) && IS_BLANK(r.cell_alphas, faces.cells));
     memset(&r, 0x5a, sizeof r);
+    CHECK(delaunay_c_solid_parts(given, COUNT, UINT64_MAX, r.cells, ROOM, r.counts, ROOM, &parts) == DELAUNAY_C_OK);
+    CHECK(parts.cells == mesh.cells && parts.parts == 1 && r.counts[0] == mesh.cells);
+    CHECK(IS_BLANK(r.cells, parts.cells) && IS_BLANK(r.counts, parts.parts));
+    memset(&r, 0x5a, sizeof r);
     CHECK(delaunay_c_open(&handle, given, COUNT) == DELAUNAY_C_OK);
     CHECK(delaunay_c_complex(&handle, r.points, ROOM, r.cells, ROOM, r.neighbours, ROOM, r.hull, ROOM, &mesh) ==
           DELAUNAY_C_OK);
@@ -76,6 +81,13 @@ static int nulls(void) {
     CHECK(delaunay_c_alphas(given, COUNT, NULL, 0, NULL, 0, NULL, 0, NULL, 0, NULL, 0, NULL, 0, &faces) ==
           DELAUNAY_C_ROOM);
     CHECK(faces.points == COUNT && faces.cells == mesh.cells);
+    CHECK(delaunay_c_solid_parts(NULL, 0, 0, NULL, 0, NULL, 0, &parts) == DELAUNAY_C_FLAT);
+    CHECK(delaunay_c_solid_parts(given, COUNT, 0, NULL, 0, NULL, 0, &parts) == DELAUNAY_C_OK && parts.cells == 0);
+    CHECK(delaunay_c_solid_parts(given, COUNT, UINT64_MAX, NULL, 0, NULL, 0, &parts) == DELAUNAY_C_ROOM);
+    CHECK(parts.cells == mesh.cells && parts.parts == 1);
+    CHECK(delaunay_c_least_alpha(NULL, 0, 1, &count) == DELAUNAY_C_FLAT && count == 99);
+    CHECK(delaunay_c_least_alpha(given, COUNT, 0, &count) == DELAUNAY_C_OK && count == DELAUNAY_C_BEYOND);
+    CHECK(delaunay_c_least_alpha(given, COUNT, 1, &count) == DELAUNAY_C_OK && count < DELAUNAY_C_BEYOND);
     CHECK(delaunay_c_complex(&handle, NULL, 0, NULL, 0, NULL, 0, NULL, 0, &mesh) == DELAUNAY_C_ROOM);
     CHECK(delaunay_c_edit_many(&handle, NULL, 0, NULL, 0, &count) == DELAUNAY_C_OK && count == 0);
     count = 99;
@@ -95,6 +107,8 @@ static int first_statuses(void) {
     uint8_t reply;
     uint64_t count = 99;
     delaunay_c_close(&handle);
+    CHECK(delaunay_c_least_alpha(&outside, 1, 1, &count) == DELAUNAY_C_OUTSIDE && count == 99);
+    CHECK(delaunay_c_solid_parts(&outside, 1, 0, NULL, 0, NULL, 0, &parts) == DELAUNAY_C_OUTSIDE);
     CHECK(delaunay_c_add(&handle, &outside, &reply) == DELAUNAY_C_OUTSIDE);
     CHECK(delaunay_c_take(&handle, &outside, &reply) == DELAUNAY_C_OUTSIDE);
     CHECK(delaunay_c_move(&handle, &given[0], &outside, &reply) == DELAUNAY_C_OUTSIDE);

@@ -6,7 +6,8 @@
     shape = mesh.alpha(0.3)                        # a radius in the unit of the points; or alpha_shape(points, 0.3)
     triangles = shape.boundary()                   # shape.volume(), shape.area()
     shape.parts(), shape.voids()                   # of the solid, and what it encloses (scipy)
-    mesh.optimal_alpha(parts=1)                    # the least radius with all points in so few parts (scipy)
+    mesh.optimal_alpha(parts=1)                    # the least radius with all points in so few parts
+    mesh.solid_parts(0.3)                          # the tetrahedra, part by part
     mesh.filtration().to_gudhi()                   # a SimplexTree
     mesh.add(more), mesh.take(indices), mesh.move(indices, places)      # edits, each with its reply
     mesh.locate(places), mesh.nearest(places), mesh.find_simplex(places)
@@ -24,10 +25,10 @@ from ._interpolate import Interpolator
 from ._kinds import BEYOND_HULL, CELL, INTERIOR, POINT, REGULAR, SINGULAR
 from ._looks import Located
 from ._mesh import Mesh, RoundingWarning, alpha_shape, delaunay
-from ._shape import Filtration, Shape, Voids
+from ._shape import Filtration, Shape, SolidParts, Voids
 from ._version import __version__ as __version__
 from ._voronoi import Voronoi
 
-__all__ = ['delaunay', 'alpha_shape', 'Mesh', 'Shape', 'Voids', 'Filtration', 'Located', 'Voronoi', 'Interpolator',
-           'Placing', 'RoundingWarning', 'HanskupError', 'Flat', 'Full', 'OutOfRange', 'WantOfMemory', 'SINGULAR',
-           'REGULAR', 'INTERIOR', 'POINT', 'CELL', 'BEYOND_HULL']
+__all__ = ['delaunay', 'alpha_shape', 'Mesh', 'Shape', 'SolidParts', 'Voids', 'Filtration', 'Located', 'Voronoi',
+           'Interpolator', 'Placing', 'RoundingWarning', 'HanskupError', 'Flat', 'Full', 'OutOfRange', 'WantOfMemory',
+           'SINGULAR', 'REGULAR', 'INTERIOR', 'POINT', 'CELL', 'BEYOND_HULL']

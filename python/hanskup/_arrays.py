@@ -7,7 +7,7 @@ import numpy as np
 import numpy.typing as npt
 
 from . import _library
-from ._grid import OTHERS, Placing, cross, dot, keys, outwards, volumes
+from ._grid import Placing, by_number, cross, dot, edge_ends, keys, outwards, volumes
 from ._kept import forget, kept, sealed
 from ._kinds import Bools, Floats, Ints, Numbers, Rows
 from ._library import BEYOND, NONE
@@ -85,8 +85,12 @@ class Arrays:
     def _inverse(self) -> Ints:
         # (n,) the number on the grid of each point, -1 if it went.
         here = np.flatnonzero(self.living)
+        order = np.lexsort(self._places[here].T[::-1].astype(np.uint16))  # of 16 bits, so by radix
+        there = keys(self._places[here[order]])
+        fresh = np.ones(len(there), bool)
+        fresh[1:] = there[1:] != there[:-1]
         numbers = np.full(len(self.points), -1)
-        numbers[here] = np.searchsorted(keys(self.grid), keys(self._places[here]))
+        numbers[here[order]] = np.cumsum(fresh) - 1
         return numbers
 
     # ---- what the points have
@@ -133,11 +137,21 @@ class Arrays:
 
         A point that fell together with an earlier one, or that went, has none.
         """
-        cells, given, count = self.cells.astype(np.int64), self._given, len(self.points)
-        pairs = np.concatenate([cells[:, i] * len(self.grid) + cells[:, k] for i in range(4) for k in range(i + 1, 4)])
-        first, second = (given[ends].astype(np.int64) for ends in np.divmod(np.unique(pairs), len(self.grid)))
-        both = np.sort(np.concatenate([first * count + second, second * count + first]))
-        return np.searchsorted(both, np.arange(count + 1) * count), (both % count).astype(given.dtype)
+        count, given = len(self.points), self._given
+        ends = [given[end] for end in edge_ends(self.cells, self._rows.neighbours)]
+        lower, upper = np.minimum(*ends), np.maximum(*ends)
+        both = np.sort(lower.astype(np.uint64) << 32 | upper.astype(np.uint64))
+        fresh = np.ones(len(both), bool)
+        fresh[1:] = both[1:] != both[:-1]
+        both = both[fresh]
+        lower, upper = (both >> 32).astype(given.dtype), both.astype(np.uint32).astype(given.dtype)
+        # Of each point first those below it, which the pairs have in the order of their upper ends, then those above.
+        below, above = np.bincount(upper, minlength=count), np.bincount(lower, minlength=count)
+        is_above = np.repeat(np.tile([False, True], count), np.column_stack([below, above]).reshape(-1))
+        around = np.empty(len(is_above), given.dtype)
+        around[is_above] = upper
+        around[~is_above] = lower[by_number(upper)]
+        return np.concatenate([[0], np.cumsum(below + above)]), around
 
     @kept
     def vertex_to_simplex(self) -> Rows:
@@ -163,10 +177,35 @@ class Arrays:
 
     @kept
     def convex_hull(self) -> Rows:
-        """(h, 3) int32, the triangles of the hull, by indices of points, turned outwards."""
-        i, k = np.nonzero(self.across < 0)
-        triangles = self.cells[i[:, None], OTHERS[k]]
-        return self._given[outwards(self.grid, triangles, self.grid[self.cells[i, k]])]
+        """(h, 3) int32, the triangles of the hull, by indices of points, turned outwards, in the order of `hull`."""
+        corners = self.grid[self.cells[0]]  # of a simplex: the mean of them lies inside
+        return self._given[outwards(self.grid * len(corners), self.hull, corners.sum(axis=0))]
+
+    @property
+    def hull_vertices(self) -> Rows:
+        """(k,) the points on the hull, ascending: of those that fell together the first. As scipy's ConvexHull.vertices,
+        but that points within a face or an edge of the hull, which it leaves out, are among them."""
+        return np.unique(self.convex_hull)
+
+    @kept
+    def hull_neighbors(self) -> Rows:
+        """(h, 3) int32, the triangle of `convex_hull` across from each corner of each, as ConvexHull.neighbors."""
+        corners = self.convex_hull
+        ends = np.sort(corners[:, [[1, 2], [0, 2], [0, 1]]].reshape(-1, 2), axis=1).astype(np.int64)
+        pairs = np.argsort(ends[:, 0] << 32 | ends[:, 1], kind='stable').reshape(-1, 2)  # an edge is in two triangles
+        across = np.empty(len(ends), corners.dtype)
+        across[pairs] = pairs[:, ::-1] // 3
+        return across.reshape(-1, 3)
+
+    @kept
+    def hull_equations(self) -> Floats:
+        """(h, 4) floats, a normal of length 1 and an offset for each triangle of `convex_hull`: of a place of the hull,
+        in the unit of the points, normal * place + offset is not above 0 but for rounding. As ConvexHull.equations."""
+        grid = self.placing.to_user(self.grid) if self.placing else self.grid.astype(float)
+        a, b, c = (grid[self._inverse[self.convex_hull[:, corner]]] for corner in range(3))
+        normals = cross(b - a, c - a)
+        normals /= np.sqrt(dot(normals, normals))[:, None]
+        return np.column_stack([normals, -dot(normals, a)])
 
     @kept
     def coplanar(self) -> Ints:
@@ -201,7 +240,9 @@ class Arrays:
         return (self.placing.unit if self.placing else 1.0) ** 2 / 16
 
     def _user(self, alphas: npt.NDArray[np.uint64]) -> Floats:
-        return np.where(alphas < BEYOND, alphas * self._square, np.inf)
+        made: Floats = alphas.view(np.int64) * self._square
+        made[alphas >= BEYOND] = np.inf
+        return made
 
     def filtration(self) -> Filtration:
         """All faces with their least alphas, as GUDHI's AlphaComplex has them.
@@ -223,9 +264,12 @@ class Arrays:
             ValueError: the radius is negative or not a number.
             WantOfMemory: there was no memory for the faces.
         """
+        return Shape(self, self._checked_sixteenths(radius))
+
+    def _checked_sixteenths(self, radius: float) -> int:
         if not radius >= 0:
             raise ValueError('a radius is 0 or more')
-        return Shape(self, self._sixteenths(radius))
+        return self._sixteenths(radius)
 
     def _sixteenths(self, radius: float) -> int:
         sixteenths = radius * radius / self._square

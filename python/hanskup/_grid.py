@@ -4,12 +4,16 @@ from __future__ import annotations
 from dataclasses import dataclass
 
 import numpy as np
+import numpy.typing as npt
 
 from ._errors import GREATEST, OutOfRange
 from ._kinds import ArrayLike, Floats, Ints, Numbers, Rows
 
 # The three other corners of each corner of a tetrahedron.
 OTHERS = np.array([[1, 2, 3], [0, 2, 3], [0, 1, 3], [0, 1, 2]])
+
+# The two corners of each edge of a tetrahedron, and the two others: across from these are the next cells around it.
+EDGES = np.array([[0, 1, 2, 3], [0, 2, 1, 3], [0, 3, 1, 2], [1, 2, 0, 3], [1, 3, 0, 2], [2, 3, 0, 1]])
 
 
 @dataclass(frozen=True)
@@ -77,6 +81,24 @@ def cubes_of(places: Numbers, count: int) -> Ints:
     return numbers
 
 
+def by_number(numbers: Rows) -> Ints:
+    """The order of numbers that are not negative, equal ones as they come: by radix, 16 bits at a time."""
+    order = np.argsort(numbers.astype(np.uint16), kind='stable')
+    for shift in range(16, int(numbers.max(initial=0)).bit_length(), 16):
+        order = order[np.argsort((numbers >> shift).astype(np.uint16)[order], kind='stable')]
+    return order
+
+
+def edge_ends(cells: Rows, across: npt.NDArray[np.uint32]) -> tuple[Rows, Rows]:
+    """The lower and the upper ends of all edges of a mesh, each edge once or a few times: of the cells around it those
+    from which both next ones have greater numbers, or are outside."""
+    numbers = np.arange(len(cells), dtype=np.uint32)
+    greater = [across[:, corner] > numbers for corner in range(4)]
+    found = [np.flatnonzero(greater[one] & greater[other]) for _, _, one, other in EDGES]
+    lower, upper = (np.concatenate([cells[at, edge[end]] for at, edge in zip(found, EDGES)]) for end in (0, 1))
+    return lower, upper
+
+
 def cross(a: Numbers, b: Numbers) -> Numbers:
     """The vector products of rows of three."""
     (a0, a1, a2), (b0, b1, b2) = a.T, b.T
@@ -91,12 +113,16 @@ def dot(a: Numbers, b: Numbers) -> Numbers:
 
 def volumes(grid: Ints, cells: Rows) -> Ints:
     """Six times the signed volumes of cells, exact: below 2^45."""
-    a, b, c, d = (grid[cells[:, i]] for i in range(4))
-    return dot(cross(b - a, c - a), d - a)
+    made = np.empty(len(cells), np.int64)
+    for start in range(0, len(cells), 1 << 14):  # the places of all corners never stand side by side
+        piece = slice(start, start + (1 << 14))
+        a, b, c, d = (grid[cells[piece, i]] for i in range(4))
+        made[piece] = dot(cross(b - a, c - a), d - a)
+    return made
 
 
 def outwards(grid: Ints, triangles: Rows, inner: Ints) -> Rows:
-    """The triangles, turned so that their inner points lie behind them."""
+    """The triangles, turned so that an inner point, or one of each, lies behind them."""
     a, b, c = (grid[triangles[:, i]] for i in range(3))
     turned = dot(cross(b - a, c - a), inner - a) > 0
     triangles = triangles.copy()

@@ -15,7 +15,8 @@ from ._errors import GREATEST, Flat, Full, HanskupError, OutOfRange, WantOfMemor
 from ._kinds import Ints, Numbers
 
 __all__ = ['GREATEST', 'NONE', 'BEYOND', 'Flat', 'Full', 'HanskupError', 'OutOfRange', 'WantOfMemory', 'MeshRows',
-           'FaceRows', 'mesh_rows', 'face_rows', 'library', 'room', 'given_room', 'slices', 'written_rows', 'MeshSizes']
+           'FaceRows', 'mesh_rows', 'face_rows', 'part_rows', 'least_alpha', 'HAS_PARTS', 'library', 'room',
+           'given_room', 'slices', 'written_rows', 'MeshSizes']
 
 NONE = 0xFFFFFFFF  #: in the place of a neighbour, where a triangle of the hull is
 BEYOND = 1 << 34  #: an alpha is below this
@@ -33,6 +34,10 @@ class MeshSizes(ctypes.Structure):
 class _FaceSizes(ctypes.Structure):
     _fields_ = [('points', ctypes.c_uint64), ('edges', ctypes.c_uint64), ('triangles', ctypes.c_uint64),
                 ('cells', ctypes.c_uint64)]
+
+
+class _PartSizes(ctypes.Structure):
+    _fields_ = [('cells', ctypes.c_uint64), ('parts', ctypes.c_uint64)]
 
 
 class MeshRows(NamedTuple):
@@ -65,10 +70,16 @@ def _load() -> ctypes.CDLL:
     loaded.delaunay_c_mesh.argtypes = words * 5 + [ctypes.POINTER(MeshSizes)]
     loaded.delaunay_c_alphas.restype = ctypes.c_uint8
     loaded.delaunay_c_alphas.argtypes = words * 7 + [ctypes.POINTER(_FaceSizes)]
+    if hasattr(loaded, 'delaunay_c_solid_parts'):
+        loaded.delaunay_c_solid_parts.restype = ctypes.c_uint8
+        loaded.delaunay_c_solid_parts.argtypes = words + [ctypes.c_uint64] + words * 2 + [ctypes.POINTER(_PartSizes)]
+        loaded.delaunay_c_least_alpha.restype = ctypes.c_uint8
+        loaded.delaunay_c_least_alpha.argtypes = words + [ctypes.c_uint32, ctypes.POINTER(ctypes.c_uint64)]
     return loaded
 
 
 library = _load()
+HAS_PARTS = hasattr(library, 'delaunay_c_solid_parts')
 
 
 def room(rows: int, columns: int, kind: npt.DTypeLike) -> Numbers:
@@ -131,3 +142,26 @@ def face_rows(places: Numbers, cells: int, hull: int) -> FaceRows:
     written = [one[:count] for one, count in zip(rooms, counts)]
     point_alphas, edges, edge_alphas, sides, side_alphas, cell_alphas = written
     return FaceRows(point_alphas, edges, edge_alphas, sides, side_alphas, cell_alphas[:, 0])
+
+
+def part_rows(places: Numbers, alpha: int, cells: int) -> tuple[Unsigned, Ints]:
+    """The cells of the solid parts of the mesh of places at an alpha, (k, 4), one part after another, and how many each
+    has; of a mesh of so many cells.
+
+    Raises as mesh_rows does.
+    """
+    given, sizes = given_room(places), _PartSizes(cells, cells)
+    rows, counts = room(cells, 4, np.uint32), room(cells, 1, np.uint64)
+    check(library.delaunay_c_solid_parts(*slices(given), alpha, *slices(rows, counts), ctypes.byref(sizes)))
+    return rows[:sizes.cells], counts[:sizes.parts, 0].astype(np.int64)
+
+
+def least_alpha(places: Numbers, parts: int) -> int | None:
+    """The least alpha at which each of the places is in an admitted cell and there are at most so many solid parts, if
+    there is one.
+
+    Raises as mesh_rows does.
+    """
+    given, least = given_room(places), ctypes.c_uint64()
+    check(library.delaunay_c_least_alpha(*slices(given), min(parts, NONE), ctypes.byref(least)))
+    return least.value if least.value < BEYOND else None

@@ -7,12 +7,13 @@ from typing import NamedTuple
 import numpy as np
 
 from ._edits import Edits
-from ._grid import cubes_of, keys, numbers_of
+from ._grid import cubes_of, dot, keys, numbers_of
 from ._interpolate import Interpolator, Linear, Natural
 from ._kinds import ArrayLike, Ints, Numbers, Rows
 from ._progress import pieces
 
 _PIECE = 16384
+_FEW = 64  # of so many places the nearest points are looked for among all, before the library's mesh is made for them
 
 
 class Located(NamedTuple):
@@ -64,7 +65,8 @@ class Looks(Edits):
 
     def nearest(self, points: ArrayLike, progress: bool = True) -> Rows:
         """(k,) the index of the point that is nearest to each place, on the grid: of those as near the first by x, then
-        y, then z. Proved, but for the indices.
+        y, then z. Proved, but for the indices; but where the library has no part of the mesh yet and the places are 64
+        at most, it is Python over the proved rows, by the definition, and tested.
 
         Args:
             points: (k, 3), or (3,) for one; whole numbers or floats, as the mesh was made of, in their unit.
@@ -73,11 +75,21 @@ class Looks(Edits):
             ValueError, OutOfRange: as of add.
         """
         _, places = self._to_places(points)
-        near = np.empty((len(places), 3), np.int64)
+        near = np.empty(len(places), self._given.dtype)
+        look = self._nearest_of_all if self._edited is None and len(places) <= _FEW else self._nearest_by_walks
         order = _in_order(places)
         for piece in pieces(len(places), _PIECE, 'place', progress):
-            near[order[piece]] = self._handle.nearest(places[order[piece]])
-        return self._index_at(near)
+            near[order[piece]] = look(places[order[piece]])
+        return near
+
+    def _nearest_by_walks(self, places: Ints) -> Rows:
+        return self._index_at(self._handle.nearest(places))
+
+    def _nearest_of_all(self, places: Ints) -> Rows:
+        # By the definition: the first of the least distances, since the points of the grid ascend.
+        near = [dot(apart, apart).argmin() for apart in (self.grid - place for place in places)]
+        found: Rows = self._given[near]
+        return found
 
     def find_simplex(self, points: ArrayLike, progress: bool = True) -> Ints:
         """(k,) the simplex that has each place, -1 outside of the hull, as scipy's find_simplex. Where several have it,

@@ -7,7 +7,7 @@ from typing import Any
 
 import numpy as np
 
-from . import _adapters, _parts
+from . import _adapters, _library, _parts
 from ._errors import GREATEST, Flat, OutOfRange
 from ._grid import Placing, numbers_of, placed, volumes
 from ._kept import sealed
@@ -15,7 +15,7 @@ from ._kinds import ArrayLike, Ints, Numbers, Rows
 from ._library import mesh_rows
 from ._looks import Looks
 from ._progress import waiting
-from ._shape import Shape, area_of
+from ._shape import Shape, SolidParts, area_of
 from ._voronoi import Voronoi
 
 
@@ -52,7 +52,8 @@ class Mesh(Looks):
 
     def __getstate__(self) -> dict[str, Any]:
         # A copy and a pickle have no part of the library's mesh: that is made anew when it is wanted.
-        state = {name: getattr(self, name) for name in ('points', 'living', 'placing', '_places', '_rows')}
+        names = ('points', 'living', 'placing', '_places', '_rows', '_inverse', '_given')
+        state = {name: getattr(self, name) for name in names}
         return {**state, '_edited': None, '_shared': None}
 
     def __setstate__(self, state: dict[str, Any]) -> None:
@@ -82,7 +83,8 @@ class Mesh(Looks):
         have at most so many solid parts, as `delaunay parts --most` and CGAL's find_optimal_alpha have it; infinity
         where there is none. The number of parts may rise again with the radius.
 
-        It is Python over the proved rows, and tested beside the program. It needs scipy.
+        Proved, but for the unit. Where the library is one without this call it is Python over the proved rows, and
+        needs scipy.
 
         Raises:
             ValueError: fewer than one part is asked for.
@@ -90,8 +92,30 @@ class Mesh(Looks):
         """
         if not parts >= 1:
             raise ValueError('there is one part at least')
-        sixteenths = _parts.least_alpha(self, parts)
+        if _library.HAS_PARTS:
+            with waiting('optimal_alpha'):
+                sixteenths = _library.least_alpha(self.grid, int(parts))
+        else:
+            sixteenths = _parts.least_alpha(self, parts)
         return math.inf if sixteenths is None else _parts.radius_of(sixteenths, self._square)
+
+    def solid_parts(self, radius: float) -> SolidParts:
+        """The solid parts of the alpha complex at a radius, in the unit of the points. Proved, but for the indices and
+        the unit. Where the library is one without this call it is as Shape.parts.
+
+        Raises:
+            ValueError: the radius is negative or not a number.
+            WantOfMemory: there was no memory for the faces.
+        """
+        if not _library.HAS_PARTS:
+            shape = self.alpha(radius)
+            numbers = shape.parts()
+            order = np.argsort(numbers, kind='stable')
+            return SolidParts(shape.tetrahedra[order], numbers[order])
+        sixteenths = self._checked_sixteenths(radius)
+        with waiting('solid_parts'):
+            rows, counts = _library.part_rows(self.grid, sixteenths, len(self._rows.cells))
+        return SolidParts(self._given[rows], np.repeat(np.arange(len(counts)), counts))
 
     def voronoi(self) -> Voronoi:
         """The regions of the points: their vertices, ridges and volumes, with scipy.spatial.Voronoi's names.

@@ -30,6 +30,12 @@ def pieces(count: int, length: int, unit: str, progress: bool = True) -> Iterato
             bar.close()
 
 
+def counting(done: Iterator[Any], count: int, unit: str, progress: bool = True) -> Iterator[Any]:
+    """What is done, as it comes, with a bar that counts it."""
+    tqdm = _tqdm() if progress else None
+    yield from tqdm(done, total=count, unit=unit, delay=1, disable=None) if tqdm else done
+
+
 @contextmanager
 def waiting(what: str, progress: bool = True) -> Iterator[None]:
     """While one call of the library runs, which tells nothing on its way: a line with the time that it has taken."""

@@ -37,6 +37,12 @@ class Filtration(NamedTuple):
         return _adapters.to_gudhi(self)
 
 
+class SolidParts(NamedTuple):
+    """The solid parts of an alpha complex: tetrahedra that chains join, each sharing a triangle with the next."""
+    tetrahedra: Rows  #: (k, 4) indices of points, one part after another, the parts in the order of the grid
+    numbers: Ints  #: (k,) the part that each is of, from 0
+
+
 class Voids(NamedTuple):
     """What an alpha complex encloses: the tetrahedra that are not in it and from which no way leads outside but through
     one of its triangles."""

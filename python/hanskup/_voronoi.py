@@ -4,18 +4,17 @@ from __future__ import annotations
 from typing import TYPE_CHECKING
 
 import numpy as np
+import numpy.typing as npt
 
 from ._graphs import joined
-from ._grid import cross, dot, volumes
+from ._grid import EDGES, by_number, cross, dot, volumes
 from ._kept import kept
 from ._kinds import Bools, Floats, Ints, Numbers, Rows
 
 if TYPE_CHECKING:
     from ._arrays import Arrays
 
-# The two corners of each edge of a tetrahedron, and the two others: across from these are the next cells around it.
-_EDGES = np.array([[0, 1, 2, 3], [0, 2, 1, 3], [0, 3, 1, 2], [1, 2, 0, 3], [1, 3, 0, 2], [2, 3, 0, 1]])
-
+_CLOSED = 1 << 62  # more than every number that _begins tells of an edge of the hull
 
 class Voronoi:
     """The regions of the points: of each the places that are as near to it as to any other. Fields with names of
@@ -35,8 +34,9 @@ class Voronoi:
         self.points: Numbers = mesh.points
         self._given, self._inverse, self._grid = mesh._given, mesh._inverse, grid
         self._unit = mesh.placing.unit if mesh.placing else 1.0
-        self.simplex_vertices, first = _vertices(grid, cells, mesh.across)
-        self._centres = _centres(grid, cells[first])
+        self._cells, centres = cells, _centres(grid, cells)
+        self.simplex_vertices, first = _vertices(grid, cells, mesh.across, centres)
+        self._centres = centres[first]
         self.vertices: Floats = mesh.placing.to_user(self._centres) if mesh.placing else self._centres
         self._pairs, self._starts, self._around, self._open = _ridges(mesh, self.simplex_vertices)
         self._unbounded = np.zeros(len(grid), bool)
@@ -52,13 +52,20 @@ class Voronoi:
         reaches beyond all bounds."""
         return _lists(self._around, self._starts, self._open)
 
+    @property
+    def ridge_dict(self) -> dict[tuple[int, int], list[int]]:
+        """The vertices of each ridge, by its pair of points."""
+        return dict(zip(map(tuple, self.ridge_points.tolist()), self.ridge_vertices))
+
     @kept
     def regions(self) -> list[list[int]]:
         """Lists of vertices, the corners of the region of each point of the grid in ascending order; with -1 at the
         front where it reaches beyond all bounds."""
-        sizes = np.diff(self._starts)
-        pairs = [np.repeat(self._pairs[:, side], sizes) * len(self.vertices) + self._around for side in (0, 1)]
-        region, vertex = np.divmod(np.unique(np.concatenate(pairs)), len(self.vertices))
+        corners = self._cells.reshape(-1)
+        vertex = self.simplex_vertices[by_number(corners) // 4]  # of each point those of its cells
+        region = np.repeat(np.arange(len(self._grid)), np.bincount(corners, minlength=len(self._grid)))
+        if len(self.vertices) < len(self._cells):
+            region, vertex = np.divmod(np.unique(region * len(self.vertices) + vertex), len(self.vertices))
         return _lists(vertex, np.searchsorted(region, np.arange(len(self._grid) + 1)), self._unbounded)
 
     @kept
@@ -93,7 +100,10 @@ class Voronoi:
 def _lists(numbers: Ints, starts: Ints, are_open: Bools) -> list[list[int]]:
     """The numbers from each start to the next, with -1 at the front of those that are open."""
     flat, ends = numbers.tolist(), starts.tolist()
-    return [[-1] * out + flat[start:end] for start, end, out in zip(ends, ends[1:], are_open.tolist())]
+    lists = [flat[start:end] for start, end in zip(ends, ends[1:])]
+    for number in np.flatnonzero(are_open).tolist():
+        lists[number].insert(0, -1)
+    return lists
 
 
 def _terms(grid: Ints, cells: Rows) -> tuple[Ints, Ints, Ints]:
@@ -111,11 +121,15 @@ def _centres(grid: Ints, cells: Rows) -> Floats:
     return np.asarray(first + above / below[:, None], float)
 
 
-def _vertices(grid: Ints, cells: Rows, across: Rows) -> tuple[Ints, Ints]:
+def _vertices(grid: Ints, cells: Rows, across: Rows, centres: Floats) -> tuple[Ints, Ints]:
     """The vertex of each cell, and the first cell of each vertex. Cells side by side with one sphere have one vertex:
     this is exact."""
-    i, k = np.nonzero(across > np.arange(len(cells))[:, None])
+    i, k = np.nonzero(across > np.arange(len(cells), dtype=across.dtype)[:, None])
     beside = across[i, k]
+    # Where the spheres are one the centres, exact fractions that were rounded, differ by less than this.
+    slack = 1e-9 + 1e-14 * np.abs(centres).max(axis=1)
+    near = np.flatnonzero(np.abs(centres[i, 0] - centres[beside, 0]) <= slack[i] + slack[beside])
+    i, k, beside = i[near], k[near], beside[near]
     far = np.argmax(across[beside] == i[:, None], axis=1)  # the corner of the other cell that this one has not
     same = _on_sphere(grid, cells[i], grid[cells[beside, far]])
     if not same.any():
@@ -141,61 +155,94 @@ def _on_sphere(grid: Ints, cells: Rows, places: Ints) -> Bools:
 def _ridges(mesh: Arrays, vertex: Ints) -> tuple[Rows, Ints, Ints, Bools]:
     """The pairs of points with a ridge, by their numbers; the starts of each one's vertices, which go around it; these
     vertices; and whether it has no bounds."""
-    pairs, (ring, cell), is_open = _rings(mesh.cells, mesh.across)
+    pairs, sizes, cell, is_open = _rings(mesh.cells, mesh.across)
     at = vertex[cell]
-    behind = np.roll(at, 1)
-    first = np.ones(len(ring), bool)
-    first[1:] = ring[1:] != ring[:-1]
-    behind[first] = np.where(is_open, -1, at[np.roll(first, -1)])  # a ring that is closed comes back to its first
-    stands = at != behind
-    ring, at = ring[stands], at[stands]
-    sizes = np.bincount(ring, minlength=len(pairs))
+    if vertex.max() + 1 < len(vertex):  # of cells with one vertex side by side the first counts
+        ends = np.cumsum(sizes)
+        firsts = ends - sizes
+        behind = np.roll(at, 1)
+        behind[firsts] = np.where(is_open, -1, at[ends - 1])  # a ring that is closed comes back to its first
+        stands = at != behind
+        at, sizes = at[stands], np.add.reduceat(stands, firsts, dtype=np.int64)
     ridge = np.where(is_open, sizes > _in_planes(mesh, pairs, is_open), sizes > 2)
-    return pairs[ridge], np.concatenate([[0], np.cumsum(sizes[ridge])]), at[ridge[ring]], is_open[ridge]
+    if not ridge.all():
+        at = at[np.repeat(ridge, sizes)]
+    return pairs[ridge], np.concatenate([[0], np.cumsum(sizes[ridge])]), at, is_open[ridge]
 
 
 def _in_planes(mesh: Arrays, pairs: Rows, is_open: Bools) -> Ints:
     """1 for the edges of the hull both of whose triangles lie in one plane, else 0."""
-    count = len(mesh.grid)
     sides = np.concatenate([mesh.hull[:, [0, 1, 2]], mesh.hull[:, [0, 2, 1]], mesh.hull[:, [1, 2, 0]]])
-    order = np.argsort(sides[:, 0] * np.int64(count) + sides[:, 1], kind='stable')
+    order = np.argsort(sides[:, 0].astype(np.int64) << 32 | sides[:, 1], kind='stable')
     twice = sides[order].reshape(-1, 2, 3)  # each edge of the hull is in two of its triangles
     flat = np.zeros(len(pairs), np.int64)
     flat[is_open] = volumes(mesh.grid, np.column_stack([twice[:, 0], twice[:, 1, 2]])) == 0
     return flat
 
 
-def _rings(cells: Rows, across: Rows) -> tuple[Rows, tuple[Ints, Ints], Bools]:
-    """The edges of a mesh, ascending; rows of an edge and a cell, which go around each edge one after another; and of
-    each edge whether it is one of the hull, where they go from one end to the other."""
-    count = int(cells.max()) + 1
-    ends = [cells[:, pair].astype(np.int64) for pair in _EDGES[:, :2]]
-    found = np.concatenate([pair[:, 0] * count + pair[:, 1] for pair in ends])
-    edge_keys, edge = np.unique(found, return_inverse=True)
-    pairs = np.stack(np.divmod(edge_keys, count), axis=1).astype(cells.dtype)
-    edge = edge.reshape(len(_EDGES), len(cells)).T  # of each cell and each of its edges
-    number, cell = edge.reshape(-1), np.repeat(np.arange(len(cells)), len(_EDGES))
-    sides = across[:, _EDGES[:, 2:]].reshape(-1, 2)  # through which the next cells around the edge lie
-    is_open = np.zeros(len(pairs), bool)
-    is_open[number[(sides < 0).any(axis=1)]] = True
-    # Each begins at a cell with a side of the hull, where it has one.
-    order = np.lexsort(((sides >= 0).all(axis=1), number))
-    begin = order[np.searchsorted(number[order], np.arange(len(pairs)))]
-    return pairs, _around(cells, across, pairs, cell[begin], sides[begin]), is_open
+def _rings(cells: Rows, across: Rows) -> tuple[Rows, Ints, Ints, Bools]:
+    """The edges of a mesh, ascending; how many cells are around each; the cells around one after another, of all edges;
+    and of each edge whether it is one of the hull, where they go from one end to the other."""
+    edge, begin = _begins(cells, across)
+    order = np.argsort(edge)
+    edge, begin = edge[order], begin[order]
+    fresh = np.ones(len(edge), bool)
+    fresh[1:] = edge[1:] != edge[:-1]
+    begin = np.minimum.reduceat(begin, np.flatnonzero(fresh))
+    pairs = np.stack([edge[fresh] >> 32, edge[fresh] & 0xFFFFFFFF], axis=1).astype(cells.dtype)
+    is_open = begin < _CLOSED
+    sizes, cell = _around(cells, across, *np.divmod(begin & (_CLOSED - 1), len(EDGES)))
+    return pairs, sizes, cell, is_open
 
 
-def _around(cells: Rows, across: Rows, pairs: Rows, start: Ints, sides: Rows) -> tuple[Ints, Ints]:
-    """Rows of an edge and a cell, from a first cell of each edge on, all edges at once."""
-    going, at, before = np.arange(len(pairs)), start.astype(np.int64), np.full(len(pairs), -2)
-    steps: list[tuple[Ints, Ints]] = []
-    ahead = np.where(sides[:, 0] >= 0, sides[:, 0], sides[:, 1]).astype(np.int64)
+def _begins(cells: Rows, across: Rows) -> tuple[Ints, Ints]:
+    """Edges, and cells where a way around each can begin: of an edge of the hull those with a side of the hull, of
+    another those from which both next ones have greater numbers. Of an edge the least number tells where it does: the
+    cell, and which of its edges it is, and _CLOSED more where no side of the hull is at hand."""
+    numbers = np.arange(len(cells))
+    ends = cells.T.astype(np.int64)
+    outside = [across[:, corner] < 0 for corner in range(4)]
+    greater = [out | (across[:, corner] > numbers) for corner, out in enumerate(outside)]
+    edges, begins = [], []
+    for number, (lower, upper, one, other) in enumerate(EDGES):
+        out = outside[one] | outside[other]
+        at = np.flatnonzero(out | greater[one] & greater[other])
+        edges.append(ends[lower, at] << 32 | ends[upper, at])
+        begins.append(at * len(EDGES) + number + np.where(out[at], 0, _CLOSED))
+    return np.concatenate(edges), np.concatenate(begins)
+
+
+def _around(cells: Rows, across: Rows, start: Ints, edge: Ints) -> tuple[Ints, Ints]:
+    """How many cells are around each of some edges, and these, one after another: from a first cell on, of which it is
+    that edge, all edges at once."""
+    far = _fars(cells, across)
+    through, other = EDGES[edge, 2].astype(np.int8), EDGES[edge, 3].astype(np.int8)
+    back = across[start, through] < 0  # a side of the hull: the other way
+    through[back], other[back] = other[back], through[back]
+    beside, far = across.reshape(-1), far.reshape(-1)
+    going, at, first = np.arange(len(start)), start, start
+    sizes, steps = np.zeros(len(start), np.int64), []
     while len(going):
         steps.append((going, at))
-        on = (ahead >= 0) & (ahead != start[going])
-        going, before, at = going[on], at[on], ahead[on]
-        rows, beside = cells[at], across[at]
-        other = (rows != pairs[going, :1]) & (rows != pairs[going, 1:]) & (beside != before[:, None])
-        ahead = np.where(other.any(axis=1), beside[np.arange(len(at)), other.argmax(axis=1)], -1)
-    ring, cell = np.concatenate([ring for ring, _ in steps]), np.concatenate([cell for _, cell in steps])
-    order = np.argsort(ring, kind='stable')
-    return ring[order], cell[order]
+        sizes[going] += 1
+        side = at * 4 + through
+        at = beside[side]
+        on = np.flatnonzero((at >= 0) & (at != first))
+        going, at, first, side, other = going[on], at[on], first[on], side[on], other[on] - (other > through)[on]
+        # The corners that both cells have stand in one order in each.
+        through, other = other + (other >= far[side]), far[side]
+    ends = np.cumsum(sizes)
+    around = np.empty(ends[-1], at.dtype)
+    for number, (going, at) in enumerate(steps):
+        around[(ends - sizes)[going] + number] = at
+    return sizes, around
+
+
+def _fars(cells: Rows, across: Rows) -> npt.NDArray[np.int8]:
+    """(c, 4) which corner of the cell across from each corner is the one that both have not."""
+    sums = cells.sum(axis=1, dtype=np.int64)
+    far = np.empty(cells.shape, np.int8)
+    for corner in range(4):
+        there = sums[across[:, corner]] - sums + cells[:, corner]  # that point; outside it is none
+        far[:, corner] = sum((there > cells[:, k]).astype(np.int8) for k in range(4) if k != corner)
+    return far

@@ -201,6 +201,20 @@ class Looks(unittest.TestCase):
                 key = lambda p: (int(((p - place) ** 2).sum()), *p.tolist())
                 self.assertEqual(mesh.points[i].tolist(), min(mesh.grid, key=key).tolist())
 
+    def test_first_nearest(self):
+        # Of few places it does not make the library's mesh, and of many it does: the answers are the same.
+        for greatest, seed in ((5, 16), (200, 17)):
+            points, places = drawn(60, greatest, seed), drawn(50, greatest, seed + 1)
+            mesh, other = hanskup.delaunay(points), hanskup.delaunay(points)
+            found = mesh.nearest(places)
+            self.assertIsNone(mesh._edited)
+            self.assertEqual(other.nearest(np.concatenate([places] * 2)).tolist(), found.tolist() * 2)
+            self.assertIsNotNone(other._edited)
+            for place, i in zip(places, found):
+                key = lambda p: (int(((p - place) ** 2).sum()), *p.tolist())
+                self.assertEqual(mesh.points[i].tolist(), min(mesh.grid, key=key).tolist())
+            self.assertEqual(mesh.nearest(places[:0]).tolist(), [])
+
     def test_locate(self):
         for mesh, places in self.meshes():
             at = {tuple(p) for p in mesh.grid.tolist()}
@@ -327,7 +341,7 @@ class Refused(unittest.TestCase):
             while not over:
                 at += 1
                 mesh = hanskup.delaunay(points)
-                mesh.nearest([5, 5, 5])
+                mesh.locate([5, 5, 5])
                 with mock.patch.object(_edits, '_PIECE', 1):
                     over = self.interrupted(mesh, call, at)
                 told = [tuple(p) if there else None for p, there in zip(mesh.points.tolist(), mesh.living)]
@@ -360,7 +374,8 @@ class Refused(unittest.TestCase):
             same_mesh(self, mesh)
 
     def test_copies(self):
-        for look in (lambda mesh: None, lambda mesh: mesh.nearest([1, 2, 3]), lambda mesh: mesh.add([1, 2, 3])):
+        for look in (lambda mesh: None, lambda mesh: mesh.nearest([1, 2, 3]), lambda mesh: mesh.locate([1, 2, 3]),
+                     lambda mesh: mesh.add([1, 2, 3])):
             for copied in (copy.copy, copy.deepcopy, lambda mesh: pickle.loads(pickle.dumps(mesh))):
                 mesh = hanskup.delaunay(drawn(50))
                 look(mesh)

@@ -157,6 +157,26 @@ class Others(unittest.TestCase):
         for i in range(len(points)):
             self.assertEqual(around[starts[i]:starts[i + 1]].tolist(), sorted(theirs[others[i]:others[i + 1]].tolist()))
 
+    @unittest.skipUnless(has('scipy'), 'scipy is not installed')
+    def test_hull_as_scipy(self):
+        from scipy.spatial import ConvexHull
+        points = drawn(3000)
+        mesh, other = hanskup.delaunay(points), ConvexHull(points)
+        self.assertEqual(mesh.hull_vertices.tolist(), sorted(other.vertices.tolist()))
+        there = {tuple(sorted(row)): i for i, row in enumerate(other.simplices.tolist())}
+        places = [there[tuple(row)] for row in np.sort(mesh.convex_hull, axis=1).tolist()]
+        np.testing.assert_allclose(mesh.hull_equations, other.equations[places], rtol=0, atol=1e-6)
+        for i, (row, across) in enumerate(zip(mesh.convex_hull, mesh.hull_neighbors)):
+            told = dict(zip(other.simplices[places[i]].tolist(), other.neighbors[places[i]].tolist()))
+            self.assertEqual([told[corner] for corner in row], [places[j] for j in across])
+        self.assertLess((mesh.points @ mesh.hull_equations[:, :3].T + mesh.hull_equations[:, 3]).max(), 1e-6)
+
+    def test_hull_of_floats(self):
+        mesh = hanskup.delaunay(np.random.default_rng(4).random((100, 3)) * 3 + 7)
+        heights = mesh.points @ mesh.hull_equations[:, :3].T + mesh.hull_equations[:, 3]
+        self.assertLess(heights.max(), 4 * mesh.rounding)
+        self.assertTrue((np.sort(np.abs(heights), axis=0)[2] < 4 * mesh.rounding).all())
+
     @unittest.skipUnless(has('gudhi'), 'gudhi is not installed')
     def test_gudhi(self):
         import gudhi

@@ -173,8 +173,38 @@ class Optimal(unittest.TestCase):
             self.assertEqual(len(np.unique(shape.tetrahedra)), len(points))
             self.assertLessEqual(shape.parts().max() + 1, most)
 
+    def test_solid_parts(self):
+        for points in self.clouds():
+            mesh = hanskup.delaunay(points)
+            for level in np.unique(mesh._faces.cell_alphas)[::40].tolist() + [0, 1 << 60]:
+                shape = hanskup.Shape(mesh, min(level, (1 << 34) - 1))
+                told = mesh.solid_parts(math.sqrt(level) / 4 * (1 + 1e-15))
+                wanted = {frozenset(map(tuple, np.sort(shape.tetrahedra[shape.parts() == part], axis=1).tolist()))
+                          for part in np.unique(shape.parts())}
+                count = int(told.numbers.max()) + 1 if len(told.numbers) else 0
+                found = [np.sort(told.tetrahedra[told.numbers == part], axis=1).tolist() for part in range(count)]
+                self.assertEqual({frozenset(map(tuple, part)) for part in found}, wanted)
+                self.assertEqual(len(found), len(wanted))
+                # points ascend in these clouds, so that indices are numbers: cells in order, and parts by the first
+                self.assertEqual(found, sorted(sorted(part) for part in found))
+
+    def test_no_least_alpha(self):
+        # The one cell that has the farthest point has a sphere that is larger than all alphas.
+        points = [[0, 0, 0], [1, 0, 0], [0, 1, 0], [8191, 8191, 1]]
+        self.assertEqual(hanskup.delaunay(points).optimal_alpha(1), math.inf)
+
+    def test_by_both_ways(self):
+        from hanskup import _parts
+        for points, most in itertools.product(self.clouds(), (1, 2, 3)):
+            mesh = hanskup.delaunay(points)
+            sixteenths = _parts.least_alpha(mesh, most)
+            self.assertEqual(mesh.optimal_alpha(most), _parts.radius_of(sixteenths, mesh._square))
+
     def test_refusals(self):
-        self.assertRaises(ValueError, hanskup.delaunay(drawn(50)).optimal_alpha, 0)
+        mesh = hanskup.delaunay(drawn(50))
+        self.assertRaises(ValueError, mesh.optimal_alpha, 0)
+        self.assertRaises(ValueError, mesh.solid_parts, -1)
+        self.assertRaises(ValueError, mesh.solid_parts, math.nan)
 
     def test_floats(self):
         mesh = hanskup.delaunay(np.random.default_rng(8).random((300, 3)) * 0.37)

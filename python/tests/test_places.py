@@ -40,6 +40,7 @@ class Fields(unittest.TestCase):
             with self.assertRaises(ValueError, msg=name):
                 array[0] = 0
         mesh.nearest(mesh.points[:1])
+        mesh.locate(mesh.points[:1])
         mesh.add([1, 2, 3])
         mesh.move([0], [[4, 5, 6]])
         mesh.take([1])

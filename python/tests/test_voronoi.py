@@ -68,6 +68,36 @@ class Beside(unittest.TestCase):
         inner = ((points > 0) & (points < 16)).all(axis=1)
         np.testing.assert_allclose(ours.volumes, np.where(inner, 64, np.inf))
 
+    def test_many(self):
+        # So many that products of numbers of points and of vertices take more than 32 bits.
+        points = drawn(20000, seed=9)
+        mesh = hanskup.delaunay(points)
+        made = mesh.voronoi()
+        corners = [set() for _ in points]
+        for vertex, simplex in zip(made.simplex_vertices.tolist(), mesh.simplices.tolist()):
+            for point in simplex:
+                corners[point].add(vertex)
+        told = [set(made.regions[region]) - {-1} for region in made.point_region]
+        self.assertEqual(told, corners)
+
+    def test_ridge_dict(self):
+        from scipy.spatial import Voronoi
+        points = drawn(200, seed=10)
+        ours, theirs = hanskup.delaunay(points).voronoi(), Voronoi(points)
+        found = {tuple(sorted(pair)): len(row) for pair, row in ours.ridge_dict.items()}
+        told = {tuple(sorted(pair)): len(row) for pair, row in theirs.ridge_dict.items()}
+        self.assertEqual(found | told, found)
+        self.assertTrue(all(found[pair] == 2 for pair in found.keys() - told.keys()))  # those with one vertex
+
+    def test_large_lattice(self):
+        side = 37  # the squares of whose cube take more than 32 bits
+        points = np.array(list(itertools.product(range(side), repeat=3)))
+        made = hanskup.delaunay(points).voronoi()
+        self.assertEqual(len(made.vertices), (side - 1) ** 3)
+        first, second = (points[made.ridge_points[:, end]] for end in (0, 1))
+        self.assertTrue((np.abs(first - second).sum(axis=1) == 1).all())
+        self.assertEqual(len(made.ridge_points), 3 * side ** 2 * (side - 1))
+
     def test_cube(self):
         points = np.array(list(itertools.product((0, 2), repeat=3)))
         ours = hanskup.delaunay(points).voronoi()

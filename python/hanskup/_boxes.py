@@ -1,0 +1,110 @@
+"""Which cells and which triangles of the hull of a tile are those of the whole cloud: tests in whole numbers.
+
+That what passes is of the whole is proved, by the crate tile_cells of the repository; so is the test of spheres as the
+library has it for programs, `small_spheres::sphere_inside`. What is here computes the same over numpy, and is tested
+beside the definition. No number leaves 64 bits: of places with coordinates 0 to 16383 the gaps are below 2^61, and
+squares of these are taken in two parts.
+"""
+from __future__ import annotations
+
+import numpy as np
+
+from ._errors import GREATEST
+from ._grid import cross, dot, keys
+from ._kinds import Bools, Ints, Numbers, Rows
+
+_PIECE = 1 << 14  # cells at a time, whose numbers then stay in the processor's cache
+_CORNERS = np.array([[i, k, m] for i in (0, 1) for k in (0, 1) for m in (0, 1)])
+
+Square = tuple[Ints, Ints]  # a number in two parts: so many 2^62, and what is left, below 2^62
+
+
+def _carried(above: Ints, below: Ints) -> Square:
+    # Numbers of which what is below may be up to 2^63.
+    return above + (below >> 62), below & ((1 << 62) - 1)
+
+
+def _square(numbers: Ints) -> Square:
+    """The squares of numbers between -2^61 and 2^61, exact."""
+    size = np.abs(numbers)
+    high, low = size >> 31, size & ((1 << 31) - 1)
+    both = high * low  # stands twice, at 2^31
+    return _carried(high * high + (both >> 30), ((both & ((1 << 30) - 1)) << 32) + low * low)
+
+
+def _sum(first: Square, second: Square) -> Square:
+    return _carried(first[0] + second[0], first[1] + second[1])
+
+
+def _exceeds(first: Square, second: Square) -> Bools:
+    answer: Bools = (first[0] > second[0]) | ((first[0] == second[0]) & (first[1] > second[1]))
+    return answer
+
+
+def _coordinates(numbers: Ints) -> Ints:
+    return np.stack([numbers >> 28, (numbers >> 14) & GREATEST, numbers & GREATEST])
+
+
+def _cross(u: Ints, v: Ints) -> Ints:
+    # Of vectors by rows of coordinates, whose numbers lie side by side.
+    return np.stack([u[1] * v[2] - u[2] * v[1], u[2] * v[0] - u[0] * v[2], u[0] * v[1] - u[1] * v[0]])
+
+
+def _dot(u: Ints, v: Ints) -> Ints:
+    product: Ints = u[0] * v[0] + u[1] * v[1] + u[2] * v[2]
+    return product
+
+
+def _are_inside(places: Ints, cells: Rows, low: Ints, high: Ints) -> Bools:
+    # Places as one number each, so that one look fetches it.
+    a, *others = (_coordinates(places.take(cells[:, k])) for k in range(4))
+    u, v, w = (point - a for point in others)
+    vw = _cross(v, w)
+    o = _dot(u, vw)
+    n = _dot(u, u) * vw + _dot(v, v) * _cross(w, u) + _dot(w, w) * _cross(u, v)
+    n *= np.sign(o)  # the centre is a + n / 2 |o|
+    twice = 2 * np.abs(o)
+    square = _sum(_sum(_square(n[0]), _square(n[1])), _square(n[2]))
+    answer = np.ones(len(cells), bool)
+    for axis in range(3):
+        gaps = []
+        if low[axis] > 0:
+            gaps.append(n[axis] - twice * (low[axis] - 1 - a[axis]))
+        if high[axis] < GREATEST:
+            gaps.append(twice * (high[axis] + 1 - a[axis]) - n[axis])
+        for gap in gaps:
+            answer &= (gap > 0) & _exceeds(_square(gap), square)
+    return answer
+
+
+def spheres_inside(places: Ints, cells: Rows, low: Ints, high: Ints) -> Bools:
+    """Of each cell, by numbers of places, whether its circumscribing sphere lies strictly inside a box: away from all
+    points outside it. The box has the points from the corner low to the corner high, both its own, and is open to 0 and
+    to 16383, as no point lies beyond.
+
+    Exact for cells of places of the grid, in either orientation.
+    """
+    answer, numbers = np.empty(len(cells), bool), keys(places)
+    for start in range(0, len(cells), _PIECE):
+        piece = slice(start, start + _PIECE)
+        answer[piece] = _are_inside(numbers, cells[piece], low, high)
+    return answer
+
+
+def corners_of(boxes: Ints) -> Ints:
+    """The eight corners of boxes (k, 2, 3), each a low and a high corner: (8 k, 3)."""
+    low, high = boxes[:, 0, None], boxes[:, 1, None]
+    corners: Ints = np.where(_CORNERS, high, low).reshape(-1, 3)
+    return corners
+
+
+def lie_behind(places: Ints, triangles: Rows, corners: Numbers) -> Bools:
+    """Of each triangle, turned outwards, whether all corners lie strictly behind its plane. Exact for places and
+    corners of the grid."""
+    answer = np.empty(len(triangles), bool)
+    for start in range(0, len(triangles), 256):
+        piece = slice(start, start + 256)
+        a, b, c = (places[triangles[piece, k]] for k in range(3))
+        normals = cross(b - a, c - a)
+        answer[piece] = (normals @ corners.T < dot(normals, a)[:, None]).all(axis=1)
+    return answer

@@ -1,0 +1,179 @@
+"""How a cloud is cut into tiles: boxes that share no place of the grid and have all, each wider by a halo."""
+from __future__ import annotations
+
+import json
+import os
+from typing import Any, NamedTuple
+
+import numpy as np
+
+from ._errors import GREATEST, Flat, OutOfRange
+from ._grid import Placing, numbers_of, placed
+from ._kinds import ArrayLike, Ints, Numbers
+
+_PIECE = 1 << 20  # points at a time
+_SAMPLE = 200_000  # points by which the cuts are laid
+
+
+class Plan(NamedTuple):
+    """What is known of a cut cloud: it stands in the folder's plan.json."""
+    points: int  #: how many were given
+    placing: Placing | None  #: how they were placed, or None where they were whole numbers
+    cores: Ints  #: (t, 2, 3) the low and the high corner of each tile without its halo, both its own
+    boxes: Ints  #: (t, 2, 3) and with it
+    held: Ints  #: (t, 2, 3) the least box of the points in each core; where it has none its low corner is above
+
+    @property
+    def kind(self) -> Any:
+        """The type of indices of points."""
+        return np.int32 if self.points < 1 << 31 else np.int64
+
+    def save(self, folder: str) -> None:
+        """Into the folder's plan.json, at once."""
+        told = {'points': self.points, 'unit': self.placing.unit if self.placing else None,
+                'origin': self.placing.origin.tolist() if self.placing else None,
+                **{name: getattr(self, name).tolist() for name in ('cores', 'boxes', 'held')}}
+        path = os.path.join(folder, 'plan.json')
+        with open(f'{path}.new', 'w', encoding='utf8') as file:
+            json.dump(told, file)
+        os.replace(f'{path}.new', path)
+
+    @classmethod
+    def load(cls, folder: str) -> Plan:
+        """From the folder's plan.json. Raises FileNotFoundError where no cloud was cut into it."""
+        with open(os.path.join(folder, 'plan.json'), encoding='utf8') as file:
+            told = json.load(file)
+        placing = Placing(np.array(told['origin']), told['unit']) if told['unit'] else None
+        return cls(told['points'], placing, *(np.array(told[name], np.int64) for name in ('cores', 'boxes', 'held')))
+
+
+def _checked(points: ArrayLike, unit: float | None) -> tuple[Numbers, Placing | None]:
+    # The points as an array, and how they are placed: as delaunay does it, with no copy of them.
+    array = numbers_of(points)
+    if array.ndim != 2 or array.shape[1] != 3:
+        raise ValueError(f'points are an array of shape (n, 3), and not {array.shape}')
+    if not len(array):
+        raise Flat('there are no points')
+    ends = np.stack([array.min(axis=0), array.max(axis=0)])
+    if array.dtype.kind != 'f':
+        if unit is not None:
+            raise ValueError('whole numbers are taken as they are: no unit')
+        if ends.min() < 0 or ends.max() > GREATEST:
+            raise OutOfRange(f'a coordinate is not 0 to {GREATEST}')
+        return array, None
+    if not np.isfinite(ends).all():
+        raise ValueError('a point is not finite')
+    return array, placed(ends.astype(float), unit)
+
+
+def _on_grid(points: Numbers, placing: Placing | None) -> Ints:
+    return placing.to_grid(points.astype(float)) if placing else points.astype(np.int64)
+
+
+def _split(core: Ints, sample: Ints, count: int) -> list[Ints]:
+    """A box in so many parts with about as many points of the sample each, cut across the longest side of these."""
+    if count == 1:
+        return [core]
+    low, high = core
+    sides = np.ptp(sample, axis=0) if len(sample) else high - low
+    axis = int(np.argmax(np.where(high > low, sides, -1)))
+    if low[axis] == high[axis]:
+        raise ValueError('there are more tiles than places')
+    share = count // 2
+    line = np.sort(sample[:, axis])
+    wanted = int(line[len(line) * share // count]) if len(line) else int(low[axis] + high[axis] + 1) // 2
+    first = min(max(wanted, int(low[axis]) + 1), int(high[axis]))  # the first place of the second part
+    below, above = core.copy(), core.copy()
+    below[1, axis], above[0, axis] = first - 1, first
+    chosen = sample[:, axis] < first
+    return _split(below, sample[chosen], share) + _split(above, sample[~chosen], count - share)
+
+
+def _widened(core: Ints, sample: Ints, share: float, halo: float) -> Ints:
+    # The core and a halo of so many spacings of its points, of which the sample has a share.
+    own = sample[((sample >= core[0]) & (sample <= core[1])).all(axis=1)]
+    room = np.prod(np.ptp(own, axis=0) + 1.0) if len(own) else 0.0
+    width = int(np.ceil(halo * (room * share / max(len(own), 1)) ** (1 / 3)))
+    wide: Ints = np.clip(np.stack([core[0] - width, core[1] + width]), 0, GREATEST)
+    return wide
+
+
+class _Files:
+    """The files of the points of each tile, and the least boxes of those in the cores."""
+
+    def __init__(self, folder: str, cores: Ints, boxes: Ints, kind: Any) -> None:
+        self.folder, self.cores, self.boxes, self.kind = folder, cores, boxes, kind
+        self.held = np.stack([np.full_like(cores[:, 0], GREATEST + 1), np.full_like(cores[:, 1], -1)], axis=1)
+        for tile in range(len(cores)):
+            for path in paths_of(folder, tile):
+                open(path, 'wb').close()
+
+    def put(self, places: Ints, numbers: Ints, first: int, last: int) -> None:
+        """Points, each to the tiles first to last - 1 whose boxes have it."""
+        low, high = self.boxes[first:last, 0].min(axis=0), self.boxes[first:last, 1].max(axis=0)
+        chosen = ((places >= low) & (places <= high)).all(axis=1)
+        places, numbers = places[chosen], numbers[chosen]
+        if last - first > 1:
+            middle = first + (last - first) // 2
+            self.put(places, numbers, first, middle)
+            self.put(places, numbers, middle, last)
+        elif len(places):
+            self._append(places, numbers, first)
+
+    def _append(self, places: Ints, numbers: Ints, tile: int) -> None:
+        for path, rows in zip(paths_of(self.folder, tile), (places.astype(np.int16), numbers.astype(self.kind))):
+            with open(path, 'ab') as file:
+                rows.tofile(file)
+        core = self.cores[tile]
+        own = places[((places >= core[0]) & (places <= core[1])).all(axis=1)]
+        if len(own):
+            self.held[tile, 0] = np.minimum(self.held[tile, 0], own.min(axis=0))
+            self.held[tile, 1] = np.maximum(self.held[tile, 1], own.max(axis=0))
+
+
+def paths_of(folder: str, tile: int) -> tuple[str, str]:
+    """The files of the places and of the indices of the points of a tile."""
+    return os.path.join(folder, f'{tile:05}.places'), os.path.join(folder, f'{tile:05}.numbers')
+
+
+def points_of(folder: str, tile: int, plan: Plan) -> tuple[Ints, Ints]:
+    """The places of a tile, each once, ascending, and the index of the first point that was given at each."""
+    places, numbers = (np.fromfile(path, kind) for path, kind in zip(paths_of(folder, tile), (np.int16, plan.kind)))
+    wide = places.reshape(-1, 3).astype(np.int64)
+    _, first = np.unique((wide[:, 0] << 28) + (wide[:, 1] << 14) + wide[:, 2], return_index=True)
+    return wide[first], numbers[first].astype(np.int64)
+
+
+def cut(points: ArrayLike, folder: str, count: int = 8, halo: float = 1.0, unit: float | None = None) -> Plan:
+    """Cuts a cloud into tiles, and writes the points of each into a folder, which is made where it is missing.
+
+    Args:
+        points: (n, 3), as delaunay takes them; a file that `numpy.load(path, mmap_mode='r')` gives is read in pieces.
+        folder: for the files of the run; what an earlier run left there is taken away.
+        count: how many tiles; each gets about as many points.
+        halo: how far each tile sees beyond its own box, in mean spacings of its points.
+        unit: as of delaunay.
+
+    Raises:
+        ValueError, OutOfRange, Flat: as delaunay, of the shape, the coordinates and no points; or there are more tiles
+            than places, no tiles, or a halo below 0.
+    """
+    if count < 1 or not halo >= 0:
+        raise ValueError('there is one tile at least, and a halo is 0 or more')
+    array, placing = _checked(points, unit)
+    os.makedirs(folder, exist_ok=True)
+    for name in os.listdir(folder):
+        if name == 'plan.json' or name.split('.')[0].isdigit() or name.split('.')[0] == 'left':
+            os.remove(os.path.join(folder, name))
+    drawn = np.random.default_rng(0).integers(0, len(array), _SAMPLE) if len(array) > _SAMPLE else np.arange(len(array))
+    sample = _on_grid(array[np.unique(drawn)], placing)
+    cores = np.array(_split(np.array([[0] * 3, [GREATEST] * 3]), sample, count))
+    boxes = np.array([_widened(core, sample, len(sample) / len(array), halo) for core in cores])
+    plan = Plan(len(array), placing, cores, boxes, cores)
+    files = _Files(folder, cores, boxes, plan.kind)
+    for start in range(0, len(array), _PIECE):
+        places = _on_grid(array[start:start + _PIECE], placing)
+        files.put(places, np.arange(start, start + len(places)), 0, count)
+    plan = plan._replace(held=files.held)
+    plan.save(folder)
+    return plan

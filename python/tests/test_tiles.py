@@ -1,0 +1,283 @@
+"""Tests of clouds in tiles: their cells and hulls beside those of the whole, the test of spheres beside its definition,
+and workers that are lost. dask.distributed and pyarrow are left out, or stood in for, where they are missing."""
+import contextlib
+import glob
+import io
+import os
+import pathlib
+import signal
+import sys
+import tempfile
+import threading
+import types
+import unittest
+from fractions import Fraction
+from unittest import mock
+
+import numpy as np
+
+import hanskup
+from hanskup import tiles
+from hanskup._boxes import spheres_inside
+from hanskup._left import lone_facets
+from hanskup._tile import Left
+
+sys.path.insert(0, str(pathlib.Path(__file__).resolve().parent))
+from test_hanskup import cells_of, drawn, has
+
+
+def clusters(count, seed):
+    random = np.random.default_rng(seed)
+    centres = random.integers(2000, 14000, (12, 3))
+    return np.clip(centres[random.integers(0, 12, count)] + random.normal(0, 900, (count, 3)).astype(int), 0, 16383)
+
+
+def torus(count, seed):
+    a, b = np.random.default_rng(seed).random((2, count)) * 2 * np.pi
+    ring = 5500 + 2500 * np.cos(b)
+    return np.rint(8191 + np.stack([ring * np.cos(a), ring * np.sin(a), 2500 * np.sin(b)], axis=1)).astype(int)
+
+
+def terrain(count, seed):
+    random = np.random.default_rng(seed)
+    x, y = random.integers(0, 16384, (2, count))
+    hills = (700 * np.sin(x / 900) * np.cos(y / 1300)).astype(int)
+    return np.stack([x, y, 2000 + hills + random.integers(0, 40, count)], axis=1)
+
+
+def lattice(side, step):
+    return np.stack(np.meshgrid(*[np.arange(side) * step] * 3), axis=-1).reshape(-1, 3)
+
+
+class Here:
+    """An engine that does each task itself, in an order of its own."""
+
+    def each(self, task, asked):
+        for words in reversed(asked):
+            yield task(*words)
+
+
+def sphere_of(corners):
+    """The centre and the squared radius of the sphere through four points, as fractions."""
+    a = [Fraction(int(x)) for x in corners[0]]
+    rows = [[2 * (int(x) - y) for x, y in zip(b, a)] + [sum(int(x) ** 2 - y ** 2 for x, y in zip(b, a))]
+            for b in corners[1:]]
+    for k in range(3):
+        pivot = next(i for i in range(k, 3) if rows[i][k])
+        rows[k], rows[pivot] = rows[pivot], rows[k]
+        rows[k] = [x / rows[k][k] for x in rows[k]]
+        rows = [rows[i] if i == k else [x - rows[i][k] * y for x, y in zip(rows[i], rows[k])] for i in range(3)]
+    centre = [row[3] for row in rows]
+    return centre, sum((x - y) ** 2 for x, y in zip(centre, a))
+
+
+def is_inside(corners, low, high):
+    """By the definition: the first planes of points outside the box lie beyond the sphere."""
+    centre, square = sphere_of(corners)
+    return all((k == 0 or (x > k - 1 and (x - k + 1) ** 2 > square))
+               and (m == 16383 or (x < m + 1 and (m + 1 - x) ** 2 > square)) for x, k, m in zip(centre, low, high))
+
+
+class Spheres(unittest.TestCase):
+    def judge(self, corners, low, high):
+        told = spheres_inside(np.array(corners), np.arange(4)[None], np.array(low), np.array(high))[0]
+        self.assertEqual(told, is_inside(corners, low, high), (corners, low, high))
+        return told
+
+    def test_touching_planes(self):
+        c, r = 5000, 1234
+        corners = [(c + r, c, c), (c - r, c, c), (c, c + r, c), (c, c, c + r)]
+        for axis in range(3):
+            for end, away in ((0, -1), (1, 1)):
+                box = [[0] * 3, [16383] * 3]
+                box[end][axis] = c + away * r  # the plane behind it touches no point of the sphere
+                self.assertTrue(self.judge(corners, *box))
+                box[end][axis] -= away  # and now the plane touches it
+                self.assertFalse(self.judge(corners, *box))
+                self.assertFalse(self.judge(corners[::-1], *box))
+
+    def test_drawn(self):
+        random, told = np.random.default_rng(2), []
+        for _ in range(400):
+            width = int(random.choice([3, 40, 700, 16383]))
+            start = random.integers(0, 16384 - width, 3)
+            corners = start + random.integers(0, width + 1, (4, 3))
+            if np.linalg.matrix_rank(corners[1:] - corners[0]) < 3:
+                continue
+            centre, square = sphere_of(corners)
+            radius = float(square) ** 0.5
+            low, high = (np.array([min(max(int(float(x) + sign * radius + random.integers(-1, 2)), 0), 16383)
+                                   for x in centre]) for sign in (-1, 1))
+            told.append(self.judge(corners, low, high))
+        self.assertTrue(20 < sum(told) < len(told) - 20)
+
+    def test_greatest_numbers(self):
+        for corners in ([(0, 0, 0), (16383, 0, 0), (0, 16383, 0), (0, 0, 16383)],
+                        [(0, 0, 0), (16383, 16383, 16382), (16383, 16382, 16383), (16382, 16383, 16383)],
+                        [(0, 0, 0), (16383, 0, 1), (16383, 16383, 0), (0, 16383, 0)]):
+            for low, high in (([1, 0, 0], [16383] * 3), ([0, 0, 0], [16383, 16382, 16383]), ([1] * 3, [16382] * 3)):
+                self.judge(corners, low, high)
+
+
+class Facets(unittest.TestCase):
+    def test_lone_facets(self):
+        # Facets (1, 2, 3) with the apexes 4, told by both tiles that find the cell, and 5, by one of two; of 6 and 7
+        # on the two sides of a facet; and of 8, which one tile tells.
+        facets = np.array([[1, 2, 3], [3, 2, 1], [1, 2, 9], [4, 6, 8], [8, 4, 6], [5, 6, 7]])
+        told = Left(facets, np.array([4, 4, 5, 6, 7, 8]), np.array([2, 2, 2, 1, 1, 1]), *[np.empty((0, 3), int)] * 4)
+        self.assertEqual(sorted(map(tuple, np.sort(facets[lone_facets(told)], axis=1))), [(1, 2, 3), (5, 6, 7)])
+
+
+class Tiled(unittest.TestCase):
+    def setUp(self):
+        room = tempfile.TemporaryDirectory()
+        self.addCleanup(room.cleanup)
+        self.folder, self.points, self.whole = os.path.join(room.name, 'tiles'), None, None
+
+    def judge(self, points, made):
+        """The cells and the hull are those of the whole, each once, turned as there."""
+        if self.points is not points:
+            self.points, self.whole = points, hanskup.delaunay(points, made.plan.placing and made.plan.placing.unit)
+        whole, cells = self.whole, made.simplices()
+        self.assertEqual(len(cells), len(whole.simplices))
+        self.assertEqual(cells_of(cells), cells_of(whole.simplices))
+        corners = whole.points[cells].astype(float)
+        if made.plan.placing is None:
+            self.assertTrue((np.linalg.det(corners[:, 1:] - corners[:, :1]) > 0).all())
+        turned = lambda rows: {tuple(np.roll(row, -int(np.argmin(row)))) for row in rows.tolist()}
+        self.assertEqual(len(made.convex_hull()), len(whole.convex_hull))
+        self.assertEqual(turned(made.convex_hull()), turned(whole.convex_hull))
+        self.assertEqual(made.counts.found + made.counts.missing, len(cells))
+
+    def run_of(self, points, count=8, halo=1.0, engine=None, **words):
+        made = tiles.delaunay(points, self.folder, count, halo, engine=engine or Here(), **words)
+        self.judge(points, made)
+        return made
+
+
+class Whole(Tiled):
+    def test_drawn(self):
+        points = drawn(20_000, seed=4)
+        left = [self.run_of(points, halo=halo).counts.left for halo in (0, 1, 2)]
+        self.assertTrue(0.4 * len(points) > left[0] > 2 * left[1] > 2.4 * left[2], left)
+
+    def test_kinds(self):
+        for points in (clusters(4000, 1), torus(4000, 2), terrain(4000, 3), lattice(16, 1000), lattice(12, 1)):
+            for count in (1, 5, 8):
+                self.run_of(points, count)
+
+    def test_convex(self):
+        # On a ball a tile tells triangles of the hull by itself.
+        random = np.random.default_rng(3).normal(size=(4000, 3))
+        points = np.rint(8191 + 7000 * random / np.linalg.norm(random, axis=1)[:, None]).astype(int)
+        self.run_of(np.concatenate([points, drawn(2000, seed=6) // 4 + 6000]))
+
+    def test_few(self):
+        self.run_of(lattice(2, 9), 3)
+        self.run_of(np.concatenate([drawn(300, seed=1)] * 2), 4)
+        line = np.stack([np.arange(500), np.zeros(500, int), np.arange(500) ** 2 % 7], axis=1)
+        self.run_of(np.concatenate([line, [[3, 5, 2]]]), 4)
+        with self.assertRaises(hanskup.Flat):
+            tiles.delaunay(line * [1, 1, 0], self.folder, 4, engine=Here())
+
+    def test_floats(self):
+        random = np.random.default_rng(8)
+        for points in (random.random((3000, 3)) * [4, 2, 1] - 1, random.random((500, 3)).astype(np.float32)):
+            made = self.run_of(points, 4)
+            self.assertEqual(made.plan.placing.unit, hanskup.delaunay(points).placing.unit)
+
+    def test_refusals(self):
+        for points, words, kind in ((np.zeros((3, 2), int), {}, ValueError), (np.zeros((0, 3)), {}, hanskup.Flat),
+                                    ([[0, 0, 16384]], {}, hanskup.OutOfRange), ([[0., np.nan, 1]], {}, ValueError),
+                                    *((lattice(2, 1), words, ValueError)
+                                      for words in ({'count': 0}, {'halo': -1}, {'unit': 1.0}))):
+            with self.assertRaises(kind):
+                tiles.cut(points, self.folder, **words)
+        with self.assertRaises(FileNotFoundError):
+            tiles.finish(self.folder, Here())
+
+    def test_processes_and_more_of_them(self):
+        made = self.run_of(drawn(3000, seed=9), engine=2)
+        os.remove(made.paths[3])  # as a run leaves it that was cut off
+        again = tiles.finish(self.folder, 2)
+        self.assertEqual(again.counts, made.counts)
+        with self.assertRaises(ValueError):
+            list(tiles.Processes(1).each(int, [('x',)]))
+        with self.assertRaises(tiles.LostWorkers):
+            list(tiles.Processes(1).each(os._exit, [(1,)]))
+
+    def test_parquet(self):
+        made, kept = self.run_of(drawn(500, seed=2), 2), {}
+        parquet = types.SimpleNamespace(write_table=lambda columns, path: kept.update({path: columns}))
+        pyarrow = types.SimpleNamespace(table=dict, parquet=parquet)
+        if has('pyarrow'):
+            import pyarrow.parquet as parquet
+            paths = made.to_parquet(self.folder)
+            kept = {path: parquet.read_table(path).to_pydict() for path in paths}
+        else:
+            with mock.patch.dict(sys.modules, {'pyarrow': pyarrow, 'pyarrow.parquet': parquet}):
+                paths = made.to_parquet(self.folder)
+        self.assertEqual(paths, list(kept))
+        for path, cells in zip(paths, made.parts()):
+            np.testing.assert_array_equal(np.column_stack([kept[path][name] for name in 'abcd']), cells)
+        self.assertEqual(len(kept), 3)
+
+    def test_command(self):
+        path, said = self.folder + '.npy', io.StringIO()
+        np.save(path, drawn(400, seed=3))
+        with contextlib.redirect_stdout(said):
+            tiles.main([path, self.folder, '--count', '3', '--workers', '2'])
+            tiles.main(['-', self.folder])
+        first, second = said.getvalue().splitlines()
+        self.assertEqual(first, second)
+        self.assertRegex(first, f'^points 400 seen .* cells {len(hanskup.delaunay(np.load(path)).simplices)} ')
+
+
+class Lost(Tiled):
+    """Runs in which a worker is killed once a tile is done."""
+
+    def kill_one(self, found):
+        """In a thread: once some tile's file is there, ends a process of those that are found."""
+        def wait_and_kill():
+            while not over.wait(0.01):
+                for process in found() if glob.glob(os.path.join(self.folder, '*.cells.npy')) else []:
+                    with contextlib.suppress(ProcessLookupError):
+                        os.kill(process, signal.SIGKILL)
+                        self.killed.append(process)
+                        return
+        self.killed, over = [], threading.Event()
+        thread = threading.Thread(target=wait_and_kill)
+        thread.start()
+        self.addCleanup(thread.join)
+        self.addCleanup(over.set)  # done before the one above
+
+    def children(self):
+        """The processes of this one that do tasks."""
+        found = []
+        for status in glob.glob('/proc/[0-9]*/stat'):
+            with contextlib.suppress(OSError), open(status, encoding='utf8') as file:
+                number, rest = file.read().split(' (', 1)
+                if int(rest.rsplit(') ', 1)[1].split()[1]) == os.getpid():
+                    found.append(int(number))
+        return found
+
+    def test_process_is_killed(self):
+        points = drawn(20_000, seed=7)
+        self.kill_one(self.children)
+        self.run_of(points, engine=2)
+        self.assertEqual(len(self.killed), 1)
+
+    @unittest.skipUnless(has('distributed'), 'dask.distributed is not installed')
+    def test_worker_of_dask_is_killed(self):
+        from distributed import Client, LocalCluster
+        points = drawn(20_000, seed=7)
+        with LocalCluster(n_workers=2, threads_per_worker=1, dashboard_address=None, silence_logs=50) as cluster, \
+                Client(cluster) as client:
+            workers = list(client.run(os.getpid).values())
+            self.kill_one(lambda: workers[:1])
+            self.run_of(points, engine=client)
+        self.assertEqual(len(self.killed), 1)
+
+
+if __name__ == '__main__':
+    unittest.main()
