@@ -6,16 +6,32 @@ text at once (`peer_text.h`); where edits come one by one it has CGAL's hierarch
 peers.py NAME OUT builds the peer NAME.cpp.
 """
 import os
+import shutil
 import subprocess
 import sys
+from concurrent.futures import ThreadPoolExecutor
 
 FOLDER = os.path.dirname(os.path.realpath(__file__))
 FLAGS = ['-O3', '-march=native', '-DNDEBUG', '-frounding-math', '-std=c++17']
 LIBRARIES = ['-lgmp', '-lmpfr']
+BUILT = 'BENCH_PEERS'  # names a folder in which peers stand that are built
+# Of a bench the peer that has another name.
+OTHERS = {'shape': 'shapes'}
+
+
+def build_all(folder, benches):
+    """Builds the peers of benches into a folder, side by side."""
+    names = {OTHERS.get(bench, bench) for bench in benches}
+    names = [name for name in names if os.path.exists(os.path.join(FOLDER, f'{name}.cpp'))]
+    with ThreadPoolExecutor(os.cpu_count()) as threads:
+        list(threads.map(lambda name: build(name, os.path.join(folder, name)), names))
 
 
 def build(name, out):
-    """Builds the peer of a name as the file `out`, whose name is given back."""
+    """Builds the peer of a name as the file `out`, whose name is given back; or takes the one that is built."""
+    built = os.path.join(os.environ.get(BUILT, ''), name)
+    if BUILT in os.environ and os.path.exists(built):
+        return shutil.copy(built, out)
     source = os.path.join(FOLDER, f'{name}.cpp')
     with open(source, encoding='ascii') as file:
         libraries = LIBRARIES if 'CGAL/' in file.read() else []

@@ -11,7 +11,7 @@ from mesh3.drawn import extent_of, first_stop, steady
 from mesh3.packing import Pack
 
 PARTS = os.path.join(os.path.dirname(os.path.realpath(__file__)), 'page')
-SCRIPTS = ('world', 'axis', 'view', 'scene', 'picking', 'controls', 'page')
+SCRIPTS = ('world', 'axis', 'view', 'coarse', 'scene', 'picking', 'controls', 'page')
 VIEW = (-1.05, 0.62)  # azimuth and elevation in radians
 LEGENDS = ('triangles at tetrahedra (regular)', 'loose faces (singular)')
 

@@ -13,11 +13,12 @@ sys.path.insert(0, os.path.join(TOP, 'python'))
 import hanskup_wheel  # noqa: E402
 
 TOOLS = ('points', 'export', 'draw', 'betti', 'report', 'example-surface', 'mesh3')
-DOCS = ('RELEASE', 'FORMATS', 'WORDS', 'PROMISE', 'DEFINITIONS', 'BINDINGS', 'TESTED')
+DOCS = ('RELEASE', 'FORMATS', 'WORDS', 'PROMISE', 'DEFINITIONS', 'BINDINGS', 'SCALE', 'TESTED')
 LINKS = {'delaunay': 'bin/delaunay', 'tools': 'share/hanskup/tools', 'SOURCES': 'share/hanskup/SOURCES',
          'README.md': 'docs/RELEASE.md', 'lib/libdelaunay_c.so': 'libdelaunay_c.so.1'}
 AS_IT_STANDS = {
     'tools/packed/files/delaunay': 'bin/delaunay', 'tools/packed/files/words.sh': 'libexec/hanskup/words.sh',
+    'tools/packed/files/progress.sh': 'libexec/hanskup/progress.sh',
     'tools/packed/help.txt': 'share/hanskup/help.txt', 'python/c/delaunay_c.h': 'include/delaunay_c.h',
     'CHANGELOG.md': 'CHANGELOG.md'}
 

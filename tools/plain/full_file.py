@@ -25,20 +25,21 @@ def drawn(count):
     return places
 
 
-def drawn_file():
-    """Points, and edits of which every fourth takes a point, and every fourth moves one; the first points stay."""
-    places = drawn(POINTS + EDITS + QUERIES)
-    points, more, queries = places[:POINTS], places[POINTS:-QUERIES], places[-QUERIES:]
+def drawn_file(count=POINTS, lines=EDITS):
+    """Points, and edits of which every fourth takes a point, and every fourth moves one; the first points stay. And
+    queries."""
+    places = drawn(count + lines + QUERIES)
+    points, more, queries = places[:count], places[count:-QUERIES], places[-QUERIES:]
     edits = []
     for i, place in enumerate(more):
-        known = points[1000 + 5 * i % (POINTS - 1000)]
+        known = points[1000 + 5 * i % (count - 1000)]
         edits.append((False, known) if i % 4 == 1 else (None, known, place) if i % 4 == 3 else (True, place))
     return points, edits, queries
 
 
-def text():
-    """Its text, of version 4."""
-    points, edits, queries = drawn_file()
+def text(given=None):
+    """The text of what was drawn, of version 4."""
+    points, edits, queries = given or drawn_file()
     return random_cases.text_of(points, edits, [RADIUS], 4, queries)
 
 

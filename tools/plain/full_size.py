@@ -22,6 +22,7 @@ from scipy.spatial import cKDTree
 from plain.full_file import RADIUS, drawn_file, text
 
 BEYOND = 1 << 34
+PIECE = 1 << 16
 ALPHA = 16 * 120_000
 KINDS = numpy.array(['singular', 'regular', 'interior'])
 
@@ -69,24 +70,34 @@ def in_sphere(a, b, c, d, e):
             + square(w) * turn(u, v, t) - square(t) * turn(u, v, w))
 
 
+def pieces(count):
+    """The numbers below a count, some at a time: numbers of any size take much memory."""
+    return (slice(start, start + PIECE) for start in range(0, count, PIECE))
+
+
 def complex_of(points):
     """The cells, ascending, their neighbours behind each point, and the triangles of the hull; judged exactly."""
     tree = gudhi.AlphaComplex(points=points.tolist()).create_simplex_tree(default_filtration_value=True)
     cells = numpy.array(sorted(sorted(face) for face, _ in tree.get_skeleton(3) if len(face) == 4))
     beside = neighbours(cells)
-    turns = numpy.sign(orientation(*(points[cells[:, k]] for k in range(4))).astype(float))
-    assert (turns != 0).all(), 'a flat cell'
-    hull = []
-    for k in range(4):
-        inner = beside[:, k] >= 0
-        apex = cells[beside[inner, k]].sum(axis=1) - (cells[inner].sum(axis=1) - cells[inner, k])
-        power = in_sphere(*(points[cells[inner, j]] for j in range(4)), points[apex])
-        assert (numpy.sign(power.astype(float)) * turns[inner] < 0).all(), 'five points on a sphere, or no cell'
-        hull.append(numpy.delete(cells[~inner], k, axis=1))
-    hull = numpy.concatenate(hull)
+    for piece in pieces(len(cells)):
+        judge_cells(points, cells, beside, piece)
+    hull = numpy.concatenate([numpy.delete(cells[beside[:, k] < 0], k, axis=1) for k in range(4)])
     hull = hull[numpy.lexsort(hull.T[::-1])]
     judge_hull(points, hull)
     return cells, beside, hull
+
+
+def judge_cells(points, cells, beside, piece):
+    """That cells of a piece are solid, and empty beside their neighbours."""
+    own, others = cells[piece], beside[piece]
+    turns = numpy.sign(orientation(*(points[own[:, k]] for k in range(4))).astype(float))
+    assert (turns != 0).all(), 'a flat cell'
+    for k in range(4):
+        inner = others[:, k] >= 0
+        apex = cells[others[inner, k]].sum(axis=1) - (own[inner].sum(axis=1) - own[inner, k])
+        power = in_sphere(*(points[own[inner, j]] for j in range(4)), points[apex])
+        assert (numpy.sign(power.astype(float)) * turns[inner] < 0).all(), 'five points on a sphere, or no cell'
 
 
 def neighbours(cells):
@@ -122,10 +133,13 @@ def ceiling(numerator, denominator):
 
 def cell_leasts(points, cells):
     """The least alpha of each cell: 4 |N|^2 / O^2, rounded up, in sixteenths."""
-    a, *others = (points[cells[:, k]] for k in range(4))
-    u, v, w = (p - a for p in others)
-    n = square(u)[:, None] * cross(v, w) + square(v)[:, None] * cross(w, u) + square(w)[:, None] * cross(u, v)
-    return ceiling(4 * square(n), orientation(a, *others) ** 2)
+    leasts = numpy.empty(len(cells), dtype=numpy.int64)
+    for piece in pieces(len(cells)):
+        a, *others = (points[cells[piece, k]] for k in range(4))
+        u, v, w = (p - a for p in others)
+        n = square(u)[:, None] * cross(v, w) + square(v)[:, None] * cross(w, u) + square(w)[:, None] * cross(u, v)
+        leasts[piece] = ceiling(4 * square(n), orientation(a, *others) ** 2)
+    return leasts
 
 
 def parts_of(cells, size):
@@ -150,19 +164,29 @@ def greatest_over(numbers, count, values):
     return greatest
 
 
+def opposite(cells, numbers, count):
+    """Of each triangle the points opposite to it, one twice where there is one."""
+    of_triangle = numbers.T.ravel()
+    others = numpy.concatenate([cells[:, k] for k in (3, 2, 1, 0)])[numpy.argsort(of_triangle, kind='stable')]
+    ends = numpy.cumsum(numpy.bincount(of_triangle, minlength=count))
+    starts = numpy.concatenate([[0], ends[:-1]])
+    return others[starts], others[ends - 1]
+
+
 def triangle_leasts(points, cells, triangles, numbers):
     """The least alpha of each triangle whose smallest sphere has no point inside, by the points opposite to it."""
-    a, b, c = (points[triangles[:, k]] for k in range(3))
-    u, v = b - a, c - a
-    n = cross(u, v)
-    own = ceiling(4 * square(u) * square(v) * square(c - b), square(n))
-    to_centre = square(v)[:, None] * cross(n, u) + square(u)[:, None] * cross(v, n)
-    blocked = numpy.zeros(len(triangles), dtype=bool)
-    for k, (column, left_out) in enumerate(zip(numbers.T, (3, 2, 1, 0))):
-        away = points[cells[:, left_out]] - a[column]
-        power = square(away) * square(n)[column] - dot(away, to_centre[column])
-        blocked[column[power < 0]] = True
-    return numpy.where(blocked, BEYOND, own).astype(numpy.int64)
+    leasts, sides = numpy.empty(len(triangles), dtype=numpy.int64), opposite(cells, numbers, len(triangles))
+    for piece in pieces(len(triangles)):
+        a, b, c = (points[triangles[piece, k]] for k in range(3))
+        u, v = b - a, c - a
+        n = cross(u, v)
+        leasts[piece] = ceiling(4 * square(u) * square(v) * square(c - b), square(n))
+        to_centre = square(v)[:, None] * cross(n, u) + square(u)[:, None] * cross(v, n)
+        for side in sides:
+            away = points[side[piece]] - a
+            power = square(away) * square(n) - dot(away, to_centre)
+            leasts[piece][power < 0] = BEYOND
+    return leasts
 
 
 def edge_leasts(points, cells, edges, numbers):
@@ -183,7 +207,7 @@ class Shape:
     def __init__(self, points):
         self.points = points
         self.cells, self.beside, self.hull = complex_of(points)
-        self.of_cells = cell_leasts(points, self.cells).astype(numpy.int64)
+        self.of_cells = cell_leasts(points, self.cells)
         self.triangles, self.triangles_of = parts_of(self.cells, 3)
         self.edges, self.edges_of = parts_of(self.cells, 2)
         own = triangle_leasts(points, self.cells, self.triangles, self.triangles_of)
@@ -277,10 +301,10 @@ def near_text(points, queries):
     return '\n'.join([*text, 'end', ''])
 
 
-def texts():
-    """The input, and what each command is to write of it."""
-    points, edits, queries = drawn_file()
-    yield 'input.mesh3', text()
+def texts(drawn):
+    """The input that is drawn, and what each command is to write of it."""
+    points, edits, queries = drawn
+    yield 'input.mesh3', text(drawn)
     replies, left = replies_of(points, edits)
     shape = Shape(left)
     yield 'mesh', report_text(replies, shape, [])
@@ -292,7 +316,7 @@ def texts():
 
 
 def main(words):
-    for name, made in texts():
+    for name, made in texts(drawn_file()):
         if words:
             with open(os.path.join(words[0], name.split()[0]), 'w', encoding='ascii') as file:
                 file.write(made)

@@ -159,6 +159,14 @@ def inside_case(face, e, worked):
     return f'inside {words(face)}; {words([e])}', truth(agree(is_inside, worked))
 
 
+def boxed_case(cell, low, high, worked):
+    """The first planes of places outside the box, where there are such places, lie beyond the sphere."""
+    square, centre = plain.smallest_sphere(cell)
+    is_inside = all((k == 0 or (x > k - 1 and (x - k + 1) ** 2 > square))
+                    and (m == FAR or (x < m + 1 and (m + 1 - x) ** 2 > square)) for x, k, m in zip(centre, low, high))
+    return f'boxed {words(cell)}; {words([low, high])}', truth(agree(is_inside, worked))
+
+
 def within_case(face, alpha, worked):
     """An alpha counts sixteenths."""
     square = square_of(face)
@@ -356,6 +364,31 @@ def cases_of_spheres():
         yield inside_case(face, e, worked)
 
 
+def cases_of_boxes():
+    yield 'spheres in boxes: each side of a box touched by no plane outside it, and by one, in both orientations'
+    ball = [(70, 60, 50), (30, 60, 50), (50, 80, 50), (50, 60, 70)]
+    low, high = (30, 40, 30), (70, 80, 70)
+    for cell in (ball, ball[::-1]):
+        yield boxed_case(cell, low, high, True)
+        for axis in range(3):
+            step = tuple(int(k == axis) for k in range(3))
+            yield boxed_case(cell, tuple(map(sum, zip(low, step))), high, False)
+            yield boxed_case(cell, low, plain.minus(high, step), False)
+    yield 'an end of the grid is free, and a plane beyond the centre is none'
+    corner, great = [A, *CUT], [A, *HIGH]
+    for cell, box, worked in ((corner, (A, LAST), True), (corner, ((1, 0, 0), LAST), False),
+                              (corner, (A, (2, 2, 2)), True), (corner, (A, (2, 2, 1)), False),
+                              (great, (A, LAST), True), (great, (A, (FAR, FAR, 16382)), False),
+                              (great, ((1, 1, 1), LAST), False), (ball, ((80, 0, 0), LAST), False),
+                              (ball, (A, (20, FAR, FAR)), False), ([A, D, C, LAST], ((0, 0, 1), LAST), False)):
+        yield boxed_case(cell, *box, worked)
+    yield 'a thin cell, whose sphere is far greater than the grid, and ends between 103 and 104'
+    thin = [A, (13617, 0, 0), (0, 13617, 0), (8000, 8000, 100)]
+    for box, worked in (((A, LAST), True), ((A, (FAR, FAR, 103)), True), ((A, (FAR, FAR, 102)), False),
+                        ((A, (FAR, 16382, FAR)), False)):
+        yield boxed_case(thin, *box, worked)
+
+
 def cases_of_alphas():
     yield 'alphas of edges, each at its least and below'
     for face, alpha, worked in (([A, D], 15, False), ([A, D], 16, True), ([A, (2, 2, 0)], 31, False),
@@ -450,9 +483,8 @@ def cases_of_reports():
 
 def all_lines():
     """Each line of the input with its answer; a name is its own."""
-    for part in (cases_of_cells, cases_of_predicates, cases_of_conflicts, cases_of_spheres, cases_of_alphas,
-                 cases_of_faces,
-                 cases_of_ends, cases_of_reports):
+    for part in (cases_of_cells, cases_of_predicates, cases_of_conflicts, cases_of_spheres, cases_of_boxes,
+                 cases_of_alphas, cases_of_faces, cases_of_ends, cases_of_reports):
         for case in part():
             yield ('# ' + case,) * 2 if isinstance(case, str) else case
 

@@ -1,16 +1,18 @@
-"""Runs the program under ThreadSanitizer: every load and store of it is watched while threads edit one mesh.
+"""Runs programs under ThreadSanitizer: every load and store of theirs is watched while threads edit one mesh.
 
     tools/try raced [FILES] [SEED]      (12 1)
 
-The program is built without proof, and all its functions are watched, but not the kit's two libraries in C nor what its
+They are built without proof, and all their functions are watched, but not the kit's two libraries in C nor what its
 own compiler makes of the proved program. Each file is one of `tools/try threads`, whose edits meet where buckets do,
 half of them with many moves, by 2, 3, 8 and 64 workers; and each command is run on a file of examples/. A run is right
 where no race is reported and its bytes are those of a run that the plain program judges, or of one worker.
 
-Then it lies: the order of the claim (a compare-exchange), and that of the release (a store), are taken away, and races
-must be reported. What is found only by these two orders is found. `try_snapshot` is called by no command and is not run
-here. Needs gcc with libtsan; the build takes 4 minutes on a quiet machine. The last line is 'N passed, M failed'. By
-hand, not part of the gate.
+No command takes a snapshot: so `worked_cases` is run too, on its scenes of four threads of a caller that edit one mesh
+by passes of their own, and of a fifth that calls `try_snapshot` meanwhile. Its answers are those of the plain program.
+
+Then both lie: the order of the claim (a compare-exchange), and that of the release (a store), are taken away, and races
+must be reported. What is found only by these two orders is found. Needs gcc with libtsan; the builds take 8 minutes on
+a quiet machine. The last line is 'N passed, M failed'. By hand, not part of the gate.
 """
 import os
 import random
@@ -19,7 +21,7 @@ import subprocess
 import sys
 import tempfile
 
-from plain import TOP, random_cases, stress_threads
+from plain import TOP, random_cases, stress_threads, table_scenes
 from plain.program_module import compiled, kit_libraries, module_of
 
 OPTIONS = 'exitcode=66 history_size=4'
@@ -49,9 +51,11 @@ void __wrap___tsan_atomic64_store(volatile word *at, word new, int order) {
 WRAPPED = ('compare_exchange_val', 'store')
 
 
-def built(room):
-    """Builds the watched program in a room, and the one that can lie; their paths."""
-    text = module_of(TOP, room)
+def built(room, crate):
+    """Builds the watched program of a crate in a room, and the one that can lie; their paths."""
+    room = os.path.join(room, crate)
+    os.makedirs(room)
+    text = module_of(TOP, room, crate)
     text = re.sub(r'^(attributes #\d+ = \{ )(nounwind "frame-pointer")', r'\1sanitize_thread \2', text, flags=re.M)
     text = text.replace(' "probe-stack"="inline-asm"', '')
     made = compiled(text, room, '-O1', '-fsanitize=thread')
@@ -103,20 +107,37 @@ def tries(watched, count, seed):
                 f'{command} by {workers} workers: {races} races'
 
 
-def lies(lying, seed):
-    """Whether races are reported where an order is taken away."""
-    for kind, what in (('c', 'the claim'), ('s', 'the release')):
-        races = sum(ran(lying, ['mesh', '--workers', '8', '--grid', str(grid)], random_cases.text_of(*file), kind)[1]
-                    for file, grid in contended(2, seed))
-        yield races > 0, f'without the order of {what}: {races} races'
+def snapshots():
+    """Scenes in which threads of a caller edit one mesh and another takes snapshots of it, each with its answer."""
+    scenes = (tuple(scene) for _, scene in table_scenes.all_scenes())
+    return [(asked, told) for asked, told in scenes if asked.startswith('beside')]
+
+
+def looks(watched):
+    """Whether each of these scenes is answered right, with what it is of."""
+    for number, (asked, told) in enumerate(snapshots()):
+        done, races = ran(watched, [], asked + '\n')
+        yield races == 0 and done.returncode == 0 and done.stdout == told + '\n', f'snapshots {number}: {races} races'
+
+
+def lies(lying, what, runs):
+    """Whether races are reported in some runs, each its words and its text, where an order is taken away."""
+    for kind, order in (('c', 'the claim'), ('s', 'the release')):
+        races = sum(ran(lying, *run, kind)[1] for run in runs)
+        yield races > 0, f'{what} without the order of {order}: {races} races'
 
 
 def main(words):
     count, seed = (int(word) for word in (*words, *('12', '1')[len(words):]))
     passed = failed = 0
     with tempfile.TemporaryDirectory() as room:
-        watched, lying = built(room)
-        for right, what in (*tries(watched, count, seed), *lies(lying, seed)):
+        watched, lying = built(room, 'delaunay')
+        edits = [(['mesh', '--workers', '8', '--grid', str(grid)], random_cases.text_of(*file))
+                 for file, grid in contended(2, seed)]
+        cases, lying_cases = built(room, 'worked_cases')
+        scenes = [([], asked + '\n') for asked, _ in snapshots()[1:3]]
+        for right, what in (*tries(watched, count, seed), *lies(lying, 'edits', edits),
+                            *looks(cases), *lies(lying_cases, 'snapshots', scenes)):
             passed, failed = passed + right, failed + (not right)
             print('ok' if right else 'WRONG', what, flush=True)
     print(f'{passed} passed, {failed} failed')

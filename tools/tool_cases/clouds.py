@@ -113,6 +113,8 @@ def by_meshio(work, np):
     triangles = [('triangle', np.array([[0, 1, 2], [0, 2, 3], [2, 3, 4]], dtype=np.int32))]
     for suffix in ('ply', 'off', 'obj', 'vtk', 'vtu', 'stl', 'mesh', 'msh', 'xdmf', 'nas', 'inp'):
         name = os.path.join(work, f'meshio.{suffix}')
+        if suffix == 'xdmf' and library('h5py') is None:
+            continue
         meshio.Mesh(np.array(POINTS), triangles).write(name)
         taken(f'meshio: {suffix}', name)
     name = os.path.join(work, 'alone.ply')

@@ -51,14 +51,14 @@ def laid(work):
         whole = os.path.join(TOP, name)
         os.makedirs(os.path.dirname(os.path.join(top, name)), exist_ok=True)
         if os.path.isdir(whole):
-            shutil.copytree(whole, os.path.join(top, name), ignore=shutil.ignore_patterns('*.so', '__pycache__'))
+            shutil.copytree(whole, os.path.join(top, name), ignore=shutil.ignore_patterns('*.so*', '__pycache__'))
         else:
             shutil.copy2(whole, os.path.join(top, name))
     for name in ('low', 'beside', 'delaunay', 'delaunay_c'):
         write(f'{top}/crates/{name}/src/lib.rt', f'//! {name}\n')
     write(f'{top}/crates.txt', CRATES)
     write(f'{top}/CHANGELOG.md', CHANGES)
-    write(f'{top}/.gitignore', 'out/\nOUT*\n__pycache__/\n*.so\n')
+    write(f'{top}/.gitignore', 'out/\nOUT*\n__pycache__/\n*.so\n*.so.1\n')
     write(f'{kit}/bin/rt', RT)
     write(f'{kit}/library.c', LIBRARY)
     write(f'{kit}/c/heap.c', HEAP)

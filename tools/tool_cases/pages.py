@@ -1,4 +1,5 @@
 """Cases of the page of tools/draw: what a browser without a window or a network shows of it, says, and asks for."""
+import json
 import os
 import re
 import subprocess
@@ -143,6 +144,41 @@ def surfaces(page, work):
     expect(f'the boundary of a part is drawn: {share}, {err}', status == 0 and 0.03 < share < 0.5)
 
 
+def moving(page, work):
+    """In motion a coarse copy is drawn of very many triangles, which covers what they do; points do not hide them."""
+    page.open(os.path.join(work, 'large.html'))
+    whole = is_of(scene(page, os.path.join(work, 'still.png')), BLUE)
+    expect(f'of many points those alone are shown that nothing joins: {page.value("page.view.text")}',
+           page.value('page.view.points') is None and whole.sum() > 0.9 * (whole | is_dark(page, work)).sum())
+    page.value("""page.pace = () => 0, page.share = 1, page.most = 16384, page.moving = performance.now() + 1e9,
+        page.draw(), 1""")
+    coarse = is_of(scene(page, os.path.join(work, 'moving.png')), BLUE)
+    drawn = page.value('(page.scene.shapes.coarseSolid.count + page.scene.shapes.coarseLoose.count) / 3')
+    expect(f'of half a million triangles {drawn} are drawn in motion', 4000 < drawn <= 1.5 * 16384)
+    expect(f'which cover the same, but for {(whole ^ coarse).sum()} of {whole.sum()} pixels',
+           (whole ^ coarse).sum() < 0.06 * whole.sum())
+
+
+def is_dark(page, work):
+    """Which pixels are as dark as a point that is joined."""
+    return scene(page, os.path.join(work, 'dark.png')).max(axis=2) < 0.3
+
+
+def columns(page, work):
+    """Columns come out of a page as they were put in: small and large, below 0, and sums of many small steps."""
+    from mesh3.packing import Pack
+    wanted = {'small': [0, 255, 3], 'below': [-70000, 5, 0], 'large': [(1 << 40) + 1, 0, 7],
+              'climbing': list(range(0, 1 << 34, 1 << 23)), 'falling': list(range(0, -1 << 34, -1 << 22))}
+    pack = Pack()
+    for name, values in wanted.items():
+        pack.put(name, values, steps=name in ('climbing', 'falling'))
+    page.open(os.path.join(work, 'steps.html'))
+    told = page.value(f"""bytesOf('{pack.text()}').then(bytes => Object.fromEntries(
+        Object.entries({json.dumps(pack.told)}).map(([name, of]) => [name, [...columnOf(bytes, of)]])))""")
+    for name, values in wanted.items():
+        expect(f'a column of {name} numbers: {told[name][:9]} .. {told[name][-1]}', told[name] == values)
+
+
 def numbers(page, work):
     """Parts, loops and voids at ten alphas, as the page shows them, beside GUDHI."""
     import numpy as np
@@ -231,10 +267,10 @@ def pointer(page, work):
     for what, points, said in (('a corner', [7], 'point 7: 2  2  2'),
                                ('a side', [5, 6, 7], 'bounds a tetrahedron from 1.73')):
         page.moved(*page.value(f'{place}({points})'))
-        until = time.time() + 60
-        while page.value("document.getElementById('tip').hidden") and time.time() < until:
+        until, tip = time.time() + 60, ''
+        while said not in tip and time.time() < until:  # on a busy machine what was under it before comes late
             time.sleep(0.1)
-        tip = page.value("document.getElementById('tip').textContent")
+            tip = page.value("document.getElementById('tip').hidden ? '' : document.getElementById('tip').textContent")
         expect(f'the pointer over {what} tells of it: {tip!r}', said in tip)
         page.moved(3, 300)
         page.value("new Promise(done => setTimeout(() => { $('tip').hidden = true; done(1); }, 300))")
@@ -379,6 +415,8 @@ def run(work):
     with Browser() as page:
         cube(page, work)
         surfaces(page, work)
+        moving(page, work)
+        columns(page, work)
         numbers(page, work)
         if os.path.exists(os.path.join(work, 'drawn.html')):
             keys(page)

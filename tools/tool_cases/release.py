@@ -12,6 +12,7 @@ import time
 
 from packed import options, usage
 from tool_cases import CASES, PROGRAM, TOP, expect, is_built, skip, volume_of
+from tool_cases.wrapper import begun, read_to_end, screen
 
 LIBRARY = os.path.join(TOP, 'crates/delaunay_c/out/libdelaunay_c.a')
 CPP = """#include <delaunay_c.h>
@@ -172,6 +173,13 @@ def process(root, work):
         expect('the process is the program', time.time() <= until)
         child.send_signal(signal.SIGTERM)
         expect('a signal ends it', child.wait(10) == -signal.SIGTERM)
+    child, terminal = begun(root, {**os.environ, 'TERM': 'xterm'}, 'mesh')
+    time.sleep(5)
+    with open(f'{TOP}/examples/cube.mesh3', 'rb') as given, open(f'{TOP}/examples/cube.txt', 'rb') as want:
+        out, _ = child.communicate(given.read())
+        told = read_to_end(terminal)
+        expect(f'at a terminal it says that it waits: {told!r}', child.returncode == 0 and out == want.read() and
+               re.search(r'delaunay mesh: \d s, waiting for its input', told) and screen(told) == [''])
     with open(f'{TOP}/examples/cube.mesh3', 'rb') as given, open('/dev/full', 'wb') as full:
         done = subprocess.run([link, 'mesh'], stdin=given, stdout=full, stderr=subprocess.PIPE, check=False)
     expect(f'a full device: {done}', done.returncode == 4 and done.stderr == b'delaunay: write fault\n')

@@ -19,6 +19,8 @@ def tetrahedra(work):
     expect(f'neighbours of the cube: {err}', status == 0 and out == across)
     for suffix in ('vtk', 'vtu', 'mesh', 'msh', 'xdmf'):
         name = os.path.join(work, f'cube.{suffix}')
+        if suffix == 'xdmf' and library('h5py') is None:
+            continue
         status, out, err = tool('export', CUBE, name)
         expect(f'tetrahedra to {suffix}: {err}', status == 0 and len(meshio.read(name).cells_dict['tetra']) == 6)
     for suffix in ('ply', 'off', 'stl', 'obj'):

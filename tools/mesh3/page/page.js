@@ -8,6 +8,7 @@ class Page {
     this.view = new View(this.world, this.axis);
     this.view.read(location.hash);
     this.seen = new Seen(this.world);
+    this.coarse = new Coarse(this.world);
     this.scene = new Scene($('scene'), this.world);
     this.picking = new Picking(this.world, this.seen);
     this.curves = this.world.numbers ? NAMES.map(name => new Curve($(`row-${name}`), this.axis)) : [];
@@ -39,21 +40,22 @@ class Page {
 
   get frameNow() { return this.view.frameOf(...this.sizes); }
 
-  // In motion a drawing that takes long is made with fewer pixels and of the largest triangles alone, and again with
-  // all where it rests.
+  // In motion a drawing that takes long is made with fewer pixels and of a coarse copy, and again with all where it
+  // rests.
   draw() {
     const {view, scene, seen} = this, canvas = $('scene'), now = performance.now();
     const inMotion = now - (this.moving || -1e9) < 160;
     if (inMotion && this.drawnAt) this.pace(now - this.drawnAt);
     this.drawnAt = inMotion ? now : 0;
     const most = 2 ** Math.round(Math.log2(this.most)), coarse = inMotion && seen.solid + seen.loose > most;
-    if (coarse) scene.takeLargest(seen, most);
+    if (coarse) scene.takeCoarse(this.coarse, seen, most);
     const dense = Math.min(devicePixelRatio || 1, 2.5) * (inMotion ? Math.round(10 * this.share) / 10 : 1);
     const wide = Math.round(innerWidth * dense), high = Math.round(innerHeight * dense);
     if (canvas.width !== wide || canvas.height !== high) { canvas.width = wide; canvas.height = high; }
     const few = Math.max(1.5, Math.min(6, 130 / Math.sqrt(this.world.n)));
     scene.draw({turn: view.turn, x: view.x, y: view.y, zoom: view.zoom, frame: this.frameNow, cut: view.plane,
-      colours: view.colours, coarse, dots: view.points ? Math.max(1, few * dense * Math.sqrt(view.zoom)) : 0});
+      colours: view.colours, coarse, alone: view.points === null,
+      dots: view.points === false ? 0 : Math.max(1, few * dense * Math.sqrt(view.zoom))});
     clearTimeout(this.resting);
     if (inMotion) this.resting = setTimeout(() => this.ask(), 200);
     this.frames = (this.frames || 0) + 1;

@@ -47,11 +47,12 @@ void main() {
 }`];
 
 const DOTS = [`in vec3 place; in float joined; uniform float stop, size; out vec4 tint;
-uniform vec4 colour; uniform vec3 alone;
+uniform vec4 colour; uniform vec3 alone; uniform bool others;
 void main() {
   bool isAlone = joined > stop;
+  bool isHidden = joined < 0.0 || !(isAlone || others) || dot(plane.xyz, place) > plane.w + 1e-5;
   tint = isAlone ? vec4(alone, 1.0) : colour;
-  gl_Position = joined < 0.0 || dot(plane.xyz, place) > plane.w + 1e-5 ? vec4(2.0, 2.0, 2.0, 1.0) : seen(turn * place);
+  gl_Position = isHidden ? vec4(2.0, 2.0, 2.0, 1.0) : seen(turn * place);
   gl_PointSize = size * (isAlone ? 1.35 : 1.0);
 }`, `in vec4 tint; uniform bool round; out vec4 shown;
 void main() {
@@ -85,8 +86,8 @@ class Scene {
     this.shapes = {
       solid: this.shape(this.faces, {place: ['places', 3, gl.FLOAT], normal: ['normals', 4, gl.BYTE, true]}),
       loose: this.shape(this.faces, {place: ['places', 3, gl.FLOAT], normal: ['normals', 4, gl.BYTE, true]}),
-      largestSolid: this.shape(this.faces, {place: ['places', 3, gl.FLOAT], normal: ['normals', 4, gl.BYTE, true]}),
-      largestLoose: this.shape(this.faces, {place: ['places', 3, gl.FLOAT], normal: ['normals', 4, gl.BYTE, true]}),
+      coarseSolid: this.shape(this.faces, {place: ['places', 3, gl.FLOAT]}),
+      coarseLoose: this.shape(this.faces, {place: ['places', 3, gl.FLOAT]}),
       cap: this.shape(this.faces, {place: ['cap', 3, gl.FLOAT]}),
       ends: this.shape(this.lines, {place: ['places', 3, gl.FLOAT]}),
       outlines: this.shape(this.lines, {place: ['places', 3, gl.FLOAT]}),
@@ -149,7 +150,7 @@ class Scene {
   // Takes over what is seen at a stop.
   take(seen, stop, withOutlines, withLoose) {
     this.stop = stop;
-    this.largest = 0;
+    this.coarse = 0;
     this.withLoose = withLoose;
     this.send('normals', seen.normals);
     this.send('joined', this.world.joined);
@@ -159,13 +160,13 @@ class Scene {
     this.index('outlines', withOutlines ? seen.outlines(withLoose) : new Uint32Array(0));
   }
 
-  // Takes over the largest of what is seen, about so many, once for a stop and a number.
-  takeLargest(seen, most) {
-    if (this.largest === most) return;
-    const [solid, loose] = seen.largest(most);
-    this.index('largestSolid', solid);
-    this.index('largestLoose', this.withLoose ? loose : new Uint32Array(0));
-    this.largest = most;
+  // Takes over a coarse copy of what is seen, of about so many triangles, once for a stop and a number.
+  takeCoarse(copy, seen, most) {
+    if (this.coarse === most) return;
+    const [solid, loose] = copy.of(seen, most);
+    this.index('coarseSolid', solid);
+    this.index('coarseLoose', this.withLoose ? loose : new Uint32Array(0));
+    this.coarse = most;
   }
 
   // Lines over all else: each a colour and places of ends, three numbers an end.
@@ -202,8 +203,8 @@ class Scene {
     this.gl.drawElements(mode, count, this.gl.UNSIGNED_INT, 0);
   }
 
-  // Draws all; `view` has turn, x, y, zoom, frame, cut, colours, the size of dots in pixels, and whether the largest
-  // triangles alone are drawn, for motion.
+  // Draws all; `view` has turn, x, y, zoom, frame, cut, colours, the size of dots in pixels, whether they are those
+  // alone that nothing joins, and whether a coarse copy is drawn, for motion.
   draw(view) {
     const gl = this.gl, {colours} = view;
     gl.viewport(0, 0, this.canvas.width, this.canvas.height);
@@ -211,16 +212,17 @@ class Scene {
     gl.clear(gl.COLOR_BUFFER_BIT | gl.DEPTH_BUFFER_BIT | gl.STENCIL_BUFFER_BIT);
     const at = this.use(this.faces, view);
     gl.uniform1i(at.plain, 0);
-    gl.uniform1i(at.oneSided, told.turned ? 1 : 0);
+    const isTurned = told.turned && !view.coarse;
+    gl.uniform1i(at.oneSided, isTurned ? 1 : 0);
     gl.uniform3f(at.colour, ...colours.solid);
     gl.uniform1f(at.dim, 0.38);
-    if (told.turned) gl.enable(gl.CULL_FACE); // what is behind is hidden, by the cut's face too
-    this.elements(view.coarse ? 'largestSolid' : 'solid', gl.TRIANGLES);
+    if (isTurned) gl.enable(gl.CULL_FACE); // what is behind is hidden, by the cut's face too
+    this.elements(view.coarse ? 'coarseSolid' : 'solid', gl.TRIANGLES);
     gl.disable(gl.CULL_FACE);
     gl.uniform1i(at.oneSided, 0);
     gl.uniform3f(at.colour, ...colours.loose);
     gl.uniform1f(at.dim, 0.55);
-    this.elements(view.coarse ? 'largestLoose' : 'loose', gl.TRIANGLES);
+    this.elements(view.coarse ? 'coarseLoose' : 'loose', gl.TRIANGLES);
     if (view.coarse) return;
     if (view.cut && told.turned) this.drawCap(view, at);
     this.drawLines(view);
@@ -289,6 +291,7 @@ class Scene {
     gl.uniform1i(at.round, view.dots > 2.5 ? 1 : 0);
     gl.uniform4f(at.colour, ...view.colours.text, 1);
     gl.uniform3f(at.alone, ...view.colours.loose);
+    gl.uniform1i(at.others, view.alone ? 0 : 1);
     gl.bindVertexArray(this.shapes.dots.array);
     gl.drawArrays(gl.POINTS, 0, this.world.n);
   }

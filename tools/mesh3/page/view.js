@@ -18,7 +18,7 @@ class View {
     this.measure();
     this.stop = axis.kept(told.first);
     this.loose = told.loose;
-    this.points = true;
+    this.points = world.n > 20000 ? null : true; // null: those alone that nothing joins, so that faces are seen
     this.lines = null; // where few triangles are seen
     this.cutAxis = 2;
     this.cut = 1; // a share of the cloud's extent; 1 cuts nothing
@@ -83,7 +83,8 @@ class View {
   get text() {
     const parts = [`a=${this.world.alphas[this.stop]}`,
       `v=${[this.az, this.el, this.zoom, this.x, this.y].map(v => +v.toFixed(4)).join(',')}`,
-      `s=${(this.loose ? 'o' : '') + (this.points ? 'p' : '') + (this.lines ? 'e' : this.lines === null ? '' : 'n')}`];
+      `s=${(this.loose ? 'o' : '') + (this.points ? 'p' : this.points === null ? 'a' : '') +
+        (this.lines ? 'e' : this.lines === null ? '' : 'n')}`];
     if (this.cut < 1) parts.push(`c=${'xyz'[this.cutAxis]},${+this.cut.toFixed(4)},${this.cutSide}`);
     if (this.theme !== 'auto') parts.push(`d=${this.theme}`);
     if (this.world.frames) parts.push(`f=${this.frame}`);
@@ -106,7 +107,7 @@ class View {
     if (words.has('s')) {
       const shown = words.get('s');
       this.loose = shown.includes('o');
-      this.points = shown.includes('p');
+      this.points = shown.includes('p') ? true : shown.includes('a') ? null : false;
       this.lines = shown.includes('e') ? true : shown.includes('n') ? false : null;
     }
     const [axis, place, side] = (words.get('c') || ',,').split(',');

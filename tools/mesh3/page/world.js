@@ -12,10 +12,10 @@ async function bytesOf(text) {
 }
 
 // A column of whole numbers: planes of bytes, the low ones first; `steps` adds each to the one before, `signed` undoes
-// the folding of numbers below 0.
+// the folding of numbers below 0; of `wide` ones some have more than 31 bits.
 function columnOf(bytes, of) {
-  const {at, count, planes, steps, signed} = of;
-  const values = planes > 3 ? new Float64Array(count) : new Int32Array(count);
+  const {at, count, planes, steps, signed, wide} = of;
+  const values = wide || planes > 3 ? new Float64Array(count) : new Int32Array(count);
   for (let plane = planes - 1; plane >= 0; plane--) {
     const start = at + plane * count;
     for (let i = 0; i < count; i++) values[i] = values[i] * 256 + bytes[start + i];
@@ -176,7 +176,6 @@ class Seen {
     this.ends = new Uint32Array(2 * world.edges.count);
     this.sums = new Float32Array(3 * world.n);
     this.areas = new Float32Array(world.n); // at each point
-    this.sizes = new Float32Array(world.triangles.count); // of each triangle that is seen
     this.normals = new Int8Array(4 * world.n);
     this.solid = this.loose = this.lines = 0;
   }
@@ -220,7 +219,6 @@ class Seen {
       const bx = p[k] - p[i], by = p[k + 1] - p[i + 1], bz = p[k + 2] - p[i + 2];
       const x = ay * bz - az * by, y = az * bx - ax * bz, z = ax * by - ay * bx;
       const area = Math.sqrt(x * x + y * y + z * z);
-      this.sizes[c / 3] = area;
       areas[u] += area; areas[v] += area; areas[w] += area;
       sums[i] += x; sums[i + 1] += y; sums[i + 2] += z;
       sums[j] += x; sums[j + 1] += y; sums[j + 2] += z;
@@ -232,30 +230,6 @@ class Seen {
       normals[4 * i + 1] = sums[3 * i + 1] * scale;
       normals[4 * i + 2] = sums[3 * i + 2] * scale;
     }
-  }
-
-  // About so many of the largest triangles that are seen, for drawing in motion: corners of those at tetrahedra, and of
-  // loose ones as many as their share.
-  largest(most) {
-    const share = Math.min(1, most / Math.max(1, this.solid + this.loose)), some = [];
-    const step = Math.max(1, Math.floor(this.solid / 4000));
-    for (let f = 0; f < this.solid; f += step) some.push(this.sizes[f]);
-    some.sort((a, b) => b - a);
-    const least = some.length ? some[Math.min(some.length - 1, Math.floor(share * some.length))] : 0;
-    const solid = new Uint32Array(3 * this.solid), loose = new Uint32Array(3 * Math.ceil(this.loose * share + 1));
-    let count = 0;
-    for (let f = 0; f < this.solid; f++) {
-      if (this.sizes[f] < least) continue;
-      solid.set(this.corners.subarray(3 * f, 3 * f + 3), count);
-      count += 3;
-    }
-    let taken = 0;
-    const every = this.looseCorners;
-    for (let k = 0; taken + 3 <= loose.length && Math.floor(k / share) < this.loose; k++, taken += 3) {
-      const f = Math.floor(k / share);
-      loose.set(every.subarray(3 * f, 3 * f + 3), taken);
-    }
-    return [solid.subarray(0, count), loose.subarray(0, taken)];
   }
 
   // The sides of all triangles that are seen, as pairs of points.

@@ -1,8 +1,8 @@
 # What is said of the words of `delaunay`: help, and which word it does not take. The program itself decides: what is
 # told here of words only says whether it is waited for, and what is added to its status 2.
 #
-# Sourced by bin/delaunay of a release and by ./delaunay of the repository, with $help for the file of the help. It
-# calls nothing but the shell.
+# Sourced by bin/delaunay of a release and by ./delaunay of the repository, with $help for the file of the help, beside
+# progress.sh. It calls nothing but the shell.
 # shellcheck shell=sh disable=SC2154
 
 show() { while IFS= read -r line; do printf '%s\n' "$line"; done <"$1"; }
@@ -130,14 +130,13 @@ explain() {
 }
 
 # Runs the program in place of this shell; but it is waited for where its words may not be taken, of which it reads no
-# input, and at a terminal, where somebody is told what to do about a file that is none.
+# input, and at a terminal, where somebody is told what it does, and what to do about a file that is none.
 run_program() { # PROGRAM WORDS
     program=$1
     shift
     find_fault "$@"
     [ -n "$fault" ] || [ -t 2 ] || exec "$program" "$@"
-    "$program" "$@"
-    status=$?
+    wait_for_program "$program" "$@"
     if [ "$status" = 2 ]; then
         explain >&2
     elif [ "$status" = 5 ] && [ -t 2 ]; then
