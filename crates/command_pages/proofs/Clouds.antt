@@ -12,8 +12,7 @@ use Rattle.edit_history.specs.Histories.{replay}
 use Rattle.edit_history.specs.Laws.{KeepsLaw, ReplayLaw}
 use Rattle.edit_history.specs.Opening.{opening_four, FourPlaces}
 use Rattle.edit_history.specs.OneThread.{Keeps, one_thread, places}
-use Rattle.one_mesh.proofs.Cited.{found}
-pub use Rattle.one_mesh.proofs.Cited.{leaves_points, set_is}
+use Rattle.point_history.proofs.Cited.{found}
 use Rattle.edit_files.specs.Content.{Content}
 use Rattle.command_pages.specs.Run.{AreDealt, IsKept}
 
@@ -35,7 +34,7 @@ pub kept_by_any : (file : Content) (four : List ℕ) (h : List Entry) → KeepsL
     → h ≡ one_thread file.points [] → (workers : ℕ) → 0 < workers → IsKept file workers h
 kept_by_any file four h law e none is workers some =
     let same : h ≡ one_thread file.points file.edits = is ∙ ap (one_thread file.points) (sym none) in
-    let one = found (opening_four file.points) four e (law file.points file.edits) in
+    let one = (found (opening_four file.points) four e (law file.points file.edits)).1 in
     record {
       keeps = subst (Keeps file.points file.edits workers) (sym same)
           (any_workers file.points file.edits workers (one_thread file.points file.edits) some one);

@@ -19,8 +19,8 @@ use command_words::{Asked, Making};
 use edit_files::File;
 use edit_history::Entry;
 use edit_history::laws::{one_thread_is_legal, solidity_is_of_the_set};
-use point_history::history_of_points;
-use point_order::{Point, points_in_order};
+use point_history::{history_of_points, set_of};
+use point_order::Point;
 use std::alloc::{AllocError, Global};
 
 // Reads each key, so that it is known to be one.
@@ -30,17 +30,6 @@ fn read_keys(points: &[Point])
     for point in points {
         let _ = point.key();
     }
-}
-
-// The points of a list, ascending and each once.
-fn set_of(alloc: Global, list: &[Point]) -> Result<Vec<Point>, AllocError>
-    ensures set { IfOk result (λ points. points.items ≡ ascending list.now) }
-    ensures ascending { IfOk result (λ points. IsAscending points.items) }
-    ensures keys { IfOk result (λ points. AreKeys points.items) }
-{
-    let points = points_in_order(Vec::from_slice(alloc, list)?);
-    read_keys(&points);
-    Ok(points)
 }
 
 /// The history of one thread of a file without edit lines, and the parts of its report. No mesh is made: the history
@@ -71,6 +60,7 @@ pub fn made_of_points(
     one_thread_is_legal();
     solidity_is_of_the_set();
     let points = set_of(alloc, &file.points)?;
+    read_keys(&points);
     let cells = complex_of_points(alloc, &points)?;
     let kept = history_of_points(alloc, &file.points, four)?;
     let parts = parts_of(alloc, making, asked, file, points, cells, &kept)?;

@@ -57,8 +57,9 @@ entries_both n s (line ∷ part) rest =
     let t = after s line.1 in
     let e : n + 1 + length part ≡ n + suc (length part) = omega arith in
     let first : Entry = record { number = n; by = 0; tag = line.0; edit = line.1; reply = reply_to s line.1 } in
+    let made : List Entry = entries_from (n + 1) t part in
     ap (λ (l : List Entry). first ∷ l) (entries_both (n + 1) t part rest
-    ∙ ap (λ (m : ℕ). entries_from (n + 1) t part ++ entries_from m (replay_from t (entries_from (n + 1) t part)) rest) e)
+    ∙ ap (λ (m : ℕ). made ++ entries_from m (replay_from t made) rest) e)
 
 -- so those of all segments are runs of each
 all_runs : (n : ℕ) (s : List ℕ) (parts : List (List Pair)) → EachLater Rises (flat_map (λ l. l) parts) →

@@ -17,7 +17,8 @@ first_made : (h : List Entry) (tag : ℕ) (edit : Edit) (edits : List Edit) →
 first_made h tag edit edits =
     let e : Entry = record { number = length h; by = 0; tag = tag; edit = edit; reply = reply_to (replay h) edit } in
     let n : length (h ++ e ∷ []) ≡ length h + 1 = length-append h (e ∷ []) in
-    append_assoc h (e ∷ []) (entries_from (length (h ++ e ∷ [])) (replay (h ++ e ∷ [])) (enumerate_from (tag + 1) edits))
+    append_assoc h (e ∷ [])
+    (entries_from (length (h ++ e ∷ [])) (replay (h ++ e ∷ [])) (enumerate_from (tag + 1) edits))
     ∙ (λ i. h ++ e ∷ entries_from (n i) (replay_more [] h e i) (enumerate_from (tag + 1) edits))
 
 -- what is made with the edits from the place on is made with those behind it, once that of the place is made

@@ -16,8 +16,8 @@ ghost use Rattle.linked_mesh.specs.Applied.{edited};
 use crate::set::LinkedSet;
 use edit_history::laws::{one_thread_is_legal, solidity_is_of_the_set};
 use edit_history::{Edit, Entry, Receipt};
-use point_history::history_of_points;
-use point_order::{Cell, Point, points_in_order};
+use point_history::{history_of_points, set_of};
+use point_order::{Cell, Point};
 use std::alloc::{AllocError, Global};
 use std::marker::Model;
 
@@ -38,14 +38,6 @@ impl Model for LinkedMesh {
     ghost view = { λ m. m.entries.items };
 
     ghost invariant = { λ m. m.set ≡ replay m.entries.items };
-}
-
-// The points of a list, ascending and each once.
-pub(crate) fn set_of(alloc: Global, list: &[Point]) -> Result<Vec<Point>, AllocError>
-    ensures set { IfOk result (λ points. points.items ≡ ascending list.now) }
-    ensures ascending { IfOk result (λ points. IsAscending points.items) }
-{
-    Ok(points_in_order(Vec::from_slice(alloc, list)?))
 }
 
 /// The mesh of a history that is there already, and of the points that it leaves, four of which are independent.

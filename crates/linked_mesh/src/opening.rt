@@ -3,9 +3,10 @@
 ghost use Rattle.std.specs.Prelude.{◌≡◌, IfOk};
 ghost use Rattle.insertion.specs.Opening.{AreFourIndependent, inserted, opening_history};
 
-use crate::mesh::{LinkedMesh, of_history, set_of};
+use crate::mesh::{LinkedMesh, of_history};
 use edit_history::laws::solidity_is_of_the_set;
 use edit_history::{Edit, Entry, Receipt, Reply};
+use point_history::set_of;
 use point_order::Point;
 use std::alloc::{AllocError, Global};
 

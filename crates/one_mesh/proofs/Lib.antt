@@ -1,4 +1,2 @@
 pub mod Edited
 pub mod Gathering
-pub mod CloudLaws
-pub mod Cited

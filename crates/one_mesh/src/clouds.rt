@@ -1,24 +1,15 @@
 //! The mesh of a cloud of points, made at once.
 
 ghost use Rattle.std.specs.Prelude.{◌≡◌, ◌≤◌, ◌^◌, [], Some, length, option_map, IfOk};
-ghost use Rattle.point_order.specs.Sets.{IsAscending, ascending};
 ghost use Rattle.edit_history.specs.OneThread.{one_thread, places};
 ghost use Rattle.edit_history.specs.Opening.{opening_four};
 
 use cell_store::{Grid, Mesh};
 use cloud_cells::complex_of_points;
 use edit_history::laws::{one_thread_is_legal, solidity_is_of_the_set};
-use point_history::history_of_points;
-use point_order::{Point, points_in_order};
+use point_history::{history_of_points, set_of};
+use point_order::Point;
 use std::alloc::{AllocError, Global};
-
-// The points of a list, ascending and each once.
-fn set_of(alloc: Global, list: &[Point]) -> Result<Vec<Point>, AllocError>
-    ensures set { IfOk result (λ points. points.items ≡ ascending list.now) }
-    ensures ascending { IfOk result (λ points. IsAscending points.items) }
-{
-    Ok(points_in_order(Vec::from_slice(alloc, list)?))
-}
 
 /// The mesh of a cloud, made at once: what `begin` with its opening four makes, and then `apply` with each other point,
 /// in the order of the list. So its history has the opening four first, in their order, and then the others, each an

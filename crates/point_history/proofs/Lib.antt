@@ -1,3 +1,4 @@
 pub mod KeySets
 pub mod MoreLines
+pub mod PointSets
 pub mod Cited

@@ -1,7 +1,7 @@
 use Rattle.std.proofs.Common.{◌∙◌, ap, subst, sym}
 use Rattle.point_order.specs.Sets.{IsAscending}
 use Rattle.point_order.specs.Solid.{is_solid}
-use Rattle.linked_mesh.proofs.Clouds.{leaves_points, solid_by}
+use Rattle.point_history.proofs.Cited.{leaves_points, solid_by}
 use Rattle.linked_mesh.proofs.mesh.begin_cloud.Goals as goal
 
 pub of_points-requires-clause-ascending : goal.of_points-requires-clause-ascending

@@ -4,7 +4,7 @@ use Rattle.edit_history.specs.Opening.{opening_four}
 use Rattle.edit_history.specs.OneThread.{one_thread, places}
 use Rattle.cell_store.specs.Meshes.{MeshView}
 use Rattle.mesh_rows.specs.Meshes.{IsSetOf}
-use Rattle.one_mesh.proofs.Cited.{leaves_points, set_is}
+use Rattle.point_history.proofs.Cited.{leaves_points, set_is}
 use Rattle.mesh_handle.proofs.opening.mesh_at.Goals as goal
 
 pub returns-clause-points : goal.returns-clause-points

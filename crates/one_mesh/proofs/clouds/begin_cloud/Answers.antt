@@ -1,9 +1,8 @@
-use Rattle.std.proofs.Common.{◌∙◌, ◌≡◌, [], sym, ap, subst, List, ℕ, true}
+use Rattle.std.proofs.Common.{◌∙◌, sym, ap, subst}
 use Rattle.point_order.specs.Sets.{IsAscending}
 use Rattle.point_order.specs.Solid.{is_solid}
-use Rattle.edit_history.specs.declared.history.Entry.{Entry}
 use Rattle.edit_history.specs.Histories.{replay}
-use Rattle.one_mesh.proofs.CloudLaws.{leaves_points, solid_by}
+use Rattle.point_history.proofs.Cited.{leaves_points, solid_by}
 use Rattle.one_mesh.proofs.clouds.begin_cloud.Goals as goal
 
 pub complex_of_points-requires-clause-ascending : goal.complex_of_points-requires-clause-ascending

@@ -1,7 +1,7 @@
 use Rattle.std.proofs.Common.{List, ℕ, subst}
 use Rattle.point_order.specs.Sets.{AreSamePoints}
-use Rattle.one_mesh.proofs.CloudLaws.{set_is}
-use Rattle.one_mesh.proofs.clouds.set_of.Goals as goal
+use Rattle.point_history.proofs.PointSets.{set_is}
+use Rattle.point_history.proofs.sets.set_of.Goals as goal
 
 pub returns-clause-set : goal.returns-clause-set
 returns-clause-set c =
