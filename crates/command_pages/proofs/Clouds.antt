@@ -1,16 +1,13 @@
 -- The history of one thread of a file keeps it for every number of workers.
-use Rattle.std.specs.Prelude.{◌≡◌, ◌⊎◌, ℕ, ◌%◌, ◌<◌, List, [], Option, None, Some, IfSome}
+use Rattle.std.specs.Prelude.{◌≡◌, ◌⊎◌, ℕ, ◌%◌, ◌<◌, List, [], Some}
 use Rattle.std.specs.Option.{option_map}
 use Rattle.std.proofs.Common.{sym, ◌∙◌, ap, subst, inl, arith}
 use Rattle.list_laws.proofs.Cited.{all_of_each, each_of_all}
-use Rattle.point_order.specs.Sets.{AreSamePoints, IsAscending, ascending}
-use Rattle.point_order.proofs.Cited.{ascending_is}
 use Rattle.edit_history.specs.declared.history.Edit.{Edit}
 use Rattle.edit_history.specs.declared.history.Entry.{Entry}
 use Rattle.edit_history.specs.Edits.{point_of}
-use Rattle.edit_history.specs.Histories.{replay}
-use Rattle.edit_history.specs.Laws.{KeepsLaw, ReplayLaw}
-use Rattle.edit_history.specs.Opening.{opening_four, FourPlaces}
+use Rattle.edit_history.specs.Laws.{KeepsLaw}
+use Rattle.edit_history.specs.Opening.{opening_four}
 use Rattle.edit_history.specs.OneThread.{Keeps, one_thread, places}
 use Rattle.point_history.proofs.Cited.{found}
 use Rattle.edit_files.specs.Content.{Content}

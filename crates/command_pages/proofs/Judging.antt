@@ -1,6 +1,6 @@
 -- What the judging of a file says of its bytes.
 use Rattle.std.proofs.Common.{◌≡◌, refl, subst, ap, ◌∙◌, ℕ, ◌+◌, ◌<◌, ◌≤◌, List, [], ◌∷◌, ◌++◌, length, arith, inl, inr}
-use Rattle.std.specs.Prelude.{Option, None, Some, IfSome, IfErr, IfOk, Result, Ok, Err, All}
+use Rattle.std.specs.Prelude.{Option, None, Some, IfSome, IfErr, IfOk, Result, Ok, Err}
 use Rattle.std.specs.List.{AllZip}
 use Rattle.list_laws.proofs.Cited.{length_zip}
 use Rattle.edit_files.specs.Content.{Content, content}

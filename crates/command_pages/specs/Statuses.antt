@@ -1,6 +1,5 @@
 -- The statuses of a run, and the line that each has on standard error.
-use Rattle.std.specs.Prelude.{◌≡◌, ◌≢◌, ◌⊎◌, ◌<◌, ℕ, ◌==◌, List, [], ◌++◌, codes, decimal, Option, IfSome}
-use Rattle.std.specs.Prelude.{if◌then◌else◌}
+use Rattle.std.specs.Prelude.{◌≡◌, ◌≢◌, ◌⊎◌, ◌<◌, ℕ, List, ◌++◌, codes, decimal, Option, IfSome}
 use Rattle.edit_files.specs.declared.fault.Why.{Why}
 use Rattle.edit_files.specs.declared.fault.Why.TheVariants.{Section, Field, Range, TooMany, Truncated}
 use Rattle.edit_files.specs.declared.fault.Fault.{Fault}

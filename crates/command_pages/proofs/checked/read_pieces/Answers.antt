@@ -1,4 +1,4 @@
-use Rattle.std.proofs.Common.{◌∙◌, ◌-◌, ◌++◌, ap, arith, inl, inr, length, subst, ◌≡◌, ◌≤◌, ℕ, List}
+use Rattle.std.proofs.Common.{◌∙◌, ◌-◌, ap, arith, inl, inr, length, subst, ◌≡◌, ◌≤◌, ℕ}
 use Rattle.std.specs.Prelude.{Ok}
 use Rattle.command_pages.proofs.PiecesRead.{HasRoom, all_read, early_read, full, none_read, not_end, not_err, not_full}
 use Rattle.command_pages.proofs.PiecesRead.{piece_within, read_on, reader_read, left_room, reads_so, some_room}
