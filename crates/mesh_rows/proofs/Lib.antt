@@ -3,3 +3,4 @@ mod Others
 mod Clouds
 mod RowLaws
 mod Alphas
+mod RankAt

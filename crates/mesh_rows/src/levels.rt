@@ -41,7 +41,7 @@ fn full_one(cell: &Cell) -> usize
 }
 
 // How many Full cells there are.
-fn full_count(cells: &[Cell]) -> usize
+pub(crate) fn full_count(cells: &[Cell]) -> usize
     ensures { result ≡ length (full_cells cells.now) }
 {
     let mut count = 0;
@@ -94,7 +94,7 @@ fn alphas_of_triples(alloc: Global, known: &Alphas) -> Result<Vec<FaceAlphas>, A
 }
 
 // Those of a set and its cells.
-fn face_rows(alloc: Global, set: &[Point], all: &[Cell]) -> Result<Levels, AllocError>
+pub(crate) fn face_rows(alloc: Global, set: &[Point], all: &[Cell]) -> Result<Levels, AllocError>
     requires { IsCloud set.now all.now }
     ensures rows { IfOk result (λ l. AreFaceRows set.now l.point_alphas.items l.edges.items l.edge_alphas.items
         l.triangles.items l.triangle_alphas.items l.cell_alphas.items) }

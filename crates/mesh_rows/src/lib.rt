@@ -11,6 +11,7 @@
 //!     put_mesh(&made, points, cells, neighbours, hull);
 //! }
 //! let levels = levels_of(alloc, &places)?;   // every face with its least alphas
+//! let both = filtered_of(alloc, &places)?;   // the mesh and its faces, by one triangulation
 //! let least = least_alpha_of(alloc, &places, 1)?;     // at which all points are in one solid part
 //! let parts = parts_of(alloc, &places, 4800)?;        // the solid parts at a squared radius of 300
 //! ```
@@ -18,16 +19,19 @@
 
 mod across;
 mod cloud;
+mod filtered;
 mod hints;
 mod levels;
 mod mesh;
 mod numbers;
 mod parts;
+mod ranks;
 mod room;
 mod rows;
 mod stop;
 
 pub use cloud::{are_few, are_solid, point_at, set_of};
+pub use filtered::{Filtered, filtered_of};
 pub use levels::{Levels, levels_of};
 pub use mesh::{Made, mesh_of, rows_of};
 pub use numbers::place_at;

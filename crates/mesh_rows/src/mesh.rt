@@ -5,6 +5,7 @@ ghost use Rattle.mesh_rows.specs.Meshes.{AreMeshRows, IsStopCause, IsCloud, IsMe
 
 use crate::across::neighbours;
 use crate::cloud::cloud_of;
+use crate::levels::full_count;
 use crate::numbers::{cells, hull, places};
 use crate::rows::{CellRow, Place, TriangleRow};
 use crate::stop::Stop;
@@ -29,8 +30,8 @@ pub fn rows_of(alloc: Global, set: &[Point], all: &[Cell]) -> Result<Made, Alloc
     ensures rows { IfOk result (λ m. AreMeshRows set.now m.points.items m.cells.items m.neighbours.items m.hull.items) }
     ensures count { IfOk result (λ m. length m.neighbours.items ≡ length m.cells.items) }
 {
+    let across = neighbours(alloc, all, full_count(all))?;
     let rows = cells(alloc, set, all)?;
-    let across = neighbours(alloc, all, rows.len())?;
     let outer = hull(alloc, set, all)?;
     let spots = places(alloc, set)?;
     Ok(Made {

@@ -5,6 +5,8 @@ ghost use Rattle.face_list.specs.Faces.{full_cells};
 ghost use Rattle.point_order.specs.Sets.{IsAscending};
 ghost use Rattle.mesh_rows.specs.Rows.{cell_row, edge_row, rank_of, open_cells, point_place, triangle_row};
 
+use crate::levels::full_count;
+use crate::ranks::{Ranks, ranks_of};
 use crate::rows::{CellRow, EdgeRow, Place, TriangleRow};
 use point_order::{Cell, Pair, Point, Quad, Tri};
 use std::alloc::{AllocError, Global};
@@ -27,55 +29,59 @@ pub fn places(alloc: Global, points: &[Point]) -> Result<Vec<Place>, AllocError>
     points.iter().map(|p| place_at(*p)).collect(alloc)
 }
 
-// The number of a point of an ascending list.
-fn number(points: &[Point], point: Point) -> u32
+// The number of a point of an ascending list. The hint is looked at before it is believed.
+fn number(points: &[Point], ranks: &Ranks, point: Point) -> u32
     requires few { length points.now < 2 ^ 32 }
     requires ascending { IsAscending points.now }
     ensures { result ≡ rank_of points.now point }
 {
     let key = point.key();
+    let likely = ranks.place(points, key);
+    if likely < points.len() && points[likely].key() == key {
+        return likely as u32;
+    }
     points.partition_point(|q| q.key() < key) as u32
 }
 
 // The row of an edge.
-fn edge(points: &[Point], pair: &Pair) -> EdgeRow
+fn edge(points: &[Point], ranks: &Ranks, pair: &Pair) -> EdgeRow
     requires few { length points.now < 2 ^ 32 }
     requires ascending { IsAscending points.now }
     ensures { result ≡ edge_row points.now pair.now }
 {
     let (a, b) = pair.corners();
     EdgeRow {
-        a: number(points, a),
-        b: number(points, b),
+        a: number(points, ranks, a),
+        b: number(points, ranks, b),
     }
 }
 
 // The row of a triangle.
-fn triangle(points: &[Point], tri: &Tri) -> TriangleRow
+fn triangle(points: &[Point], ranks: &Ranks, tri: &Tri) -> TriangleRow
     requires few { length points.now < 2 ^ 32 }
     requires ascending { IsAscending points.now }
     ensures { result ≡ triangle_row points.now tri.now }
 {
     let (a, b, c) = tri.corners();
     TriangleRow {
-        a: number(points, a),
-        b: number(points, b),
-        c: number(points, c),
+        a: number(points, ranks, a),
+        b: number(points, ranks, b),
+        c: number(points, ranks, c),
     }
 }
 
 /// The row of a tetrahedron.
-pub fn tetrahedron(points: &[Point], quad: &Quad) -> CellRow
+pub fn tetrahedron(points: &[Point], ranks: &Ranks, quad: &Quad) -> CellRow
     requires few { length points.now < 2 ^ 32 }
     requires ascending { IsAscending points.now }
     ensures { result ≡ cell_row points.now quad.now }
 {
     let (a, b, c, d) = quad.corners();
     CellRow {
-        a: number(points, a),
-        b: number(points, b),
-        c: number(points, c),
-        d: number(points, d),
+        a: number(points, ranks, a),
+        b: number(points, ranks, b),
+        c: number(points, ranks, c),
+        d: number(points, ranks, d),
     }
 }
 
@@ -85,9 +91,10 @@ pub fn edges(alloc: Global, points: &[Point], pairs: &[Pair]) -> Result<Vec<Edge
     requires ascending { IsAscending points.now }
     ensures { IfOk result (λ rows. rows.items ≡ map (edge_row points.now) pairs.now) }
 {
+    let ranks = ranks_of(alloc, points)?;
     let mut rows = Vec::with_capacity(alloc, pairs.len())?;
     for pair in pairs {
-        rows.push(edge(points, pair))?;
+        rows.push(edge(points, &ranks, pair))?;
     }
     Ok(rows)
 }
@@ -102,22 +109,28 @@ pub fn triangles(
     requires ascending { IsAscending points.now }
     ensures { IfOk result (λ rows. rows.items ≡ map (triangle_row points.now) tris.now) }
 {
+    let ranks = ranks_of(alloc, points)?;
     let mut rows = Vec::with_capacity(alloc, tris.len())?;
     for tri in tris {
-        rows.push(triangle(points, tri))?;
+        rows.push(triangle(points, &ranks, tri))?;
     }
     Ok(rows)
 }
 
 // Puts the row of a cell, where it is Full.
-fn put_full(rows: &mut Vec<CellRow>, points: &[Point], cell: &Cell) -> Result<(), AllocError>
+fn put_full(
+    rows: &mut Vec<CellRow>,
+    points: &[Point],
+    ranks: &Ranks,
+    cell: &Cell,
+) -> Result<(), AllocError>
     requires few { length points.now < 2 ^ 32 }
     requires ascending { IsAscending points.now }
     ensures { OnOk result (rows.new.items
         ≡ rows.old.items ++ map (cell_row points.now) (full_cells (cell.now ∷ []))) }
 {
     if let Cell::Full(quad) = cell {
-        rows.push(tetrahedron(points, quad))?;
+        rows.push(tetrahedron(points, ranks, quad))?;
     }
     Ok(())
 }
@@ -128,22 +141,28 @@ pub fn cells(alloc: Global, points: &[Point], all: &[Cell]) -> Result<Vec<CellRo
     requires ascending { IsAscending points.now }
     ensures { IfOk result (λ rows. rows.items ≡ map (cell_row points.now) (full_cells all.now)) }
 {
-    let mut rows = Vec::new(alloc);
+    let ranks = ranks_of(alloc, points)?;
+    let mut rows = Vec::with_capacity(alloc, full_count(all))?;
     for cell in all {
-        put_full(&mut rows, points, cell)?;
+        put_full(&mut rows, points, &ranks, cell)?;
     }
     Ok(rows)
 }
 
 // Puts the row of a cell, where it is Open.
-fn put_open(rows: &mut Vec<TriangleRow>, points: &[Point], cell: &Cell) -> Result<(), AllocError>
+fn put_open(
+    rows: &mut Vec<TriangleRow>,
+    points: &[Point],
+    ranks: &Ranks,
+    cell: &Cell,
+) -> Result<(), AllocError>
     requires few { length points.now < 2 ^ 32 }
     requires ascending { IsAscending points.now }
     ensures { OnOk result (rows.new.items
         ≡ rows.old.items ++ map (triangle_row points.now) (open_cells (cell.now ∷ []))) }
 {
     if let Cell::Open(tri) = cell {
-        rows.push(triangle(points, tri))?;
+        rows.push(triangle(points, ranks, tri))?;
     }
     Ok(())
 }
@@ -154,9 +173,10 @@ pub fn hull(alloc: Global, points: &[Point], all: &[Cell]) -> Result<Vec<Triangl
     requires ascending { IsAscending points.now }
     ensures { IfOk result (λ rows. rows.items ≡ map (triangle_row points.now) (open_cells all.now)) }
 {
+    let ranks = ranks_of(alloc, points)?;
     let mut rows = Vec::new(alloc);
     for cell in all {
-        put_open(&mut rows, points, cell)?;
+        put_open(&mut rows, points, &ranks, cell)?;
     }
     Ok(rows)
 }

@@ -12,6 +12,7 @@ ghost use Rattle.mesh_rows.specs.Rows.{cell_row};
 
 use crate::cloud::cloud_of;
 use crate::numbers::tetrahedron;
+use crate::ranks::{Ranks, ranks_of};
 use crate::room::put;
 use crate::rows::{CellRow, Place};
 use crate::stop::Stop;
@@ -59,13 +60,18 @@ pub fn least_alpha_of(alloc: Global, given: &[Place], parts: u32) -> Result<Opti
 }
 
 // Puts the rows of the cells of a part behind the others.
-fn put_part(rows: &mut Vec<CellRow>, points: &[Point], part: &Part) -> Result<(), AllocError>
+fn put_part(
+    rows: &mut Vec<CellRow>,
+    points: &[Point],
+    ranks: &Ranks,
+    part: &Part,
+) -> Result<(), AllocError>
     requires few { length points.now < 2 ^ 32 }
     requires ascending { IsAscending points.now }
     ensures { OnOk result (rows.new.items ≡ rows.old.items ++ map (cell_row points.now) part.now.cells.items) }
 {
     for quad in &part.cells {
-        rows.push(tetrahedron(points, quad))?;
+        rows.push(tetrahedron(points, ranks, quad))?;
     }
     Ok(())
 }
@@ -76,9 +82,10 @@ fn cells_of(alloc: Global, points: &[Point], parts: &[Part]) -> Result<Vec<CellR
     requires ascending { IsAscending points.now }
     ensures { IfOk result (λ rows. rows.items ≡ map (cell_row points.now) (cells_of_parts (parts_seen parts.now))) }
 {
+    let ranks = ranks_of(alloc, points)?;
     let mut rows = Vec::new(alloc);
     for part in parts {
-        put_part(&mut rows, points, part)?;
+        put_part(&mut rows, points, &ranks, part)?;
     }
     Ok(rows)
 }

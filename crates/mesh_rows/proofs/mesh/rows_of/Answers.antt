@@ -6,11 +6,6 @@ use Rattle.mesh_rows.specs.Rows.{cell_row, open_cells, triangle_row}
 use Rattle.mesh_rows.specs.Across.{AreNeighbours}
 use Rattle.mesh_rows.proofs.mesh.rows_of.Goals as goal
 
-pub neighbours-requires-clause-count : goal.neighbours-requires-clause-count
-neighbours-requires-clause-count c =
-    c.len.ensures ∙ c.in_ok-rows.rows.ok.0 ∙ ap length c.in_ok-rows.ensures
-    ∙ length-map (full_cells c.args.all.now) (cell_row c.args.set.now)
-
 pub returns-clause-rows : goal.returns-clause-rows
 returns-clause-rows c =
     let s = c.args.set.now in

@@ -1,6 +1,3 @@
-use Rattle.std.proofs.Common.{subst, sym}
-use Rattle.face_list.specs.Seen.{FaceLists}
-use Rattle.alpha_complex.specs.Condition.{AreFacesOf}
 use Rattle.mesh_rows.proofs.Alphas.{faces_of}
 use Rattle.mesh_rows.proofs.parts.part_rows.Goals as goal
 
