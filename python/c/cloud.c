@@ -1,6 +1,6 @@
 /* Reads lines of three whole numbers, and writes the mesh as the command `mesh` does behind its replies, or with the
- * word `steps` the least alphas as the command `steps` does, or with `parts ALPHA` or `most COUNT` the solid parts as
- * the command `parts` does. */
+ * word `steps`, or `filtered`, by one call, the least alphas as the command `steps` does, or with `parts ALPHA` or
+ * `most COUNT` the solid parts as the command `parts` does. */
 #include "put.h"
 #include <string.h>
 
@@ -52,54 +52,71 @@ static void put_alpha(uint64_t alpha) {
     }
 }
 
-static int steps(void) {
-    struct delaunay_c_mesh_sizes m = {0, 0, 0};
-    struct delaunay_c_face_sizes n = {0, 0, 0, 0};
-    struct delaunay_c_place one_place;
-    struct delaunay_c_cell one_cell, other_cell;
-    struct delaunay_c_triangle one;
-    struct delaunay_c_edge one_edge;
-    struct delaunay_c_alphas a, b, c;
-    uint64_t d;
-    int status = delaunay_c_mesh(given, count, &one_place, 0, &one_cell, 0, &other_cell, 0, &one, 0, &m);
+/* A mesh and its faces. */
+struct filtered {
+    struct delaunay_c_mesh_sizes m;
+    struct delaunay_c_face_sizes n;
+    struct delaunay_c_place *points;
+    struct delaunay_c_cell *cells, *across;
+    struct delaunay_c_triangle *hull, *triangles;
+    struct delaunay_c_edge *edges;
+    struct delaunay_c_alphas *point_alphas, *edge_alphas, *triangle_alphas;
+    uint64_t *cell_alphas;
+};
+
+/* By one call for both, or by a call for each. */
+static int filter(struct filtered *f, int by_one) {
+    struct delaunay_c_mesh_sizes *m = &f->m;
+    struct delaunay_c_face_sizes *n = &f->n;
+    if (by_one) {
+        return delaunay_c_filtered(given, count, f->points, m->points, f->cells, m->cells, f->across, m->cells, f->hull,
+                                   m->hull, f->point_alphas, n->points, f->edges, n->edges, f->edge_alphas, n->edges,
+                                   f->triangles, n->triangles, f->triangle_alphas, n->triangles, f->cell_alphas,
+                                   n->cells, m, n);
+    }
+    int status = delaunay_c_mesh(given, count, f->points, m->points, f->cells, m->cells, f->across, m->cells, f->hull,
+                                 m->hull, m);
+    int other = delaunay_c_alphas(given, count, f->point_alphas, n->points, f->edges, n->edges, f->edge_alphas,
+                                  n->edges, f->triangles, n->triangles, f->triangle_alphas, n->triangles,
+                                  f->cell_alphas, n->cells, n);
+    return status == other && n->points == m->points && n->cells == m->cells ? status : 9;
+}
+
+/* The first call has no room, and tells what is wanted. */
+static int steps(int by_one) {
+    struct filtered f = {0};
+    int status = filter(&f, by_one);
     if (status != DELAUNAY_C_ROOM) {
         return status;
     }
-    status = delaunay_c_alphas(given, count, &a, 0, &one_edge, 0, &b, 0, &one, 0, &c, 0, &d, 0, &n);
-    if (status != DELAUNAY_C_ROOM || n.points != m.points || n.cells != m.cells) {
-        return status;
-    }
-    struct delaunay_c_place *points = room(m.points, sizeof *points);
-    struct delaunay_c_cell *cells = room(m.cells, sizeof *cells), *across = room(m.cells, sizeof *across);
-    struct delaunay_c_triangle *hull = room(m.hull, sizeof *hull), *triangles = room(n.triangles, sizeof *triangles);
-    struct delaunay_c_edge *edges = room(n.edges, sizeof *edges);
-    struct delaunay_c_alphas *point_alphas = room(n.points, sizeof *point_alphas);
-    struct delaunay_c_alphas *edge_alphas = room(n.edges, sizeof *edge_alphas);
-    struct delaunay_c_alphas *triangle_alphas = room(n.triangles, sizeof *triangle_alphas);
-    uint64_t *cell_alphas = room(n.cells, sizeof *cell_alphas);
-    status = delaunay_c_mesh(given, count, points, m.points, cells, m.cells, across, m.cells, hull, m.hull, &m);
+    f.points = room(f.m.points, sizeof *f.points);
+    f.cells = room(f.m.cells, sizeof *f.cells);
+    f.across = room(f.m.cells, sizeof *f.across);
+    f.hull = room(f.m.hull, sizeof *f.hull);
+    f.triangles = room(f.n.triangles, sizeof *f.triangles);
+    f.edges = room(f.n.edges, sizeof *f.edges);
+    f.point_alphas = room(f.n.points, sizeof *f.point_alphas);
+    f.edge_alphas = room(f.n.edges, sizeof *f.edge_alphas);
+    f.triangle_alphas = room(f.n.triangles, sizeof *f.triangle_alphas);
+    f.cell_alphas = room(f.n.cells, sizeof *f.cell_alphas);
+    status = filter(&f, by_one);
     if (status != DELAUNAY_C_OK) {
         return status;
     }
-    status = delaunay_c_alphas(given, count, point_alphas, n.points, edges, n.edges, edge_alphas, n.edges, triangles,
-                               n.triangles, triangle_alphas, n.triangles, cell_alphas, n.cells, &n);
-    if (status != DELAUNAY_C_OK) {
-        return status;
+    printf("edges %" PRIu64 "\n", f.n.edges);
+    for (uint64_t i = 0; i < f.n.edges; i++) {
+        printf("%u %u ", f.edges[i].a, f.edges[i].b);
+        put_alpha(f.edge_alphas[i].admitted);
     }
-    printf("edges %" PRIu64 "\n", n.edges);
-    for (uint64_t i = 0; i < n.edges; i++) {
-        printf("%u %u ", edges[i].a, edges[i].b);
-        put_alpha(edge_alphas[i].admitted);
+    printf("triangles %" PRIu64 "\n", f.n.triangles);
+    for (uint64_t i = 0; i < f.n.triangles; i++) {
+        printf("%u %u %u ", f.triangles[i].a, f.triangles[i].b, f.triangles[i].c);
+        put_alpha(f.triangle_alphas[i].admitted);
     }
-    printf("triangles %" PRIu64 "\n", n.triangles);
-    for (uint64_t i = 0; i < n.triangles; i++) {
-        printf("%u %u %u ", triangles[i].a, triangles[i].b, triangles[i].c);
-        put_alpha(triangle_alphas[i].admitted);
-    }
-    printf("cells %" PRIu64 "\n", n.cells);
-    for (uint64_t i = 0; i < n.cells; i++) {
-        printf("%u %u %u %u ", cells[i].a, cells[i].b, cells[i].c, cells[i].d);
-        put_alpha(cell_alphas[i]);
+    printf("cells %" PRIu64 "\n", f.n.cells);
+    for (uint64_t i = 0; i < f.n.cells; i++) {
+        printf("%u %u %u %u ", f.cells[i].a, f.cells[i].b, f.cells[i].c, f.cells[i].d);
+        put_alpha(f.cell_alphas[i]);
     }
     printf("end\n");
     return 0;
@@ -163,5 +180,5 @@ int main(int argc, char **argv) {
         uint64_t number = strtoull(argv[2], NULL, 10);
         return strcmp(argv[1], "parts") == 0 ? parts(number) : most((uint32_t)number);
     }
-    return argc == 2 ? steps() : mesh();
+    return argc == 2 ? steps(strcmp(argv[1], "filtered") == 0) : mesh();
 }

@@ -110,6 +110,19 @@ uint8_t delaunay_c_alphas(const struct delaunay_c_place *given, size_t given_len
                           struct delaunay_c_alphas *triangle_alphas, size_t triangle_alphas_len,
                           uint64_t *cell_alphas, size_t cell_alphas_len, struct delaunay_c_face_sizes *sizes);
 
+/* What delaunay_c_mesh and delaunay_c_alphas tell of the same places, by one triangulation. At ROOM a room of the one
+ * or of the other has too few rows, and the sizes of both are told. OK, MEMORY, OUTSIDE, FLAT, ROOM or FULL. */
+uint8_t delaunay_c_filtered(const struct delaunay_c_place *given, size_t given_len, struct delaunay_c_place *points,
+                            size_t points_len, struct delaunay_c_cell *cells, size_t cells_len,
+                            struct delaunay_c_cell *neighbours, size_t neighbours_len,
+                            struct delaunay_c_triangle *hull, size_t hull_len,
+                            struct delaunay_c_alphas *point_alphas, size_t point_alphas_len,
+                            struct delaunay_c_edge *edges, size_t edges_len, struct delaunay_c_alphas *edge_alphas,
+                            size_t edge_alphas_len, struct delaunay_c_triangle *triangles, size_t triangles_len,
+                            struct delaunay_c_alphas *triangle_alphas, size_t triangle_alphas_len,
+                            uint64_t *cell_alphas, size_t cell_alphas_len, struct delaunay_c_mesh_sizes *sizes,
+                            struct delaunay_c_face_sizes *face_sizes);
+
 /* The solid parts of the alpha complex at an alpha: tetrahedra are of one part where a chain of admitted ones joins
  * them, each sharing a triangle with the next. An alpha from DELAUNAY_C_BEYOND on counts as the one before.
  *

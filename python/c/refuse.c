@@ -44,6 +44,13 @@ static int alphas(void) {
                              ROOM, r->triangle_alphas, ROOM, r->cell_alphas, ROOM, &r->faces);
 }
 
+static int filtered(void) {
+    struct rooms *r = &rooms;
+    return delaunay_c_filtered(given, COUNT, r->points, ROOM, r->cells, ROOM, r->neighbours, ROOM, r->hull, ROOM,
+                               r->point_alphas, ROOM, r->edges, ROOM, r->edge_alphas, ROOM, r->triangles, ROOM,
+                               r->triangle_alphas, ROOM, r->cell_alphas, ROOM, &r->mesh, &r->faces);
+}
+
 static int parts(void) {
     struct rooms *r = &rooms;
     return delaunay_c_solid_parts(given, COUNT, 1 << 20, r->cells, ROOM, r->counts, ROOM, &r->parts);
@@ -201,11 +208,13 @@ int main(void) {
         given[i] = (struct delaunay_c_place){v[0], v[1], v[2]};
     }
     long of_mesh = refused(mesh), of_alphas = refused(alphas), of_parts = refused(parts), of_least = refused(least);
-    if (of_mesh <= 0 || of_alphas <= 0 || of_parts <= 0 || of_least <= 0) {
-        printf("a wrong answer after a refusal: %ld %ld %ld %ld\n", of_mesh, of_alphas, of_parts, of_least);
+    long of_filtered = refused(filtered);
+    if (of_mesh <= 0 || of_alphas <= 0 || of_filtered <= 0 || of_parts <= 0 || of_least <= 0) {
+        printf("a wrong answer after a refusal: %ld %ld %ld %ld %ld\n", of_mesh, of_alphas, of_filtered, of_parts,
+               of_least);
         return 1;
     }
-    printf("refusals: %ld of a mesh, %ld of alphas, ", of_mesh, of_alphas);
+    printf("refusals: %ld of a mesh, %ld of alphas, %ld of both, ", of_mesh, of_alphas, of_filtered);
     printf("%ld of solid parts, %ld of a least alpha\n", of_parts, of_least);
     long of_open = refused_edit(opens, 99), of_add = refused_edit(adds, DELAUNAY_C_INSERTED);
     long of_take = refused_edit(takes, DELAUNAY_C_REMOVED), of_move = refused_edit(moves, DELAUNAY_C_MOVED);

@@ -46,6 +46,12 @@ static int blank_behind_mesh(void) {
            IS_BLANK(r.hull, mesh.hull);
 }
 
+static int blank_behind_faces(void) {
+    return IS_BLANK(r.point_alphas, faces.points) && IS_BLANK(r.edges, faces.edges) &&
+           IS_BLANK(r.edge_alphas, faces.edges) && IS_BLANK(r.triangles, faces.triangles) &&
+           IS_BLANK(r.triangle_alphas, faces.triangles) && IS_BLANK(r.cell_alphas, faces.cells);
+}
+
 static int spare_rows(void) {
     memset(&r, 0x5a, sizeof r);
     CHECK(delaunay_c_mesh(given, COUNT, r.points, ROOM, r.cells, ROOM, r.neighbours, ROOM, r.hull, ROOM, &mesh) ==
@@ -55,9 +61,12 @@ static int spare_rows(void) {
     CHECK(delaunay_c_alphas(given, COUNT, r.point_alphas, ROOM, r.edges, ROOM, r.edge_alphas, ROOM, r.triangles, ROOM,
                             r.triangle_alphas, ROOM, r.cell_alphas, ROOM, &faces) == DELAUNAY_C_OK);
     CHECK(faces.edges > 0 && faces.edges < ROOM && faces.triangles > 0 && faces.triangles < ROOM);
-    CHECK(IS_BLANK(r.point_alphas, faces.points) && IS_BLANK(r.edges, faces.edges));
-    CHECK(IS_BLANK(r.edge_alphas, faces.edges) && IS_BLANK(r.triangles, faces.triangles));
-    CHECK(IS_BLANK(r.triangle_alphas, faces.triangles) && IS_BLANK(r.cell_alphas, faces.cells));
+    CHECK(blank_behind_faces());
+    memset(&r, 0x5a, sizeof r);
+    CHECK(delaunay_c_filtered(given, COUNT, r.points, ROOM, r.cells, ROOM, r.neighbours, ROOM, r.hull, ROOM,
+                              r.point_alphas, ROOM, r.edges, ROOM, r.edge_alphas, ROOM, r.triangles, ROOM,
+                              r.triangle_alphas, ROOM, r.cell_alphas, ROOM, &mesh, &faces) == DELAUNAY_C_OK);
+    CHECK(mesh.points == COUNT && mesh.cells == faces.cells && blank_behind_mesh() && blank_behind_faces());
     memset(&r, 0x5a, sizeof r);
     CHECK(delaunay_c_solid_parts(given, COUNT, UINT64_MAX, r.cells, ROOM, r.counts, ROOM, &parts) == DELAUNAY_C_OK);
     CHECK(parts.cells == mesh.cells && parts.parts == 1 && r.counts[0] == mesh.cells);
@@ -81,6 +90,15 @@ static int nulls(void) {
     CHECK(delaunay_c_alphas(given, COUNT, NULL, 0, NULL, 0, NULL, 0, NULL, 0, NULL, 0, NULL, 0, &faces) ==
           DELAUNAY_C_ROOM);
     CHECK(faces.points == COUNT && faces.cells == mesh.cells);
+    CHECK(delaunay_c_filtered(NULL, 0, NULL, 0, NULL, 0, NULL, 0, NULL, 0, NULL, 0, NULL, 0, NULL, 0, NULL, 0, NULL, 0,
+                              NULL, 0, &mesh, &faces) == DELAUNAY_C_FLAT);
+    mesh = (struct delaunay_c_mesh_sizes){0, 0, 0}, faces = (struct delaunay_c_face_sizes){0, 0, 0, 0};
+    CHECK(delaunay_c_filtered(given, COUNT, NULL, 0, NULL, 0, NULL, 0, NULL, 0, NULL, 0, NULL, 0, NULL, 0, NULL, 0,
+                              NULL, 0, NULL, 0, &mesh, &faces) == DELAUNAY_C_ROOM);
+    CHECK(mesh.points == COUNT && mesh.hull > 0 && faces.points == COUNT && faces.cells == mesh.cells);
+    CHECK(delaunay_c_filtered(given, COUNT, r.points, ROOM, r.cells, ROOM, r.neighbours, ROOM, r.hull, ROOM,
+                              r.point_alphas, ROOM, r.edges, ROOM, r.edge_alphas, ROOM, r.triangles, ROOM,
+                              r.triangle_alphas, ROOM, r.cell_alphas, mesh.cells - 1, &mesh, &faces) == DELAUNAY_C_ROOM);
     CHECK(delaunay_c_solid_parts(NULL, 0, 0, NULL, 0, NULL, 0, &parts) == DELAUNAY_C_FLAT);
     CHECK(delaunay_c_solid_parts(given, COUNT, 0, NULL, 0, NULL, 0, &parts) == DELAUNAY_C_OK && parts.cells == 0);
     CHECK(delaunay_c_solid_parts(given, COUNT, UINT64_MAX, NULL, 0, NULL, 0, &parts) == DELAUNAY_C_ROOM);

@@ -15,6 +15,7 @@
 mod cloud;
 mod codes;
 mod edited;
+mod filtered;
 mod looks;
 mod many;
 mod parts;
