@@ -13,7 +13,8 @@
     mesh.locate(places), mesh.nearest(places), mesh.find_simplex(places)
     mesh.interpolate(values)(places)               # linear, or method='natural'
     mesh.voronoi().volumes                         # scipy's names
-    mesh.to_meshio(), mesh.to_pyvista(), shape.to_meshio(), shape.to_trimesh(), shape.to_pyvista()
+    mesh.to_meshio(), mesh.to_pyvista(), mesh.to_open3d()
+    shape.to_meshio(), shape.to_trimesh(), shape.to_pyvista(), shape.to_open3d()
 
 The library works on whole coordinates 0 to 16383. What it answers of those is proved; how points with real coordinates
 are placed on that grid, and what this package computes from the answer (turns of simplices, boundaries, parts, Voronoi

@@ -46,6 +46,24 @@ def solid_to_pyvista(points: Numbers, tetrahedra: Rows) -> Any:
     return module('pyvista').UnstructuredGrid(_with_sizes(tetrahedra), kinds, points.astype(float))
 
 
+def _open3d_vectors(points: Numbers, rows: Rows) -> tuple[Any, Any]:
+    # Points and rows of three or four of their indices, as the fields of open3d's meshes.
+    vectors = module('open3d').utility
+    made = vectors.Vector3iVector if rows.shape[1] == 3 else vectors.Vector4iVector
+    return vectors.Vector3dVector(points.astype(float)), made(rows.astype(np.int32))
+
+
+def surface_to_open3d(points: Numbers, triangles: Rows) -> Any:
+    """An open3d.geometry.TriangleMesh of triangles, with just their points."""
+    used, faces = np.unique(triangles, return_inverse=True)
+    return module('open3d').geometry.TriangleMesh(*_open3d_vectors(points[used], faces.reshape(-1, 3)))
+
+
+def solid_to_open3d(points: Numbers, tetrahedra: Rows) -> Any:
+    """An open3d.geometry.TetraMesh of tetrahedra."""
+    return module('open3d').geometry.TetraMesh(*_open3d_vectors(points, tetrahedra))
+
+
 def to_gudhi(filtration: Filtration) -> Any:
     """A gudhi.SimplexTree of a filtration."""
     tree = module('gudhi').SimplexTree()

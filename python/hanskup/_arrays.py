@@ -49,6 +49,15 @@ class Arrays:
         """(m, 3) int64, the places of the points on the grid, each once, ascending by x, then y, then z. Proved."""
         return sealed(self._rows.points)
 
+    @property
+    def _user_grid(self) -> Floats:
+        # (m, 3) where the points of the grid lie, in the unit of the points.
+        return self.placing.to_user(self.grid) if self.placing else self.grid.astype(float)
+
+    @kept
+    def _keys(self) -> Ints:
+        return keys(self.grid)
+
     @kept
     def cells(self) -> Rows:
         """(c, 4) int32, the tetrahedra by numbers of rows of grid, ascending. Proved."""
@@ -168,8 +177,7 @@ class Arrays:
 
         The points stand where the grid has them, so that no simplex is flat.
         """
-        grid = self.placing.to_user(self.grid) if self.placing else self.grid.astype(float)
-        corners = grid[self._turn(self.cells)]
+        corners = self._user_grid[self._turn(self.cells)]
         a, b, c = (corners[:, k] - corners[:, 3] for k in range(3))
         made: Floats = np.stack([cross(b, c), cross(c, a), cross(a, b), corners[:, 3]], axis=1)
         made[:, :3] /= dot(a, made[:, 0])[:, None, None]  # the inverse of the matrix of a, b, c
@@ -201,7 +209,7 @@ class Arrays:
     def hull_equations(self) -> Floats:
         """(h, 4) floats, a normal of length 1 and an offset for each triangle of `convex_hull`: of a place of the hull,
         in the unit of the points, normal * place + offset is not above 0 but for rounding. As ConvexHull.equations."""
-        grid = self.placing.to_user(self.grid) if self.placing else self.grid.astype(float)
+        grid = self._user_grid
         a, b, c = (grid[self._inverse[self.convex_hull[:, corner]]] for corner in range(3))
         normals = cross(b - a, c - a)
         normals /= np.sqrt(dot(normals, normals))[:, None]

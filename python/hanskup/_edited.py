@@ -9,7 +9,7 @@ import numpy as np
 
 from ._errors import check
 from ._kinds import Ints, Numbers
-from ._library import MeshRows, MeshSizes, given_room, library, room, slices, written_rows
+from ._library import MeshRows, MeshSizes, as_read, library, room, slices, whole, written_rows
 
 REPLIES = ('inserted', 'duplicate', 'removed', 'missing', 'flat', 'moved', 'occupied')
 ADD, TAKE, MOVE = 0, 1, 2  #: kinds of edits
@@ -55,8 +55,8 @@ class Edited:
     def __init__(self, places: Numbers) -> None:
         """The mesh of places, (n, 3), in any order and with equal ones. Raises Flat and Full too."""
         self._handle, self._lock = _Handle(), threading.Lock()
-        given = given_room(places)
-        check(library.delaunay_c_open(self._handle, *slices(given)))
+        given = as_read(places)
+        check(library.delaunay_c_open(self._handle, *whole(given)))
         self._count = len(places)  # at most so many points are there
 
     def __del__(self) -> None:
@@ -66,10 +66,10 @@ class Edited:
     def edit(self, kind: int, places: Ints, to: Ints | None = None) -> tuple[list[str], int]:
         """Makes edits of one kind at places, (k, 3), one after another, up to the first that is refused: the replies
         of those that were made, and the status of the refused one, or 0."""
-        edits = np.zeros(len(places) + 1, EDIT)
-        edits['kind'], edits['place'][:-1] = kind, places
+        edits = np.zeros(len(places), EDIT)
+        edits['kind'], edits['place'] = kind, places
         if to is not None:
-            edits['to'][:-1] = to
+            edits['to'] = to
         replies = np.zeros(len(places) + 1, np.uint8)
         with self._lock:
             status, count = _edit_each(self._handle, edits, replies) if not HAS_MANY else _many(
@@ -104,7 +104,7 @@ class Edited:
         return near[:-1]
 
     def _look(self, name: str, places: Ints, found: Numbers) -> None:
-        given = given_room(places)
+        given = as_read(places)
         with self._lock:
             if HAS_MANY:
                 status, _ = _many(getattr(library, f'delaunay_c_{name}_many'), self._handle, given, found)
@@ -118,7 +118,7 @@ class Edited:
 def _many(call: Callable[..., int], handle: _Handle, given: Numbers, found: Numbers) -> tuple[int, int]:
     """The status of a call for many, and how many were done."""
     count = ctypes.c_uint64()
-    status = call(handle, *slices(given, found), ctypes.byref(count))
+    status = call(handle, *whole(given), *slices(found), ctypes.byref(count))
     return status, count.value
 
 
@@ -126,10 +126,10 @@ def _edit_each(handle: _Handle, edits: Numbers, replies: Numbers) -> tuple[int, 
     """As the library's call for many edits, by its calls for one."""
     calls = (library.delaunay_c_add, library.delaunay_c_take, library.delaunay_c_move)
     at, to = edits.ctypes.data, replies.ctypes.data
-    for k, kind in enumerate(edits['kind'][:-1].tolist()):
+    for k, kind in enumerate(edits['kind'].tolist()):
         here = at + k * EDIT.itemsize
         places = [here + _PLACE_AT, here + _TO_AT][:1 + (kind == MOVE)]
         status = calls[kind](handle, *places, to + k)
         if status:
             return status, k
-    return 0, len(edits) - 1
+    return 0, len(edits)

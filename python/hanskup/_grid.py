@@ -121,6 +121,16 @@ def volumes(grid: Ints, cells: Rows) -> Ints:
     return made
 
 
+def centres(grid: Ints, cells: Rows) -> Floats:
+    """(c, 3) the centres of the spheres of cells, in steps of the grid."""
+    a, b, c, d = (grid[cells[:, i]] for i in range(4))
+    b, c, d = b - a, c - a, d - a
+    bc, cd, db = cross(b, c), cross(c, d), cross(d, b)
+    # How far a centre is from the first corner: whole numbers of 63 bits, divided by others.
+    above = dot(b, b)[:, None] * cd + dot(c, c)[:, None] * db + dot(d, d)[:, None] * bc
+    return np.asarray(a + above / (2 * dot(b, cd))[:, None], float)
+
+
 def outwards(grid: Ints, triangles: Rows, inner: Ints) -> Rows:
     """The triangles, turned so that an inner point, or one of each, lies behind them."""
     a, b, c = (grid[triangles[:, i]] for i in range(3))

@@ -15,8 +15,8 @@ from ._errors import GREATEST, Flat, Full, HanskupError, OutOfRange, WantOfMemor
 from ._kinds import Ints, Numbers
 
 __all__ = ['GREATEST', 'NONE', 'BEYOND', 'Flat', 'Full', 'HanskupError', 'OutOfRange', 'WantOfMemory', 'MeshRows',
-           'FaceRows', 'mesh_rows', 'face_rows', 'part_rows', 'least_alpha', 'HAS_PARTS', 'library', 'room',
-           'given_room', 'slices', 'written_rows', 'MeshSizes']
+           'FaceRows', 'mesh_rows', 'face_rows', 'filtered_rows', 'part_rows', 'least_alpha', 'HAS_PARTS', 'library',
+           'room', 'as_read', 'whole', 'slices', 'written_rows', 'MeshSizes']
 
 NONE = 0xFFFFFFFF  #: in the place of a neighbour, where a triangle of the hull is
 BEYOND = 1 << 34  #: an alpha is below this
@@ -70,6 +70,9 @@ def _load() -> ctypes.CDLL:
     loaded.delaunay_c_mesh.argtypes = words * 5 + [ctypes.POINTER(MeshSizes)]
     loaded.delaunay_c_alphas.restype = ctypes.c_uint8
     loaded.delaunay_c_alphas.argtypes = words * 7 + [ctypes.POINTER(_FaceSizes)]
+    if hasattr(loaded, 'delaunay_c_filtered'):
+        loaded.delaunay_c_filtered.restype = ctypes.c_uint8
+        loaded.delaunay_c_filtered.argtypes = words * 11 + [ctypes.POINTER(MeshSizes), ctypes.POINTER(_FaceSizes)]
     if hasattr(loaded, 'delaunay_c_solid_parts'):
         loaded.delaunay_c_solid_parts.restype = ctypes.c_uint8
         loaded.delaunay_c_solid_parts.argtypes = words + [ctypes.c_uint64] + words * 2 + [ctypes.POINTER(_PartSizes)]
@@ -80,6 +83,7 @@ def _load() -> ctypes.CDLL:
 
 library = _load()
 HAS_PARTS = hasattr(library, 'delaunay_c_solid_parts')
+HAS_FILTERED = hasattr(library, 'delaunay_c_filtered')
 
 
 def room(rows: int, columns: int, kind: npt.DTypeLike) -> Numbers:
@@ -92,25 +96,58 @@ def slices(*rooms: Numbers) -> list[int]:
     return [word for one in rooms for word in (one.ctypes.data, len(one) - 1)]
 
 
-def given_room(places: Numbers) -> Ints:
-    """A room of places."""
-    made: Ints = room(len(places), 3, np.int64)
-    made[:len(places)] = places
-    return made
+def as_read(places: Numbers) -> Ints:
+    """Places as the library reads them; without a copy where they are so."""
+    return np.ascontiguousarray(places, np.int64)
+
+
+def whole(rows: Numbers) -> list[int]:
+    """A pointer and a length of rows that the library reads."""
+    return [rows.ctypes.data, len(rows)]
+
+
+def _guessed(n: int) -> MeshSizes:
+    # What n points that are drawn take at most, but for few.
+    return MeshSizes(n, 7 * n + 64, n + 64)
+
+
+def _face_sizes(n: int, cells: int, hull: int) -> _FaceSizes:
+    triangles = 2 * cells + hull // 2  # each cell has four sides, and each triangle two, but those of the hull
+    return _FaceSizes(n, n + triangles - cells, triangles, cells)  # Euler: points - edges + triangles - cells = 1
+
+
+def _mesh_rooms(sizes: MeshSizes) -> list[Numbers]:
+    return [room(sizes.points, 3, np.int64), room(sizes.cells, 4, np.uint32), room(sizes.cells, 4, np.uint32),
+            room(sizes.hull, 3, np.uint32)]
+
+
+def _face_rooms(sizes: _FaceSizes) -> list[Numbers]:
+    return [room(sizes.points, 3, np.uint64), room(sizes.edges, 2, np.uint32), room(sizes.edges, 3, np.uint64),
+            room(sizes.triangles, 3, np.uint32), room(sizes.triangles, 3, np.uint64), room(sizes.cells, 1, np.uint64)]
+
+
+def _mesh_of(rooms: list[Numbers], sizes: MeshSizes) -> MeshRows:
+    points, cells, neighbours, hull = rooms
+    return MeshRows(points[:sizes.points], cells[:sizes.cells], neighbours[:sizes.cells], hull[:sizes.hull])
+
+
+def _faces_of(rooms: list[Numbers], sizes: _FaceSizes) -> FaceRows:
+    counts = (sizes.points, sizes.edges, sizes.edges, sizes.triangles, sizes.triangles, sizes.cells)
+    point_alphas, edges, edge_alphas, sides, side_alphas, cell_alphas = (
+        one[:count] for one, count in zip(rooms, counts))
+    return FaceRows(point_alphas, edges, edge_alphas, sides, side_alphas, cell_alphas[:, 0])
 
 
 def written_rows(n: int, call: Callable[..., int]) -> MeshRows:
     """The rows that a call writes of n points or less, in a second try into the rooms that it wants."""
-    sizes = MeshSizes(n, 7 * n + 64, n + 64)
+    sizes = _guessed(n)
     for _ in range(2):
-        rooms = (room(sizes.points, 3, np.int64), room(sizes.cells, 4, np.uint32),
-                 room(sizes.cells, 4, np.uint32), room(sizes.hull, 3, np.uint32))
+        rooms = _mesh_rooms(sizes)
         status = call(*slices(*rooms), ctypes.byref(sizes))
         if status != _ROOM:
             break
     check(status)
-    points, cells, neighbours, hull = rooms
-    return MeshRows(points[:sizes.points], cells[:sizes.cells], neighbours[:sizes.cells], hull[:sizes.hull])
+    return _mesh_of(rooms, sizes)
 
 
 def mesh_rows(places: Numbers) -> MeshRows:
@@ -118,8 +155,8 @@ def mesh_rows(places: Numbers) -> MeshRows:
 
     Raises WantOfMemory, OutOfRange, Flat or Full.
     """
-    given = given_room(places)
-    return written_rows(len(places), lambda *rooms: library.delaunay_c_mesh(*slices(given), *rooms))
+    given = as_read(places)
+    return written_rows(len(given), lambda *rooms: library.delaunay_c_mesh(*whole(given), *rooms))
 
 
 def face_rows(places: Numbers, cells: int, hull: int) -> FaceRows:
@@ -127,21 +164,35 @@ def face_rows(places: Numbers, cells: int, hull: int) -> FaceRows:
 
     Raises as mesh_rows does.
     """
-    given, n = given_room(places), len(places)
-    triangles = 2 * cells + hull // 2  # each cell has four sides, and each triangle two, but those of the hull
-    sizes = _FaceSizes(n, n + triangles - cells, triangles, cells)  # Euler: points - edges + triangles - cells = 1
+    given, sizes = as_read(places), _face_sizes(len(places), cells, hull)
     for _ in range(2):
-        rooms = (room(sizes.points, 3, np.uint64), room(sizes.edges, 2, np.uint32), room(sizes.edges, 3, np.uint64),
-                 room(sizes.triangles, 3, np.uint32), room(sizes.triangles, 3, np.uint64),
-                 room(sizes.cells, 1, np.uint64))
-        status = library.delaunay_c_alphas(*slices(given, *rooms), ctypes.byref(sizes))
+        rooms = _face_rooms(sizes)
+        status = library.delaunay_c_alphas(*whole(given), *slices(*rooms), ctypes.byref(sizes))
         if status != _ROOM:
             break
     check(status)
-    counts = (sizes.points, sizes.edges, sizes.edges, sizes.triangles, sizes.triangles, sizes.cells)
-    written = [one[:count] for one, count in zip(rooms, counts)]
-    point_alphas, edges, edge_alphas, sides, side_alphas, cell_alphas = written
-    return FaceRows(point_alphas, edges, edge_alphas, sides, side_alphas, cell_alphas[:, 0])
+    return _faces_of(rooms, sizes)
+
+
+def filtered_rows(places: Numbers) -> tuple[MeshRows, FaceRows]:
+    """The mesh of places and its faces; by one triangulation, where the library has a call for both.
+
+    Raises as mesh_rows does.
+    """
+    given = as_read(places)
+    if not HAS_FILTERED:
+        mesh = mesh_rows(given)
+        return mesh, face_rows(mesh.points, len(mesh.cells), len(mesh.hull))
+    sizes = _guessed(len(given))
+    face_sizes = _face_sizes(sizes.points, sizes.cells, sizes.hull)
+    for _ in range(2):
+        rooms, face_rooms = _mesh_rooms(sizes), _face_rooms(face_sizes)
+        words = [*whole(given), *slices(*rooms, *face_rooms)]
+        status = library.delaunay_c_filtered(*words, ctypes.byref(sizes), ctypes.byref(face_sizes))
+        if status != _ROOM:
+            break
+    check(status)
+    return _mesh_of(rooms, sizes), _faces_of(face_rooms, face_sizes)
 
 
 def part_rows(places: Numbers, alpha: int, cells: int) -> tuple[Unsigned, Ints]:
@@ -150,9 +201,9 @@ def part_rows(places: Numbers, alpha: int, cells: int) -> tuple[Unsigned, Ints]:
 
     Raises as mesh_rows does.
     """
-    given, sizes = given_room(places), _PartSizes(cells, cells)
+    given, sizes = as_read(places), _PartSizes(cells, cells)
     rows, counts = room(cells, 4, np.uint32), room(cells, 1, np.uint64)
-    check(library.delaunay_c_solid_parts(*slices(given), alpha, *slices(rows, counts), ctypes.byref(sizes)))
+    check(library.delaunay_c_solid_parts(*whole(given), alpha, *slices(rows, counts), ctypes.byref(sizes)))
     return rows[:sizes.cells], counts[:sizes.parts, 0].astype(np.int64)
 
 
@@ -162,6 +213,6 @@ def least_alpha(places: Numbers, parts: int) -> int | None:
 
     Raises as mesh_rows does.
     """
-    given, least = given_room(places), ctypes.c_uint64()
-    check(library.delaunay_c_least_alpha(*slices(given), min(parts, NONE), ctypes.byref(least)))
+    given, least = as_read(places), ctypes.c_uint64()
+    check(library.delaunay_c_least_alpha(*whole(given), min(parts, NONE), ctypes.byref(least)))
     return least.value if least.value < BEYOND else None

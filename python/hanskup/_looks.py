@@ -40,7 +40,7 @@ class Looks(Edits):
 
     def _index_at(self, places: Ints) -> Rows:
         """The index of the first point at each place of the grid, (k, 3); of a place that has none any."""
-        at = np.searchsorted(keys(self.grid), keys(places))
+        at = np.searchsorted(self._keys, keys(places))
         found: Rows = self._given[np.minimum(at, len(self.grid) - 1)]
         return found
 

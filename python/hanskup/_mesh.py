@@ -12,7 +12,8 @@ from ._errors import GREATEST, Flat, OutOfRange
 from ._grid import Placing, numbers_of, placed, volumes
 from ._kept import sealed
 from ._kinds import ArrayLike, Ints, Numbers, Rows
-from ._library import mesh_rows
+from ._library import filtered_rows, mesh_rows
+from ._lifts import Lifts
 from ._looks import Looks
 from ._progress import waiting
 from ._shape import Shape, SolidParts, area_of
@@ -23,7 +24,7 @@ class RoundingWarning(UserWarning):
     """Points fell together on the grid, or were moved by more than a thousandth of an axis' extent."""
 
 
-class Mesh(Looks):
+class Mesh(Looks, Lifts):
     """The Delaunay triangulation of points. Fields with names of scipy.spatial.Delaunay mean what they mean there.
 
     What is proved speaks of `grid`, `cells`, `across` and `hull`, whose numbers count the points of the grid.
@@ -39,12 +40,16 @@ class Mesh(Looks):
         placing: how the points were placed, or None where they were whole numbers.
     """
 
-    def __init__(self, points: Numbers, places: Ints, placing: Placing | None, progress: bool = True) -> None:
-        self.points, self.placing, self._places = sealed(points), placing, places
+    def __init__(self, points: Numbers, places: Ints, placing: Placing | None, progress: bool = True,
+                 faces: bool = False) -> None:
+        self.points, self.placing, self._places = sealed(points), placing, sealed(places)
         self.living = sealed(np.ones(len(points), bool))
         self._edited = self._shared = None
         with waiting('delaunay', progress):
-            self.__dict__['_rows'] = mesh_rows(places)
+            if faces:
+                self.__dict__['_rows'], self.__dict__['_faces'] = filtered_rows(places)
+            else:
+                self.__dict__['_rows'] = mesh_rows(places)
 
     def __repr__(self) -> str:
         unit = f', unit {self.placing.unit:.3g}' if self.placing else ''
@@ -133,6 +138,11 @@ class Mesh(Looks):
         """A pyvista.UnstructuredGrid of the points and the simplices. It needs pyvista."""
         return _adapters.solid_to_pyvista(self.points, self.simplices)
 
+    def to_open3d(self) -> Any:
+        """An open3d.geometry.TetraMesh of the points and the simplices, which
+        TriangleMesh.create_from_point_cloud_alpha_shape takes in place of one of its own. It needs open3d."""
+        return _adapters.solid_to_open3d(self.points, self.simplices)
+
 
 def _warn(mesh: Mesh) -> None:
     together = len(mesh.points) - len(mesh.grid)
@@ -145,7 +155,7 @@ def _warn(mesh: Mesh) -> None:
         warnings.warn(text, RoundingWarning, stacklevel=3)
 
 
-def delaunay(points: ArrayLike, unit: float | None = None, progress: bool = True) -> Mesh:
+def delaunay(points: ArrayLike, unit: float | None = None, progress: bool = True, faces: bool = False) -> Mesh:
     """The Delaunay triangulation of points.
 
     Args:
@@ -154,6 +164,8 @@ def delaunay(points: ArrayLike, unit: float | None = None, progress: bool = True
         unit: the length of a step of the grid, in the unit of the points; for floats alone.
         progress: with a line of the time that it takes, where tqdm is installed, a terminal is there and it takes more
             than a second.
+        faces: with the faces and their alphas, by one triangulation for all. Else `filtration` and `alpha` make them
+            when they are first asked for, by a second one.
 
     Raises:
         ValueError: the shape is not (n, 3), a coordinate is not finite, not real or masked, or a unit is given with
@@ -173,7 +185,7 @@ def delaunay(points: ArrayLike, unit: float | None = None, progress: bool = True
         if len(array) and (array.min() < 0 or array.max() > GREATEST):
             raise OutOfRange(f'a coordinate is not 0 to {GREATEST}')
         places = array.astype(np.int64)
-        return Mesh(places.copy(), places, None, progress)
+        return Mesh(places, places, None, progress, faces)
     array = array.astype(float)
     if not len(array):
         raise Flat('there are no points')
@@ -181,13 +193,13 @@ def delaunay(points: ArrayLike, unit: float | None = None, progress: bool = True
     if len(bad):
         raise ValueError(f'point {bad[0]} is not finite')
     placing = placed(array, unit)
-    mesh = Mesh(array, placing.to_grid(array), placing, progress)
+    mesh = Mesh(array, placing.to_grid(array), placing, progress, faces)
     _warn(mesh)
     return mesh
 
 
 def alpha_shape(points: ArrayLike, radius: float, unit: float | None = None) -> Shape:
-    """The alpha complex of points at a radius, in their unit: `delaunay(points, unit).alpha(radius)`.
+    """The alpha complex of points at a radius, in their unit: `delaunay(points, unit, faces=True).alpha(radius)`.
 
     Args:
         points, unit: as of delaunay.
@@ -196,4 +208,4 @@ def alpha_shape(points: ArrayLike, radius: float, unit: float | None = None) -> 
     Raises:
         As delaunay and Mesh.alpha.
     """
-    return delaunay(points, unit).alpha(radius)
+    return delaunay(points, unit, faces=True).alpha(radius)

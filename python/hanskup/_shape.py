@@ -148,6 +148,10 @@ class Shape:
         """A pyvista.PolyData of the boundary, with all points. It needs pyvista."""
         return _adapters.surface_to_pyvista(self._points, self.boundary())
 
+    def to_open3d(self) -> Any:
+        """An open3d.geometry.TriangleMesh of the boundary, with just the points that it has. It needs open3d."""
+        return _adapters.surface_to_open3d(self._points, self.boundary())
+
     def _neighbours_among(self, cells: Bools) -> Bools:
         # (c, 4) whether the cell across from each corner is one of these; none of them is outside.
         return np.append(cells, False)[self._across]

@@ -7,12 +7,13 @@ import numpy as np
 import numpy.typing as npt
 
 from ._graphs import joined
-from ._grid import EDGES, by_number, cross, dot, volumes
+from ._grid import EDGES, by_number, centres, cross, dot, volumes
 from ._kept import kept
 from ._kinds import Bools, Floats, Ints, Numbers, Rows
 
 if TYPE_CHECKING:
     from ._arrays import Arrays
+    from ._lifts import Lifts
 
 _CLOSED = 1 << 62  # more than every number that _begins tells of an edge of the hull
 
@@ -25,23 +26,33 @@ class Voronoi:
         vertices: (v, 3) floats, the centres of the spheres of the simplices, in the unit of the points; simplices of
             one sphere that hang together have one.
         simplex_vertices: (c,) the vertex of each simplex of the mesh.
+        min_bound, max_bound: (3,) the least and the greatest coordinates of the points that are there.
         ridge_points: (r, 2) indices of the points between whose regions each ridge lies. scipy leaves out those that
             have just one vertex, which are without bounds; here they are among them.
     """
 
-    def __init__(self, mesh: Arrays) -> None:
+    ndim = 3
+    furthest_site = False  #: as of scipy.spatial.Voronoi: it is never that of the furthest points
+
+    def __init__(self, mesh: Lifts) -> None:
         grid, cells = mesh.grid, mesh.cells
+        self.min_bound, self.max_bound = mesh.min_bound, mesh.max_bound
         self.points: Numbers = mesh.points
         self._given, self._inverse, self._grid = mesh._given, mesh._inverse, grid
         self._unit = mesh.placing.unit if mesh.placing else 1.0
-        self._cells, centres = cells, _centres(grid, cells)
-        self.simplex_vertices, first = _vertices(grid, cells, mesh.across, centres)
-        self._centres = centres[first]
+        self._cells, middles = cells, centres(grid, cells)
+        self.simplex_vertices, first = _vertices(grid, cells, mesh.across, middles)
+        self._centres = middles[first]
         self.vertices: Floats = mesh.placing.to_user(self._centres) if mesh.placing else self._centres
         self._pairs, self._starts, self._around, self._open = _ridges(mesh, self.simplex_vertices)
         self._unbounded = np.zeros(len(grid), bool)
         self._unbounded[mesh.hull] = True
         self.ridge_points: Rows = self._given[self._pairs]
+
+    @property
+    def npoints(self) -> int:
+        """The number of points."""
+        return len(self.points)
 
     def __repr__(self) -> str:
         return f'<hanskup.Voronoi: {len(self.vertices)} vertices, {len(self.ridge_points)} ridges>'
@@ -106,29 +117,14 @@ def _lists(numbers: Ints, starts: Ints, are_open: Bools) -> list[list[int]]:
     return lists
 
 
-def _terms(grid: Ints, cells: Rows) -> tuple[Ints, Ints, Ints]:
-    """The first corner of each cell, and how far the centre of its sphere is from there: whole numbers of 63 bits, to
-    be divided by others."""
-    a, b, c, d = (grid[cells[:, i]] for i in range(4))
-    b, c, d = b - a, c - a, d - a
-    bc, cd, db = cross(b, c), cross(c, d), cross(d, b)
-    above = dot(b, b)[:, None] * cd + dot(c, c)[:, None] * db + dot(d, d)[:, None] * bc
-    return a, np.asarray(above, np.int64), np.asarray(2 * dot(b, cd), np.int64)
-
-
-def _centres(grid: Ints, cells: Rows) -> Floats:
-    first, above, below = _terms(grid, cells)
-    return np.asarray(first + above / below[:, None], float)
-
-
-def _vertices(grid: Ints, cells: Rows, across: Rows, centres: Floats) -> tuple[Ints, Ints]:
+def _vertices(grid: Ints, cells: Rows, across: Rows, middles: Floats) -> tuple[Ints, Ints]:
     """The vertex of each cell, and the first cell of each vertex. Cells side by side with one sphere have one vertex:
     this is exact."""
     i, k = np.nonzero(across > np.arange(len(cells), dtype=across.dtype)[:, None])
     beside = across[i, k]
     # Where the spheres are one the centres, exact fractions that were rounded, differ by less than this.
-    slack = 1e-9 + 1e-14 * np.abs(centres).max(axis=1)
-    near = np.flatnonzero(np.abs(centres[i, 0] - centres[beside, 0]) <= slack[i] + slack[beside])
+    slack = 1e-9 + 1e-14 * np.abs(middles).max(axis=1)
+    near = np.flatnonzero(np.abs(middles[i, 0] - middles[beside, 0]) <= slack[i] + slack[beside])
     i, k, beside = i[near], k[near], beside[near]
     far = np.argmax(across[beside] == i[:, None], axis=1)  # the corner of the other cell that this one has not
     same = _on_sphere(grid, cells[i], grid[cells[beside, far]])

@@ -317,6 +317,26 @@ class Refused(unittest.TestCase):
         self.assertGreater(len(mesh.cells), 7 * 240 + 64)
         self.assertEqual(len(mesh.cells), 119 * 119)
         np.testing.assert_array_equal(mesh.across, by_sides(mesh.cells))
+        self.same_by_one(np.array(lines), mesh)
+
+    def test_by_one_triangulation(self):
+        for points in (drawn(300, seed=3), drawn(100, 20), np.random.default_rng(4).random((200, 3))):
+            with warnings.catch_warnings():
+                warnings.simplefilter('ignore')
+                self.same_by_one(points, hanskup.delaunay(points))
+        for refused in ([[i, i, i] for i in range(9)], np.zeros((0, 3), int)):
+            self.assertRaises(hanskup.Flat, hanskup.delaunay, np.array(refused), faces=True)
+
+    def same_by_one(self, points, mesh):
+        """With its faces a mesh is the same, and so are they; an edit lets them go."""
+        both = hanskup.delaunay(points, faces=True)
+        for name in ('grid', 'cells', 'across', 'hull'):
+            np.testing.assert_array_equal(getattr(both, name), getattr(mesh, name))
+        for ours, theirs in zip(both.filtration(), mesh.filtration()):
+            np.testing.assert_array_equal(ours, theirs)
+        self.assertEqual(both.take([0, 1]).tolist(), mesh.take([0, 1]).tolist())
+        for ours, theirs in zip(both.filtration(), mesh.filtration()):
+            np.testing.assert_array_equal(ours, theirs)
 
 
 class Threads(unittest.TestCase):

@@ -79,6 +79,48 @@ class Adapters(unittest.TestCase):
         np.testing.assert_array_equal(cells.reshape(-1, 5), np.column_stack([np.full(len(simplices), 4), simplices]))
         self.assertEqual(set(kinds.tolist()), {10})  # VTK_TETRA
 
+    def test_open3d(self):
+        boundary, simplices = self.shape.boundary(), self.mesh.simplices
+        made = types.SimpleNamespace(
+            geometry=types.SimpleNamespace(TriangleMesh=Stand, TetraMesh=Stand),
+            utility=types.SimpleNamespace(Vector3dVector=self.doubles, Vector3iVector=self.numbers(3),
+                                          Vector4iVector=self.numbers(4)))
+        with mock.patch.dict(sys.modules, {'open3d': made}):
+            surface, solid = self.shape.to_open3d(), self.mesh.to_open3d()
+        vertices, faces = surface.arrays
+        np.testing.assert_array_equal(vertices[faces], self.mesh.points[boundary])
+        self.assertEqual(len(vertices), len(np.unique(boundary)))
+        vertices, tetras = solid.arrays
+        np.testing.assert_array_equal(vertices, self.mesh.points)
+        np.testing.assert_array_equal(tetras, simplices)
+
+    def doubles(self, array):
+        """What open3d documents of Vector3dVector: float64, (n, 3)."""
+        self.assertEqual((array.dtype, array.shape[1:]), (np.float64, (3,)))
+        return array
+
+    def numbers(self, columns):
+        """What it documents of Vector3iVector and Vector4iVector: int32, (n, 3) and (n, 4)."""
+        def made(array):
+            self.assertEqual((array.dtype, array.shape[1:]), (np.int32, (columns,)))
+            return array
+        return made
+
+    @unittest.skipUnless(has('open3d'), 'open3d is not installed')
+    def test_real_open3d(self):
+        import open3d
+        surface, solid = self.shape.to_open3d(), self.mesh.to_open3d()
+        self.assertAlmostEqual(surface.get_surface_area() / self.shape.area(), 1, 9)
+        np.testing.assert_array_equal(solid.vertices, self.mesh.points)
+        np.testing.assert_array_equal(solid.tetras, self.mesh.simplices)
+        cloud = open3d.geometry.PointCloud(open3d.utility.Vector3dVector(self.mesh.points.astype(float)))
+        theirs = open3d.geometry.TriangleMesh.create_from_point_cloud_alpha_shape(
+            cloud, 2500, solid, list(range(len(self.mesh.points))))
+        corners = np.asarray(theirs.vertices)[np.asarray(theirs.triangles)].astype(int)
+        self.assertEqual({frozenset(map(tuple, triangle)) for triangle in corners.tolist()},
+                         {frozenset(map(tuple, triangle))
+                          for triangle in self.mesh.points[self.shape.boundary()].tolist()})
+
     @unittest.skipUnless(has('pyvista'), 'pyvista is not installed')
     def test_real_pyvista(self):
         self.assertEqual(self.shape.to_pyvista().n_cells, len(self.shape.boundary()))

@@ -42,6 +42,9 @@ class Beside(unittest.TestCase):
             points = np.unique(drawn(count, greatest, seed), axis=0)
             ours, theirs = hanskup.delaunay(points).voronoi(), Voronoi(points)
             self.compare(ours, theirs)
+            for name in ('ndim', 'npoints', 'furthest_site'):
+                self.assertEqual(getattr(ours, name), getattr(theirs, name))
+            np.testing.assert_array_equal([ours.min_bound, ours.max_bound], [theirs.min_bound, theirs.max_bound])
 
     def test_ridges_go_around(self):
         from scipy.spatial import Voronoi
