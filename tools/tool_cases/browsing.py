@@ -118,6 +118,21 @@ class Browser:
         """Waits for two frames, so that what was asked for before is drawn."""
         self.value('new Promise(done => requestAnimationFrame(() => requestAnimationFrame(done)))')
 
+    def spent(self):
+        """Processor seconds of the browser and of all processes below it so far."""
+        taken = {}
+        for name in filter(str.isdigit, os.listdir('/proc')):
+            try:
+                with open(f'/proc/{name}/stat', encoding='utf-8', errors='replace') as file:
+                    row = file.read().rpartition(')')[2].split()
+            except OSError:
+                continue  # it has ended
+            taken[int(name)] = int(row[1]), sum(map(int, row[11:15])) / os.sysconf('SC_CLK_TCK')
+        ours = {self._process.pid}
+        while more := {pid for pid, (above, _) in taken.items() if above in ours} - ours:
+            ours |= more
+        return sum(taken[pid][1] for pid in ours if pid in taken)
+
     def sized(self, wide, high, dense=1, touch=False):
         """Makes the page so wide and high, with so many pixels of the screen for one of CSS."""
         self.call('Emulation.setDeviceMetricsOverride', width=wide, height=high, deviceScaleFactor=dense, mobile=touch)

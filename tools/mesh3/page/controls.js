@@ -44,7 +44,8 @@ function sayEdit({world, view}) {
 
 function legend(page) {
   const css = colour => `rgb(${colour.slice(0, 3).map(v => Math.round(255 * v)).join(' ')})`, {colours} = page.view;
-  const rows = [colours.solid, colours.loose].map((colour, i) => [colour, told.legend[i]]).filter(row => row[1]);
+  const {loose} = page.view, shown = [colours.solid, ...(loose ? [colours.loose] : [])];
+  const rows = shown.map((colour, i) => [colour, told.legend[i]]).filter(row => row[1]);
   if (page.view.cut < 1) rows.push([colours.cap, 'cut open']);
   if (page.world.frames) {
     rows.push([colours.gone, 'edges that the edit took away'], [colours.came, 'edges that it brought']);
@@ -98,7 +99,7 @@ function prepare(page) {
 function listen(page) {
   const {view, axis} = page;
   $('radius').oninput = event => {
-    page.moving = performance.now();
+    page.move();
     page.goTo(axis.stopOf(axis.isFew ? event.target.value / event.target.max : event.target.value / 2000));
   };
   $('play').onclick = () => page.player.toggle('radius');
@@ -111,9 +112,8 @@ function listen(page) {
   }
   $('cut').oninput = event => {
     view.cutAlong(view.cutAxis, event.target.value / 1000);
-    page.moving = performance.now();
+    page.move();
     page.show();
-    legend(page);
   };
   $('axis-of-cut').onchange = event => { view.cutAlong(event.target.selectedIndex, view.cut); page.show(); };
   $('theme').onclick = () => { view.theme = view.isDark ? 'light' : 'dark'; page.themed(); page.show(); };
@@ -133,7 +133,7 @@ function slideOver(page, {canvas}) {
     page.goTo(page.axis.stopOf(Math.max(0, Math.min(1, place))));
   };
   canvas.onpointerdown = event => { canvas.setPointerCapture(event.pointerId); slide(event); };
-  canvas.onpointermove = event => { if (event.buttons) { page.moving = performance.now(); slide(event); } };
+  canvas.onpointermove = event => { if (event.buttons) { page.move(); slide(event); } };
 }
 
 async function copyLink(page) {
@@ -154,7 +154,7 @@ function note(page, text) {
 
 // A picture of the scene with its words below, as a PNG.
 function save(page) {
-  page.moving = -1e9;
+  page.isMoving = false;
   page.draw();
   const scene = $('scene'), sheet = document.createElement('canvas'), pen = sheet.getContext('2d');
   const dense = scene.width / innerWidth, bottom = Math.round($('panel').getBoundingClientRect().top * dense);
@@ -186,7 +186,6 @@ function press(page) {
   const cutAlong = axisOf => {
     view.cutAlong(axisOf, view.cut < 1 && axisOf === view.cutAxis ? 1 : 0.5);
     page.show();
-    legend(page);
   };
   const keys = {
     ArrowLeft: event => step(event, -1), ArrowRight: event => step(event, 1),
@@ -218,13 +217,18 @@ class Pointer {
     const canvas = $('scene');
     canvas.onpointerdown = event => this.down(event, canvas);
     canvas.onpointermove = event => this.move(event);
-    canvas.onpointerup = canvas.onpointercancel = event => { this.held.delete(event.pointerId); keep(page); };
+    canvas.onpointerup = canvas.onpointercancel = event => {
+      this.held.delete(event.pointerId);
+      if (page.isMoving) page.rest(0);
+      keep(page);
+    };
     canvas.onpointerleave = () => hide(page);
     canvas.oncontextmenu = event => event.preventDefault();
     canvas.addEventListener('wheel', event => {
       event.preventDefault();
       this.enlarge(Math.exp(-event.deltaY * (event.deltaMode ? 0.03 : 0.0012)));
-      page.ask(true);
+      page.move();
+      page.ask();
       keep(page);
     }, {passive: false});
   }
@@ -247,7 +251,8 @@ class Pointer {
       this.enlarge(after.wide / (before.wide || 1));
     } else if (event.buttons & 6 || event.shiftKey) this.shift(dx, dy);
     else this.turn(dx, dy);
-    this.page.ask(true);
+    this.page.move();
+    this.page.ask();
   }
 
   // The middle of two fingers, and how far they are apart.
@@ -277,8 +282,16 @@ function keep(page) {
 }
 
 function hide(page) {
+  clearTimeout(page.hovering);
   $('tip').hidden = true;
-  if (page.hovered) { page.hovered = null; page.scene.mark(marksOfEdit(page)); page.ask(); }
+  if (page.hovered) { page.hovered = null; markHover(page); }
+}
+
+// Draws the outline of what is under the pointer, where a drawing is quick.
+function markHover(page) {
+  if (page.scene.isSlow) return;
+  page.scene.mark([...marksOfEdit(page), ...marksOfHover(page)]);
+  page.ask();
 }
 
 // Tells what is under the pointer, once it rests for a moment.
@@ -296,7 +309,6 @@ function hover(page, event) {
     const wide = tip.offsetWidth, isRight = event.clientX + 16 + wide > innerWidth;
     const left = Math.max(4, isRight ? event.clientX - 12 - wide : event.clientX + 16);
     Object.assign(tip.style, {left: `${left}px`, right: 'auto', top: `${Math.max(4, event.clientY - 20)}px`});
-    page.scene.mark([...marksOfEdit(page), ...marksOfHover(page)]);
-    page.ask();
+    markHover(page);
   }, 60);
 }

@@ -12,9 +12,11 @@ class Page {
     this.scene = new Scene($('scene'), this.world);
     this.picking = new Picking(this.world, this.seen);
     this.curves = this.world.numbers ? NAMES.map(name => new Curve($(`row-${name}`), this.axis)) : [];
-    const isSlow = this.scene.isSlow;
-    this.share = isSlow ? 0.6 : 1; // of the screen's pixels in motion
-    this.most = isSlow ? 40000 : 4e6; // triangles in motion
+    const {isSlow, isSoftware} = this.scene;
+    this.share = isSoftware ? 0.6 : 1; // of the screen's pixels in motion
+    this.finer = isSoftware && !isSlow && devicePixelRatio < 1.5 ? 1.5 : 1; // at rest, which smooths edges
+    this.most = isSlow ? 32768 : 4e6; // triangles in motion
+    document.body.classList.toggle('software', isSoftware);
     this.hovered = null;
     this.player = new Player(this);
     prepare(this);
@@ -26,8 +28,7 @@ class Page {
   }
 
   // Draws before the next frame of the screen.
-  ask(isMoving = false) {
-    if (isMoving) this.moving = performance.now();
+  ask() {
     if (this.asked) return;
     this.asked = true;
     requestAnimationFrame(() => { this.asked = false; this.draw(); });
@@ -40,24 +41,34 @@ class Page {
 
   get frameNow() { return this.view.frameOf(...this.sizes); }
 
+  // In motion from here on, until nothing has moved for some time since the last drawing: where drawings come slowly,
+  // so does what moves, and a drawing of all in between would come slower yet.
+  move() { this.isMoving = true; }
+
+  rest(took) {
+    clearTimeout(this.resting);
+    const isHeld = this.scene.isSlow && this.pointer.held.size > 0;
+    const wait = Math.max(isHeld ? 1500 : 200, Math.min(2500, 3 * took));
+    this.resting = setTimeout(() => { this.isMoving = false; this.ask(); }, wait);
+  }
+
   // In motion a drawing that takes long is made with fewer pixels and of a coarse copy, and again with all where it
   // rests.
   draw() {
-    const {view, scene, seen} = this, canvas = $('scene'), now = performance.now();
-    const inMotion = now - (this.moving || -1e9) < 160;
-    if (inMotion && this.drawnAt) this.pace(now - this.drawnAt);
-    this.drawnAt = inMotion ? now : 0;
-    const most = 2 ** Math.round(Math.log2(this.most)), coarse = inMotion && seen.solid + seen.loose > most;
-    if (coarse) scene.takeCoarse(this.coarse, seen, most);
-    const dense = Math.min(devicePixelRatio || 1, 2.5) * (inMotion ? Math.round(10 * this.share) / 10 : 1);
+    const {view, scene, seen, isMoving} = this, canvas = $('scene'), now = performance.now();
+    const took = isMoving && this.drawnAt ? now - this.drawnAt : 0;
+    if (took) this.pace(took);
+    this.drawnAt = isMoving ? now : 0;
+    const most = 2 ** Math.round(Math.log2(this.most)), coarse = isMoving && seen.solid + seen.loose > most;
+    if (coarse) scene.takeCoarse(this.coarse, most);
+    const dense = Math.min(devicePixelRatio || 1, 2.5) * (isMoving ? Math.round(10 * this.share) / 10 : this.finer);
     const wide = Math.round(innerWidth * dense), high = Math.round(innerHeight * dense);
     if (canvas.width !== wide || canvas.height !== high) { canvas.width = wide; canvas.height = high; }
     const few = Math.max(1.5, Math.min(6, 130 / Math.sqrt(this.world.n)));
     scene.draw({turn: view.turn, x: view.x, y: view.y, zoom: view.zoom, frame: this.frameNow, cut: view.plane,
       colours: view.colours, coarse, alone: view.points === null,
       dots: view.points === false ? 0 : Math.max(1, few * dense * Math.sqrt(view.zoom))});
-    clearTimeout(this.resting);
-    if (inMotion) this.resting = setTimeout(() => this.ask(), 200);
+    if (isMoving) this.rest(took);
     this.frames = (this.frames || 0) + 1;
     document.body.dataset.shown = `${this.view.stop}`;
   }
@@ -65,9 +76,9 @@ class Page {
   // Fewer pixels and triangles after a slow drawing, more after a quick one; both are kept for the next motion.
   pace(took) {
     const count = this.seen.solid + this.seen.loose;
-    if (took > 85) {
-      this.share = Math.max(0.5, this.share * 0.85);
-      if (took > 120) this.most = Math.max(12000, Math.min(count, this.most) * Math.max(0.25, 85 / took));
+    if (took > 75) {
+      this.share = Math.max(0.4, this.share * 0.85);
+      if (took > 95) this.most = Math.max(8192, Math.min(count, this.most) * Math.max(0.25, 75 / took));
     } else if (took < 30) {
       this.share = Math.min(1, this.share * 1.05);
       this.most = Math.min(4e6, this.most * 1.1);
@@ -97,6 +108,9 @@ class Page {
       this.hovered = null;
     }
     this.changed();
+    const shown = `${view.loose} ${view.cut < 1}`;
+    if (this.explained !== shown) legend(this);
+    this.explained = shown;
     say(this);
   }
 
@@ -121,7 +135,10 @@ class Page {
   }
 
   // Moves along the slider by a share of it.
-  slide(share) { this.goTo(this.axis.stopOf(Math.max(0, Math.min(1, this.axis.placeOf(this.view.stop) + share)))); }
+  slide(share) {
+    this.move();
+    this.goTo(this.axis.stopOf(Math.max(0, Math.min(1, this.axis.placeOf(this.view.stop) + share))));
+  }
 }
 
 // Moves the slider, or the edits, on by themselves.
@@ -147,7 +164,7 @@ class Player {
     this.last = now;
     if (this.of === 'radius') {
       this.place = Math.min(1, this.place + passed / 14000);
-      page.moving = performance.now();
+      page.move();
       page.goTo(page.axis.stopOf(this.place));
       if (this.place >= 1) this.toggle('radius');
     } else if (now - this.stepped > 900) {

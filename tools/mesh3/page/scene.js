@@ -16,7 +16,7 @@ void main() {
 uniform vec3 colour, back; uniform float dim; uniform bool oneSided, plain;
 out vec4 shown;
 void main() {
-  if (beyond > 0.0) discard;
+  CUT
   if (plain) { shown = vec4(1.0); return; }
   vec3 flat_ = normalize(cross(dFdx(at), dFdy(at)));
   vec3 eye = normalize(vec3(0.0, 0.0, 4.0) - at);
@@ -36,6 +36,24 @@ void main() {
   vec3 lit = base * light * 1.12 + (inside ? 0.0 : 0.16) * shine;
   shown = vec4(mix(lit, back, clamp(0.16 - at.z * 0.20, 0.0, 0.38)), 1.0);
 }`];
+
+// For motion: each triangle flat and without a shine.
+const COARSE = [`in vec3 place; out vec3 at; centroid out float beyond;
+void main() { at = turn * place; beyond = dot(plane.xyz, place) - plane.w; gl_Position = seen(at); }
+`, `in vec3 at; centroid in float beyond; uniform vec3 colour, back; uniform float dim; out vec4 shown;
+void main() {
+  CUT
+  vec3 n = normalize(cross(dFdx(at), dFdy(at)));
+  n *= sign(4.0 * n.z - dot(n, at));
+  float light = dim + (1.0 - dim) * (0.82 * max(0.0, dot(n, vec3(-0.4479, 0.6470, 0.6171)))
+    + 0.36 * max(0.0, dot(n, vec3(0.7926, -0.2265, 0.5661)))) + 0.08 * n.y;
+  shown = vec4(mix(colour * light * 1.12, back, clamp(0.16 - at.z * 0.20, 0.0, 0.38)), 1.0);
+}`];
+
+// The programs of a pair of texts without and with a cut.
+function bothWays([vertices, fragments]) {
+  return ['', 'if (beyond > 0.0) discard;'].map(cut => [vertices, fragments.replace('CUT', cut)]);
+}
 
 const LINES = [`in vec3 place; out float beyond, deep;
 void main() {
@@ -60,12 +78,13 @@ void main() {
   shown = tint;
 }`];
 
-// Whether triangles are drawn by processors: then edges are not smoothed where there are many.
+// Whether triangles are drawn by processors, which smooth edges at twice the cost of a drawing.
 function isSoftware() {
   const gl = document.createElement('canvas').getContext('webgl2');
   const about = gl && gl.getExtension('WEBGL_debug_renderer_info');
   if (!gl) return false;
   const name = gl.getParameter(about ? about.UNMASKED_RENDERER_WEBGL : gl.RENDERER);
+  gl.getExtension('WEBGL_lose_context')?.loseContext();
   return /swiftshader|llvmpipe|software|basic render/i.test(name);
 }
 
@@ -73,21 +92,24 @@ class Scene {
   constructor(canvas, world) {
     this.canvas = canvas;
     this.world = world;
-    this.isSlow = world.triangles.count > 250000 && isSoftware();
-    const words = {antialias: !this.isSlow, stencil: true, alpha: false, powerPreference: 'high-performance'};
+    this.isSoftware = isSoftware();
+    this.isSlow = world.triangles.count > 250000 && this.isSoftware;
+    const words = {antialias: !this.isSoftware, stencil: true, alpha: false, powerPreference: 'high-performance'};
     const gl = this.gl = canvas.getContext('webgl2', words);
     if (!gl) throw new Error('this browser has no WebGL2');
-    this.faces = this.program(FACES);
+    [this.faces, this.facesCut] = bothWays(FACES).map(texts => this.program(texts));
+    [this.coarseFaces, this.coarseFacesCut] = bothWays(COARSE).map(texts => this.program(texts));
     this.lines = this.program(LINES);
     this.dots = this.program(DOTS);
     this.buffers = {};
-    for (const name of ['places', 'normals', 'joined', 'marks', 'cap']) this.buffers[name] = gl.createBuffer();
+    const names = ['places', 'normals', 'joined', 'marks', 'cap', 'stands'];
+    for (const name of names) this.buffers[name] = gl.createBuffer();
     this.send('places', world.places, gl.STATIC_DRAW);
     this.shapes = {
       solid: this.shape(this.faces, {place: ['places', 3, gl.FLOAT], normal: ['normals', 4, gl.BYTE, true]}),
       loose: this.shape(this.faces, {place: ['places', 3, gl.FLOAT], normal: ['normals', 4, gl.BYTE, true]}),
-      coarseSolid: this.shape(this.faces, {place: ['places', 3, gl.FLOAT]}),
-      coarseLoose: this.shape(this.faces, {place: ['places', 3, gl.FLOAT]}),
+      coarseSolid: this.shape(this.coarseFaces, {place: ['stands', 3, gl.FLOAT]}),
+      coarseLoose: this.shape(this.coarseFaces, {place: ['stands', 3, gl.FLOAT]}),
       cap: this.shape(this.faces, {place: ['cap', 3, gl.FLOAT]}),
       ends: this.shape(this.lines, {place: ['places', 3, gl.FLOAT]}),
       outlines: this.shape(this.lines, {place: ['places', 3, gl.FLOAT]}),
@@ -108,6 +130,8 @@ class Scene {
       if (!gl.getShaderParameter(shader, gl.COMPILE_STATUS)) throw new Error(gl.getShaderInfoLog(shader));
       gl.attachShader(p, shader);
     }
+    gl.bindAttribLocation(p, 0, 'place'); // so that a shape serves several programs
+    gl.bindAttribLocation(p, 1, 'normal');
     gl.linkProgram(p);
     if (!gl.getProgramParameter(p, gl.LINK_STATUS)) throw new Error(gl.getProgramInfoLog(p));
     const at = {};
@@ -130,7 +154,7 @@ class Scene {
     }
     gl.bindBuffer(gl.ELEMENT_ARRAY_BUFFER, indices);
     gl.bindVertexArray(null);
-    return {array, indices, count: 0};
+    return {array, indices, count: 0, kind: gl.UNSIGNED_INT};
   }
 
   send(name, values, use) {
@@ -145,27 +169,32 @@ class Scene {
     gl.bufferData(gl.ELEMENT_ARRAY_BUFFER, values, gl.DYNAMIC_DRAW);
     gl.bindVertexArray(null);
     shape.count = values.length;
+    shape.kind = values.BYTES_PER_ELEMENT === 2 ? gl.UNSIGNED_SHORT : gl.UNSIGNED_INT;
   }
 
-  // Takes over what is seen at a stop.
+  // Takes over what is seen at a stop; it is sent when it is drawn, as in motion a coarse copy may do.
   take(seen, stop, withOutlines, withLoose) {
-    this.stop = stop;
-    this.coarse = 0;
-    this.withLoose = withLoose;
-    this.send('normals', seen.normals);
-    this.send('joined', this.world.joined);
+    Object.assign(this, {seen, stop, withOutlines, withLoose, coarse: 0, isSent: false});
+  }
+
+  sendWhole() {
+    const {seen, withLoose, world} = this, none = new Uint32Array(0);
+    this.send('normals', seen.findNormals());
+    if (this.joined !== world.joined) this.send('joined', this.joined = world.joined);
     this.index('solid', seen.solidCorners);
-    this.index('loose', withLoose ? seen.looseCorners : new Uint32Array(0));
-    this.index('ends', withLoose ? seen.ends.subarray(0, 2 * seen.lines) : new Uint32Array(0));
-    this.index('outlines', withOutlines ? seen.outlines(withLoose) : new Uint32Array(0));
+    this.index('loose', withLoose ? seen.looseCorners : none);
+    this.index('ends', withLoose ? seen.ends.subarray(0, 2 * seen.lines) : none);
+    this.index('outlines', this.withOutlines ? seen.outlines(withLoose) : none);
+    this.isSent = true;
   }
 
   // Takes over a coarse copy of what is seen, of about so many triangles, once for a stop and a number.
-  takeCoarse(copy, seen, most) {
+  takeCoarse(copy, most) {
     if (this.coarse === most) return;
-    const [solid, loose] = copy.of(seen, most);
+    const [solid, loose] = copy.of(this.seen, most);
+    if (this.stands !== copy.places) this.send('stands', this.stands = copy.places);
     this.index('coarseSolid', solid);
-    this.index('coarseLoose', this.withLoose ? loose : new Uint32Array(0));
+    this.index('coarseLoose', this.withLoose ? loose : new Uint16Array(0));
     this.coarse = most;
   }
 
@@ -197,10 +226,10 @@ class Scene {
   }
 
   elements(name, mode) {
-    const {array, count} = this.shapes[name];
+    const {array, count, kind} = this.shapes[name];
     if (!count) return;
     this.gl.bindVertexArray(array);
-    this.gl.drawElements(mode, count, this.gl.UNSIGNED_INT, 0);
+    this.gl.drawElements(mode, count, kind, 0);
   }
 
   // Draws all; `view` has turn, x, y, zoom, frame, cut, colours, the size of dots in pixels, whether they are those
@@ -210,24 +239,33 @@ class Scene {
     gl.viewport(0, 0, this.canvas.width, this.canvas.height);
     gl.clearColor(...colours.back, 1);
     gl.clear(gl.COLOR_BUFFER_BIT | gl.DEPTH_BUFFER_BIT | gl.STENCIL_BUFFER_BIT);
-    const at = this.use(this.faces, view);
-    gl.uniform1i(at.plain, 0);
-    const isTurned = told.turned && !view.coarse;
-    gl.uniform1i(at.oneSided, isTurned ? 1 : 0);
-    gl.uniform3f(at.colour, ...colours.solid);
-    gl.uniform1f(at.dim, 0.38);
-    if (isTurned) gl.enable(gl.CULL_FACE); // what is behind is hidden, by the cut's face too
-    this.elements(view.coarse ? 'coarseSolid' : 'solid', gl.TRIANGLES);
-    gl.disable(gl.CULL_FACE);
-    gl.uniform1i(at.oneSided, 0);
-    gl.uniform3f(at.colour, ...colours.loose);
-    gl.uniform1f(at.dim, 0.55);
-    this.elements(view.coarse ? 'coarseLoose' : 'loose', gl.TRIANGLES);
-    if (view.coarse) return;
+    if (view.coarse) {
+      this.drawFaces(view, view.cut ? this.coarseFacesCut : this.coarseFaces, 'coarseSolid', 'coarseLoose');
+      return;
+    }
+    if (!this.isSent) this.sendWhole();
+    const at = this.drawFaces(view, view.cut ? this.facesCut : this.faces, 'solid', 'loose');
     if (view.cut && told.turned) this.drawCap(view, at);
     this.drawLines(view);
     if (view.dots) this.drawDots(view);
     gl.bindVertexArray(null);
+  }
+
+  // Triangles at tetrahedra, which hide what looks away, where none or the cut's face closes them, and loose ones.
+  drawFaces(view, program, solid, loose) {
+    const gl = this.gl, {colours} = view, at = this.use(program, view);
+    if (at.plain) gl.uniform1i(at.plain, 0);
+    if (at.oneSided) gl.uniform1i(at.oneSided, told.turned ? 1 : 0);
+    gl.uniform3f(at.colour, ...colours.solid);
+    gl.uniform1f(at.dim, 0.38);
+    if (told.turned && !(view.coarse && view.cut)) gl.enable(gl.CULL_FACE);
+    this.elements(solid, gl.TRIANGLES);
+    gl.disable(gl.CULL_FACE);
+    if (at.oneSided) gl.uniform1i(at.oneSided, 0);
+    gl.uniform3f(at.colour, ...colours.loose);
+    gl.uniform1f(at.dim, 0.55);
+    this.elements(loose, gl.TRIANGLES);
+    return at;
   }
 
   // What the cut lays bare: where as many faces are entered as left behind the plane, all is outside.

@@ -201,7 +201,6 @@ class Seen {
       this.ends[2 * this.lines] = e.corners[2 * f];
       this.ends[2 * this.lines++ + 1] = e.corners[2 * f + 1];
     }
-    this.findNormals();
   }
 
   get solidCorners() { return this.corners.subarray(0, 3 * this.solid); }
@@ -230,6 +229,7 @@ class Seen {
       normals[4 * i + 1] = sums[3 * i + 1] * scale;
       normals[4 * i + 2] = sums[3 * i + 2] * scale;
     }
+    return normals;
   }
 
   // The sides of all triangles that are seen, as pairs of points.
