@@ -19,12 +19,19 @@ BUILT = 'BENCH_PEERS'  # names a folder in which peers stand that are built
 OTHERS = {'shape': 'shapes'}
 
 
+def over(ours, theirs, digits=2):
+    """A ratio as it is told, or a dash where the peer took less than is measured."""
+    return f'{ours / theirs:.{digits}f}' if theirs > 0 else '-'
+
+
 def build_all(folder, benches):
-    """Builds the peers of benches into a folder, side by side."""
+    """Builds the peers of benches that are not there yet into a folder, side by side."""
     names = {OTHERS.get(bench, bench) for bench in benches}
-    names = [name for name in names if os.path.exists(os.path.join(FOLDER, f'{name}.cpp'))]
-    with ThreadPoolExecutor(os.cpu_count()) as threads:
-        list(threads.map(lambda name: build(name, os.path.join(folder, name)), names))
+    names = [name for name in sorted(names) if os.path.exists(os.path.join(FOLDER, f'{name}.cpp'))
+             and not os.path.exists(os.path.join(folder, name))]
+    with ThreadPoolExecutor(len(os.sched_getaffinity(0))) as threads:
+        list(threads.map(lambda name: os.replace(build(name, os.path.join(folder, f'{name}.new')),
+                                                 os.path.join(folder, name)), names))
 
 
 def build(name, out):
