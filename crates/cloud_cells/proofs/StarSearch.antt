@@ -1,5 +1,5 @@
 -- Crossing the facets of found cells at a point.
-use Rattle.std.specs.Prelude.{◌≡◌, ℕ, ◌+◌, ◌<◌, ◌≤◌, List, [], ◌∷◌, ◌++◌, length, take, slice_index_or}
+use Rattle.std.specs.Prelude.{◌≡◌, ◌↔◌, ℕ, ◌+◌, ◌<◌, ◌≤◌, List, [], ◌∷◌, ◌++◌, length, take, slice_index_or}
 use Rattle.std.specs.List.{flat_map}
 use Rattle.std.proofs.Common.{refl, sym, ap, ◌∙◌, subst, inl, inr, arith, append-nil}
 use Rattle.std.proofs.lemmas.Grind.{flat_map-append}
@@ -97,18 +97,21 @@ star_begins s v cell k = record {
 }
 
 -- and ends with all
+pub star_all : (s : List ℕ) (v n : ℕ) (found : List Cell) (first : Cell) → IsSet s → length found ≤ n →
+    IsIn first found → AreCrossedAround s v (facets_of_first n found) found → (q : Cell) →
+    IsIn q found ↔ IsCellAt s v q
+star_all s v n found first i all begun k q =
+    let c = subst (λ (l : List Cell). AreCrossedAround s v (flat_map facets_of l) found) (take_all n found all) k in (
+      c.at q,
+      λ h. star_connected s v i found (record {
+        at = c.at;
+        across = λ a b f m kb on fa fb. c.behind f b (in_flat facets_of found a f m fa) on kb fb;
+      }) first begun q h,
+    )
+
+-- each once, where none was found twice
 pub star_found : (s : List ℕ) (v n : ℕ) (found : List Cell) (first : Cell) → IsSet s → length found ≤ n →
     AreDistinct found → IsIn first found → AreCrossedAround s v (facets_of_first n found) found →
     AreStarOf s v found
 star_found s v n found first i all d begun k =
-    let c = subst (λ (l : List Cell). AreCrossedAround s v (flat_map facets_of l) found) (take_all n found all) k in
-    record {
-      star_is = λ q. (
-        c.at q,
-        λ h. star_connected s v i found (record {
-          at = c.at;
-          across = λ a b f m kb on fa fb. c.behind f b (in_flat facets_of found a f m fa) on kb fb;
-        }) first begun q h,
-      );
-      once = d;
-    }
+    record { star_is = star_all s v n found first i all begun k; once = d }

@@ -50,3 +50,18 @@ impl Spot {
         }
     }
 }
+
+impl Default for Spot {
+    // The cell of the first four keys, as a blank.
+    fn default() -> Spot {
+        Spot {
+            cell: Corners {
+                a: 0,
+                b: 1,
+                c: 2,
+                d: 3,
+            },
+            place: 0,
+        }
+    }
+}

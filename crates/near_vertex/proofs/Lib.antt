@@ -1,3 +1,4 @@
 pub mod Order
 pub mod Around
 pub mod Starts
+pub mod Cited

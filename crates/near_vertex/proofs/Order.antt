@@ -1,13 +1,13 @@
 -- The order of points by distance and key.
 use Rattle.std.specs.Prelude.{◌≡◌, refl, ℕ, ℤ, pos, negsuc, unsigned_abs, ◌≤ℤ◌, ◌<ℤ◌, ◌<◌, ◌≤◌, ◌+◌, ◌*◌, ◌^◌, true}
-use Rattle.std.specs.Prelude.{false, not, ◌&&◌, nat_lt, List, [], ◌∷◌, ◌⊎◌, length, take, slice_index_or}
+use Rattle.std.specs.Prelude.{false, not, ◌&&◌, nat_lt, List, [], ◌∷◌, ◌++◌, ◌⊎◌, length, take, slice_index_or}
 use Rattle.std.specs.Int.Signed.{lt_z}
 use Rattle.std.proofs.Common.{arith, inl, inr, sym, subst}
 use Rattle.std.proofs.lemmas.Int.{ints}
 use Rattle.whole_ring.proofs.Cited.{square_nonneg}
 use Rattle.list_laws.proofs.Cited.{below_from, below_true, both_true, false_if, first_true, left_true, less_from}
 use Rattle.list_laws.proofs.Cited.{less_true, not_both, not_from, not_true, one_true, right_true, second_true, in_left}
-use Rattle.list_laws.proofs.Cited.{in_right, in_take_more, take_next}
+use Rattle.list_laws.proofs.Cited.{from_append, in_right, in_take_more, take_next}
 use Rattle.point_order.specs.Orientation.{distance, square_of_step, x_from, y_from, z_from}
 use Rattle.point_order.specs.Sets.{IsIn}
 use Rattle.del_laws.specs.Nearest.{comes_before}
@@ -141,6 +141,20 @@ one_before q a b n f = lower_true q b a (other (distance q a) (distance q b) (no
         most_or_less x y = grind (arith, ints)
 
 -- ---- the first of a list
+
+-- the first of some, and then of it and of more
+pub first_joined : (q p : ℕ) (l m : List ℕ) (x n : ℕ) → IsFirstOf q (p ∷ l) x → IsFirstOf q (x ∷ m) n →
+    IsFirstOf q (p ∷ l ++ m) n
+first_joined q p l m x n k f = record {
+  among = elim f.among [
+    | inl e ↦ subst (λ v. IsIn v (p ∷ l ++ m)) e (in_left x (p ∷ l) m k.among)
+    | inr i ↦ in_right n (p ∷ l) m i
+  ];
+  first = λ y i. elim (from_append y (p ∷ l) m i) [
+    | inl j ↦ not_before_chain q y x n (k.first y j) (f.first x (inl refl))
+    | inr j ↦ f.first y (inr j)
+  ];
+}
 
 -- one more member that comes before the first so far
 pub one_first : (q p : ℕ) (l : List ℕ) (i x best : ℕ) → i < length l → x ≡ slice_index_or l i x →

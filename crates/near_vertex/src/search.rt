@@ -2,7 +2,6 @@
 
 ghost use Rattle.std.specs.Prelude.{◌≡◌, ℕ, List, ◌∷◌, IsSome, IfSome, MatchOption};
 ghost use Rattle.whole_ring.specs.Bounds.{IsWithin};
-ghost use Rattle.point_order.specs.Facets.{points_of};
 ghost use Rattle.point_order.specs.Orientation.{distance};
 ghost use Rattle.point_order.specs.Sets.{IsIn};
 ghost use Rattle.point_order.specs.Sizes.{greatest_square};
@@ -16,7 +15,7 @@ ghost use Rattle.near_vertex.specs.Points.{IsFirstOf, IsFirstAround};
 ghost use Rattle.near_vertex.specs.Turns.{HasNoPoint, IsLeastOfLowest, LeastIs};
 
 use cell_store::Hold;
-use point_order::{Cell, Point, Step};
+use point_order::{Point, Step};
 
 // How many points of a bucket are looked at for one that is near, on each side of its place in the order of keys.
 const LOOKS: usize = 256;
@@ -39,13 +38,14 @@ fn comes_before(near: i64, a: Point, far: i64, b: Point) -> bool
     near < far || (!(far < near) && a < b)
 }
 
-// The first, as seen from q, of a point and the points of a cell.
-fn first_of(q: Point, p: Point, cell: &Cell) -> Point
-    ensures { IsFirstOf q (p ∷ points_of cell.now) result }
+/// The first, as seen from q, of a point and the points of a list: the nearest, and among those as near the one with
+/// the least key. It takes no memory.
+pub fn first_among(q: Point, p: Point, points: &[Point]) -> Point
+    ensures { IsFirstOf q (p ∷ points.now) result }
 {
     let mut first = p;
     let mut least = square_from(q, p);
-    for x in cell.points() {
+    for x in points {
         let square = square_from(q, *x);
         if comes_before(square, *x, least, first) {
             first = *x;
@@ -62,7 +62,7 @@ pub(crate) fn first_around(hold: &Hold, q: Point, p: Point) -> Point
 {
     let mut first = p;
     for cell in hold.cells_around(p) {
-        first = first_of(q, first, cell);
+        first = first_among(q, first, cell.points());
     }
     first
 }

@@ -5,8 +5,8 @@ use Rattle.point_order.specs.Orientation.{distance}
 use Rattle.point_order.specs.Sizes.{greatest_square}
 use Rattle.near_vertex.specs.Points.{IsFirstOf}
 use Rattle.near_vertex.proofs.Order.{one_first, one_later}
-use Rattle.near_vertex.proofs.search.first_of.Goals.{then-comes_before, else-comes_before}
-use Rattle.near_vertex.proofs.search.first_of.Goals as goal
+use Rattle.near_vertex.proofs.search.first_among.Goals.{then-comes_before, else-comes_before}
+use Rattle.near_vertex.proofs.search.first_among.Goals as goal
 
 -- a square of that size is read again as itself
 again : {x : ℤ} → IsWithin greatest_square x → to_z w64 (of_z w64 x) ≡ x
@@ -17,14 +17,11 @@ pub loop-x-preserved : goal.loop-x-preserved
 loop-x-preserved c =
     let q = c.args.q in
     let i = c.loop-x.x-index in
-    let l = c.points-x-items.result.now in
+    let l = c.args.points.now in
     let square = c.square_from-square.ensures in
     let test = c.comes_before.ensures q (again square.bound ∙ square.value) c.loop-x.invariant.1 in
-    let k = subst (λ (m : List ℕ). IsFirstOf q (c.args.p ∷ take i m) c.loop-x.first)
-    (sym c.points-x-items.ensures.points) c.loop-x.invariant.0 in
-    let joined : IsFirstOf q (c.args.p ∷ take (i + 1) l) c.if-comes_before.first
-    × (to_z w64 c.if-comes_before.least-bits ≡ distance q c.if-comes_before.first)
-    × IsWithin greatest_square (to_z w64 c.if-comes_before.least-bits) = elim c.if-comes_before.branch [
+    let k = c.loop-x.invariant.0 in
+    elim c.if-comes_before.branch [
       | then-comes_before w ↦ (
         subst (IsFirstOf q (c.args.p ∷ take (i + 1) l)) (sym w.first-is)
             (one_first q c.args.p l i c.x-item.result c.loop-x.first c.loop-x-test.true c.x-item.is k
@@ -39,9 +36,4 @@ loop-x-preserved c =
         w.least-is ∙ c.loop-x.invariant.1 ∙ ap (distance q) (sym w.first-is),
         subst (IsWithin greatest_square) (sym w.least-is) c.loop-x.invariant.2,
       )
-    ] in (
-      subst (λ (m : List ℕ). IsFirstOf q (c.args.p ∷ take (i + 1) m) c.if-comes_before.first)
-          c.points-x-items.ensures.points joined.0,
-      joined.1,
-      joined.2,
-    )
+    ]
