@@ -4,3 +4,5 @@ pub mod Replied
 pub mod Clouds
 pub mod Moved
 pub mod Opened
+pub mod Neighbours
+pub mod Cited

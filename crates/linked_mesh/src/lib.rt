@@ -6,12 +6,15 @@
 //! let mut mesh = begin(alloc, [(0, a), (1, b), (2, c), (3, d)])?;  // independent points, with tags
 //! let cloud = begin_cloud(alloc, &points, find_four(&points)?)?;   // all at once
 //! let receipt = apply(alloc, &mut mesh, 4, Edit::Add(p))?;  // its number and its reply; less than 2^32 entries before
+//! let cell = locate(&mesh, q);                              // a cell in conflict with q; none where it is a point
+//! let near = nearest(&mesh, q);                             // without memory
 //! let cells = complex(alloc, &mesh)?;                       // sorted
 //! let (entries, cells) = into_parts(alloc, mesh)?;          // both, and the mesh is let go
 //! ```
 #![tactic(auto)]
 
 mod mesh;
+mod near;
 mod opening;
 mod set;
 mod shift;
@@ -19,8 +22,8 @@ mod take;
 
 pub use edit_history::{Edit, Receipt, find_four};
 pub use mesh::{
-    LinkedMesh, apply, begin_cloud, complex, count, has_point, history, into_parts, of_history,
-    points,
+    LinkedMesh, apply, begin_cloud, complex, count, has_point, history, into_parts, locate,
+    nearest, of_history, points,
 };
 pub use opening::begin;
 pub use set::LinkedSet;

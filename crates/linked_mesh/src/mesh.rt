@@ -1,16 +1,19 @@
 //! The mesh of one owner: a set of points with its cells, and the history that left it.
 
-ghost use Rattle.std.specs.Prelude.{◌≡◌, ◌<◌, ◌≤◌, ◌^◌, ◌∷◌, ◌++◌, [], Some, length, option_map, true, IfOk, OnErr};
-ghost use Rattle.std.specs.Prelude.{OnOk};
+ghost use Rattle.std.specs.Prelude.{◌≡◌, ◌↔◌, ◌<◌, ◌≤◌, ◌^◌, ◌∷◌, ◌++◌, [], None, Some, length, option_map, true, IfOk};
+ghost use Rattle.std.specs.Prelude.{OnErr, OnOk};
 ghost use Rattle.std.specs.Vec.{vec_capacity, vec_len};
 ghost use Rattle.point_order.specs.Complex.{complex as complex_of};
 ghost use Rattle.point_order.specs.Sets.{IsAscending, ascending, is_among};
 ghost use Rattle.point_order.specs.Solid.{is_solid};
+ghost use Rattle.point_order.specs.declared.cell.Cell.{Cell as CellParts};
 ghost use Rattle.del_laws.specs.Keys.{AreKeys};
 ghost use Rattle.edit_history.specs.Edits.{reply_to};
 ghost use Rattle.edit_history.specs.Histories.{replay};
 ghost use Rattle.edit_history.specs.OneThread.{one_thread, places};
 ghost use Rattle.edit_history.specs.Opening.{opening_four};
+ghost use Rattle.hole_laws.specs.Edits.{GoesFrom};
+ghost use Rattle.near_vertex.specs.Points.{IsNearest};
 ghost use Rattle.linked_mesh.specs.Applied.{edited};
 
 use crate::set::LinkedSet;
@@ -188,4 +191,23 @@ pub fn points(alloc: Global, mesh: &LinkedMesh) -> Result<Vec<Point>, AllocError
     ensures keys { AreKeys (replay mesh.now) }
 {
     mesh.set.points(alloc)
+}
+
+/// A cell with which a point at the place would be in conflict, found by a walk: a tetrahedron whose sphere it is
+/// inside, or, where it lies beyond the hull, a triangle that it sees. None where a point of the mesh stands there. It
+/// takes no memory.
+pub fn locate(mesh: &LinkedMesh, p: Point) -> Option<Cell>
+    ensures vertex { result ≡ None ↔ (is_among p (replay mesh.now) ≡ true) }
+    ensures inside { (cell : CellParts) → result ≡ Some cell → GoesFrom (replay mesh.now) p cell }
+{
+    mesh.set.locate(p)
+}
+
+/// The point of the mesh that is nearest to a place, among those as near the one with the least key.
+///
+/// It begins in a cell that lies near; that only makes the walk short. It takes no memory.
+pub fn nearest(mesh: &LinkedMesh, q: Point) -> Point
+    ensures { IsNearest (replay mesh.now) q result }
+{
+    mesh.set.nearest(q)
 }

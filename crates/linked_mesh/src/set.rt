@@ -1,14 +1,17 @@
 //! A set of points with the cells of its complex, which one owner changes.
 
-ghost use Rattle.std.specs.Prelude.{◌≡◌, false, true, if◌then◌else◌, IfOk, OnErr, OnOk};
+ghost use Rattle.std.specs.Prelude.{◌≡◌, false, true, if◌then◌else◌, IfOk, MatchOption, OnErr, OnOk};
 ghost use Rattle.point_order.specs.Complex.{complex};
 ghost use Rattle.point_order.specs.Sets.{IsAscending, is_among, with_point, without_point};
 ghost use Rattle.point_order.specs.Solid.{is_solid};
 ghost use Rattle.del_laws.specs.Keys.{AreKeys};
 ghost use Rattle.edit_history.specs.Edits.{after as after_of, moved_to, reply_to};
 ghost use Rattle.edit_history.specs.declared.history.Edit.TheVariants.{Add, Move, Take};
+ghost use Rattle.hole_laws.specs.Edits.{GoesFrom};
 ghost use Rattle.cloud_cells.specs.Clouds.{AreCellsOf};
+ghost use Rattle.near_vertex.specs.Points.{IsNearest};
 
+use crate::near::{nearest_by_walk, nearest_of_all};
 use crate::shift::move_point;
 use crate::take::take_point;
 use cloud_cells::LinkedCells;
@@ -165,6 +168,28 @@ impl LinkedSet {
         ensures { result ≡ is_among p self.now }
     {
         has(&self.points, p)
+    }
+
+    /// A cell in conflict with a place; none where a point of the set stands there. It takes no memory.
+    pub fn locate(&self, p: Point) -> Option<Cell>
+        ensures { MatchOption result (is_among p self.now ≡ true) (λ cell. (is_among p self.now ≡ false)
+            × GoesFrom self.now p cell) }
+    {
+        let _ = p.key();
+        if has(&self.points, p) {
+            return None;
+        }
+        Some(self.linked.cell_in_conflict(p))
+    }
+
+    /// The nearest point to a place, among those as near the one with the least key. It takes no memory.
+    pub fn nearest(&self, q: Point) -> Point
+        ensures { IsNearest self.now q result }
+    {
+        match nearest_by_walk(&self.linked, q) {
+            Some(near) => near,
+            None => nearest_of_all(&self.points, q),
+        }
     }
 
     /// Adds a point, where it is not there.
