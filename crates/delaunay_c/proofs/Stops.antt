@@ -1,7 +1,7 @@
 -- What the status of a call for many tells of the one that was not done.
 use Rattle.std.proofs.Common.{◌≡◌, ◌≢◌, ◌<◌, ◌≤◌, ◌⊎◌, ℕ, ap, arith, inl, inr, pos, refl, sym, subst, List, [], ◌∷◌}
 use Rattle.std.specs.Prelude.{Option, None, Some, IfNone, IfSome, OnSome, HoldsAt}
-use Rattle.cell_store.specs.Meshes.{MeshView}
+use Rattle.mesh_handle.specs.Held.{MeshView}
 use Rattle.mesh_rows.specs.declared.rows.Place.{Place}
 use Rattle.mesh_rows.specs.Meshes.{HasOutside}
 use Rattle.mesh_rows.specs.Rows.{LiesOutside}

@@ -1,6 +1,6 @@
 -- How many rows a mesh takes that a handle holds.
 use Rattle.std.specs.Prelude.{◌≡◌, List, Option, length}
-use Rattle.cell_store.specs.Meshes.{MeshView}
+use Rattle.mesh_handle.specs.Held.{MeshView}
 use Rattle.mesh_rows.specs.declared.rows.Place.{Place}
 use Rattle.mesh_rows.specs.declared.rows.TriangleRow.{TriangleRow}
 use Rattle.mesh_rows.specs.declared.rows.CellRow.{CellRow}

@@ -5,4 +5,3 @@ pub mod Clouds
 pub mod Moved
 pub mod Opened
 pub mod Neighbours
-pub mod Cited

@@ -23,8 +23,7 @@ use Rattle.std.specs.Box.Ownership.{box_owns}
 use Rattle.std.proofs.GlobalToken.{dealloc_token-Testable}
 use Rattle.std.proofs.ResultValues.{and_tt}
 use Rattle.std.proofs.cell.Inside.{Good}
-use Rattle.cell_store.specs.Meshes.{MeshView}
-use Rattle.mesh_handle.specs.Held.{keeps, mesh_row}
+use Rattle.mesh_handle.specs.Held.{MeshView, keeps, mesh_row}
 use Rattle.mesh_handle.specs.contracts.handle.MeshHandle as handle
 
 -- the struct of one pointer

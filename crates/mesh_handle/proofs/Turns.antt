@@ -6,7 +6,7 @@ use Rattle.std.specs.List.{AllZip}
 use Rattle.std.proofs.lemmas.List.{drop-drop, drop-set-lt, get_or_default, take_more, take_more_set}
 use Rattle.list_laws.proofs.Cited.{zip_push}
 use Rattle.edit_history.specs.declared.history.Reply.{Reply}
-use Rattle.cell_store.specs.Meshes.{MeshView}
+use Rattle.mesh_handle.specs.Held.{MeshView}
 use Rattle.mesh_rows.specs.declared.rows.Place.{Place}
 use Rattle.mesh_rows.specs.Meshes.{HasOutside}
 use Rattle.mesh_handle.specs.declared.many.EditRow.{EditRow}

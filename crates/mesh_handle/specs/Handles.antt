@@ -10,9 +10,9 @@ use Rattle.edit_history.specs.declared.history.Reply.{Reply}
 use Rattle.edit_history.specs.Edits.{reply_to}
 use Rattle.edit_history.specs.Histories.{replay}
 use Rattle.hole_laws.specs.Edits.{GoesFrom}
-use Rattle.cell_store.specs.Meshes.{MeshView}
+use Rattle.mesh_handle.specs.Held.{MeshView}
 use Rattle.near_vertex.specs.Points.{IsNearest}
-use Rattle.one_mesh.specs.Applied.{edited}
+use Rattle.linked_mesh.specs.Applied.{edited}
 use Rattle.mesh_rows.specs.declared.rows.Place.{Place}
 use Rattle.mesh_rows.specs.declared.rows.CellRow.{CellRow}
 use Rattle.mesh_rows.specs.declared.rows.TriangleRow.{TriangleRow}
@@ -32,7 +32,7 @@ pub record IsPointAt (place : Place) (p : ℕ) : Type 0 where
 -- it holds a mesh that has exactly the points at the given places
 abbrev pub HoldsPoints : List Place → Option MeshView → Type 0
 HoldsPoints given None = ⊥
-HoldsPoints given (Some mesh) = IsSetOf given (replay mesh.history)
+HoldsPoints given (Some mesh) = IsSetOf given (replay mesh)
 
 -- ---- edits
 
@@ -40,7 +40,7 @@ HoldsPoints given (Some mesh) = IsSetOf given (replay mesh.history)
 abbrev pub WasEdited : Option MeshView → Edit → Option MeshView → Reply → Type 0
 WasEdited None edit new reply = ⊥
 WasEdited (Some mesh) edit new reply =
-    (length mesh.history < 2 ^ 32) × (new ≡ Some (edited mesh 0 edit)) × (reply ≡ reply_to (replay mesh.history) edit)
+    (length mesh < 2 ^ 32) × (new ≡ Some (edited mesh 0 edit)) × (reply ≡ reply_to (replay mesh) edit)
 
 -- the point at the place was added
 abbrev pub WasAdded : Option MeshView → Place → Option MeshView → Reply → Type 0
@@ -60,13 +60,13 @@ WasMoved old from to new reply =
 -- it holds a mesh with 2^32 entries or more
 abbrev pub IsFull : Option MeshView → Type 0
 IsFull None = ⊥
-IsFull (Some mesh) = 2 ^ 32 ≤ length mesh.history
+IsFull (Some mesh) = 2 ^ 32 ≤ length mesh
 
 -- it holds a mesh whose points, or the cells of whose complex, are 2^32 or more
 abbrev pub HasMany : Option MeshView → Type 0
 HasMany None = ⊥
 HasMany (Some mesh) =
-    (2 ^ 32 ≤ length (replay mesh.history)) ⊎ (2 ^ 32 ≤ length (complex (replay mesh.history)))
+    (2 ^ 32 ≤ length (replay mesh)) ⊎ (2 ^ 32 ≤ length (complex (replay mesh)))
 
 -- why an edit of these places is not made; memory may be wanting at any time
 abbrev pub IsRefusalCause : Option MeshView → List Place → Refusal → Type 0
@@ -94,7 +94,7 @@ IsMiss held places _ = ⊥
 -- the rows are those of the mesh
 abbrev pub ShowsRows : Option MeshView → List Place → List CellRow → List CellRow → List TriangleRow → Type 0
 ShowsRows None points cells neighbours hull = ⊥
-ShowsRows (Some mesh) points cells neighbours hull = AreMeshRows (replay mesh.history) points cells neighbours hull
+ShowsRows (Some mesh) points cells neighbours hull = AreMeshRows (replay mesh) points cells neighbours hull
 
 -- a point of the set stands at the place, or else a cell is in conflict with it
 abbrev pub IsWhere : List ℕ → ℕ → Location → Type 0
@@ -118,10 +118,10 @@ IsToldOf s p located = (at : Location) × IsWhere s p at × (located ≡ row_of 
 -- where a place lies in the mesh
 abbrev pub LiesAt : Option MeshView → Place → Located → Type 0
 LiesAt None place located = ⊥
-LiesAt (Some mesh) place located = (p : ℕ) × IsPointAt place p × IsToldOf (replay mesh.history) p located
+LiesAt (Some mesh) place located = (p : ℕ) × IsPointAt place p × IsToldOf (replay mesh) p located
 
 -- where the nearest point of the mesh to a place lies
 abbrev pub NearestIs : Option MeshView → Place → Place → Type 0
 NearestIs None place near = ⊥
 NearestIs (Some mesh) place near =
-    (p : ℕ) × (n : ℕ) × IsPointAt place p × IsNearest (replay mesh.history) p n × (near ≡ point_place n)
+    (p : ℕ) × (n : ℕ) × IsPointAt place p × IsNearest (replay mesh) p n × (near ≡ point_place n)

@@ -1,12 +1,16 @@
 -- What the pointer of a handle owns.
-use Rattle.std.specs.Prelude.{Option, None, Some}
+use Rattle.std.specs.Prelude.{List, Option, None, Some}
 use base.Fml.{Fml, feq, fex}
 use denote.RawPtr.{Ptr, null_ptr}
 use Rattle.std.specs.declared.alloc.Global.{Global}
 use Rattle.std.specs.contracts.impls.GlobalAllocator.TheImpl.{ghosts}
 use Rattle.std.specs.Box.Ownership.{box_owns}
-use Rattle.cell_store.specs.Meshes.{MeshView}
-pub use Rattle.cell_store.specs.contracts.mesh.Mesh.{the_row as mesh_row}
+use Rattle.edit_history.specs.declared.history.Entry.{Entry}
+pub use Rattle.linked_mesh.specs.contracts.mesh.LinkedMesh.{the_row as mesh_row}
+
+-- what contracts see of a mesh: its history
+abbrev pub MeshView : Type 0
+MeshView = List Entry
 
 -- nothing where there is no mesh, and then it is null; else the box of the mesh
 abbrev pub keeps : Ptr → Option MeshView → Fml

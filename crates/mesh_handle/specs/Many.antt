@@ -1,7 +1,7 @@
 -- Many edits and many looks, one after another.
 use Rattle.std.specs.Prelude.{◌≡◌, ℕ, ◌<◌, ◌≤◌, ◌⊎◌, List, [], ◌∷◌, Option, None, Result, Ok, Err}
 use Rattle.edit_history.specs.declared.history.Reply.{Reply}
-use Rattle.cell_store.specs.Meshes.{MeshView}
+use Rattle.mesh_handle.specs.Held.{MeshView}
 use Rattle.mesh_rows.specs.declared.rows.Place.{Place}
 use Rattle.mesh_rows.specs.Rows.{LiesOutside}
 use Rattle.mesh_handle.specs.declared.many.EditRow.{EditRow}

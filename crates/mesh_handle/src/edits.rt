@@ -6,16 +6,15 @@ ghost use Rattle.edit_history.specs.Edits.{reply_to};
 ghost use Rattle.edit_history.specs.Histories.{replay};
 ghost use Rattle.mesh_rows.specs.Meshes.{HasOutside};
 ghost use Rattle.mesh_rows.specs.Rows.{LiesOutside};
-ghost use Rattle.one_mesh.specs.Applied.{edited};
+ghost use Rattle.linked_mesh.specs.Applied.{edited};
 ghost use Rattle.mesh_handle.specs.Handles.{IsRefusalCause, WasAdded, WasEdited, WasMoved, WasTaken, IsPointAt};
 ghost use Rattle.mesh_handle.specs.declared.refusal.Refusal.TheVariants.{Outside};
 
 use crate::handle::MeshHandle;
 use crate::refusal::Refusal;
-use cell_store::Mesh;
 use edit_history::{Edit, Reply};
+use linked_mesh::{LinkedMesh, apply, count};
 use mesh_rows::{Place, point_at};
-use one_mesh::apply;
 use point_order::Point;
 use std::alloc::Global;
 
@@ -32,14 +31,14 @@ pub(crate) fn point_of(place: &Place) -> Result<Point, Refusal>
 }
 
 // Makes an edit of a mesh.
-fn edit_mesh(alloc: Global, mesh: &mut Mesh, edit: Edit) -> Result<Reply, Refusal>
+fn edit_mesh(alloc: Global, mesh: &mut LinkedMesh, edit: Edit) -> Result<Reply, Refusal>
     ensures applied { OnOk result (mesh.new ≡ edited mesh.old 0 edit) }
-    ensures reply { IfOk result (λ reply. reply ≡ reply_to (replay mesh.old.history) edit) }
-    ensures few { OnOk result (length mesh.old.history < 2 ^ 32) }
+    ensures reply { IfOk result (λ reply. reply ≡ reply_to (replay mesh.old) edit) }
+    ensures few { OnOk result (length mesh.old < 2 ^ 32) }
     ensures refused { OnErr result (mesh.new ≡ mesh.old) }
     ensures cause { IfErr result (λ r. IsRefusalCause (Some mesh.old) [] r) }
 {
-    if mesh.count() >= 1 << 32 {
+    if count(mesh) >= 1 << 32 {
         return Err(Refusal::Full);
     }
     match apply(alloc, mesh, 0, edit) {

@@ -2,11 +2,10 @@
 
 ghost use Rattle.std.specs.Prelude.{◌≡◌, None, Option, Some, MatchOption};
 ghost use Rattle.std.specs.Coded.{coded_option};
-ghost use Rattle.cell_store.specs.Meshes.{MeshView};
-ghost use Rattle.mesh_handle.specs.Held.{mesh_row};
+ghost use Rattle.mesh_handle.specs.Held.{MeshView, mesh_row};
 
 use crate::loose::Loose;
-use cell_store::Mesh;
+use linked_mesh::LinkedMesh;
 use std::alloc::Global;
 use std::marker::Model;
 use std::mem::replace;
@@ -39,7 +38,7 @@ impl MeshHandle {
     }
 
     // That of a box.
-    fn of_loose(loose: Loose<Mesh, Global>) -> MeshHandle
+    fn of_loose(loose: Loose<LinkedMesh, Global>) -> MeshHandle
         ensures { result.mesh ≡ Some loose.value }
     {
         let Loose { at, alloc: _ } = loose;
@@ -47,7 +46,7 @@ impl MeshHandle {
     }
 
     // The box, if there is one.
-    fn into_loose(self, alloc: Global) -> Option<Loose<Mesh, Global>>
+    fn into_loose(self, alloc: Global) -> Option<Loose<LinkedMesh, Global>>
         ensures { MatchOption result (self.mesh ≡ None) (λ l. self.mesh ≡ Some l.value) }
     {
         let MeshHandle { at } = self;
@@ -55,14 +54,14 @@ impl MeshHandle {
             None
         } else {
             Some(Loose {
-                at: at as *mut Mesh,
+                at: at as *mut LinkedMesh,
                 alloc,
             })
         }
     }
 
     /// Takes the mesh out, if there is one.
-    pub(crate) fn take(&mut self, alloc: Global) -> Option<Box<Mesh>>
+    pub(crate) fn take(&mut self, alloc: Global) -> Option<Box<LinkedMesh>>
         ensures left { self.new.mesh ≡ None }
         ensures taken { MatchOption result (self.old.mesh ≡ None) (λ b. self.old.mesh ≡ Some b.value) }
     {
@@ -74,7 +73,7 @@ impl MeshHandle {
     }
 
     /// Puts a mesh in. One that was there is freed.
-    pub(crate) fn put(&mut self, alloc: Global, mesh: Box<Mesh>)
+    pub(crate) fn put(&mut self, alloc: Global, mesh: Box<LinkedMesh>)
         ensures { self.new.mesh ≡ Some mesh.value }
     {
         let before = replace(self, MeshHandle::of_loose(Loose::of(mesh)));

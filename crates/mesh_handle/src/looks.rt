@@ -10,12 +10,9 @@ ghost use Rattle.mesh_handle.specs.declared.refusal.Refusal.TheVariants.{Outside
 
 use crate::edits::point_of;
 use crate::handle::MeshHandle;
-use crate::place::{Location, locate};
 use crate::refusal::Refusal;
-use cell_store::Mesh;
+use linked_mesh::{LinkedMesh, complex, locate, nearest, points};
 use mesh_rows::{Made, Place, are_few, place_at, rows_of};
-use near_vertex::nearest;
-use one_mesh::{complex, points};
 use point_order::{Cell, Point};
 use std::alloc::Global;
 
@@ -34,8 +31,8 @@ pub struct Located {
 }
 
 // The rows of a mesh.
-fn mesh_rows_of(alloc: Global, mesh: &Mesh) -> Result<Made, Refusal>
-    ensures rows { IfOk result (λ m. AreMeshRows (replay mesh.now.history) m.points.items m.cells.items
+fn mesh_rows_of(alloc: Global, mesh: &LinkedMesh) -> Result<Made, Refusal>
+    ensures rows { IfOk result (λ m. AreMeshRows (replay mesh.now) m.points.items m.cells.items
         m.neighbours.items m.hull.items) }
     ensures count { IfOk result (λ m. length m.neighbours.items ≡ length m.cells.items) }
     ensures cause { IfErr result (λ r. IsLack (Some mesh.now) r) }
@@ -100,11 +97,11 @@ fn cell_at(p: Point, cell: &Cell) -> Located
 }
 
 // How it is told where a point lies in a mesh.
-fn row_at(mesh: &Mesh, p: Point) -> Located
-    ensures { IsToldOf (replay mesh.now.history) p result }
+fn row_at(mesh: &LinkedMesh, p: Point) -> Located
+    ensures { IsToldOf (replay mesh.now) p result }
 {
     match locate(mesh, p) {
-        Location::Vertex => {
+        None => {
             let here = place_at(p);
             Located {
                 kind: 0,
@@ -114,7 +111,7 @@ fn row_at(mesh: &Mesh, p: Point) -> Located
                 d: here,
             }
         }
-        Location::Inside(cell) => cell_at(p, &cell),
+        Some(cell) => cell_at(p, &cell),
     }
 }
 
@@ -140,10 +137,10 @@ pub fn find(alloc: Global, handle: &mut MeshHandle, place: &Place) -> Result<Loc
 }
 
 // The point of a mesh that is nearest to a place.
-fn nearest_in(mesh: &Mesh, p: Point) -> Point
-    ensures { IsNearest (replay mesh.now.history) p result }
+fn nearest_in(mesh: &LinkedMesh, p: Point) -> Point
+    ensures { IsNearest (replay mesh.now) p result }
 {
-    nearest(mesh.hold(), p)
+    nearest(mesh, p)
 }
 
 /// Where the point of the mesh of a handle lies that is nearest to a place, among those as near the one that comes

@@ -6,15 +6,14 @@ ghost use Rattle.mesh_rows.specs.Meshes.{IsStopCause, IsSetOf};
 ghost use Rattle.mesh_handle.specs.Handles.{HoldsPoints};
 
 use crate::handle::{MeshHandle, free};
-use cell_store::Mesh;
 use edit_history::laws::one_thread_is_legal;
+use linked_mesh::{LinkedMesh, begin_cloud, find_four};
 use mesh_rows::{Place, Stop, set_of};
-use one_mesh::{begin_cloud, find_four, grid_for};
 use std::alloc::Global;
 
 // The mesh of the points at some places.
-fn mesh_at(alloc: Global, given: &[Place]) -> Result<Mesh, Stop>
-    ensures points { IfOk result (λ mesh. IsSetOf given.now (replay mesh.history)) }
+fn mesh_at(alloc: Global, given: &[Place]) -> Result<LinkedMesh, Stop>
+    ensures points { IfOk result (λ mesh. IsSetOf given.now (replay mesh)) }
     ensures refused { IfErr result (λ stop. IsStopCause given.now stop) }
 {
     one_thread_is_legal();
@@ -25,7 +24,7 @@ fn mesh_at(alloc: Global, given: &[Place]) -> Result<Mesh, Stop>
     if points.len() > u32::MAX as usize {
         return Err(Stop::Full);
     }
-    let mesh = begin_cloud(alloc, grid_for(points.len()), &points, four)?;
+    let mesh = begin_cloud(alloc, &points, four)?;
     Ok(mesh)
 }
 

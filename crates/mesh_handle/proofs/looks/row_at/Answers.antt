@@ -10,21 +10,21 @@ use Rattle.mesh_handle.proofs.looks.row_at.Goals as goal
 abbrev told : Place → Located
 told x = record { kind = 0; a = x; b = x; c = x; d = x }
 
-pub returns-in-Vertex : goal.returns-in-Vertex
-returns-in-Vertex c =
-    let s = replay c.args.mesh.now.history in
-    (Vertex, among_from c.args.p s (c.locate.ensures.vertex.0 c.in-Vertex.is), ap told c.place_at-here.ensures)
+pub returns-in-None : goal.returns-in-None
+returns-in-None c =
+    let s = replay c.args.mesh.now in
+    (Vertex, among_from c.args.p s (c.locate.ensures.vertex.0 c.in-None.is), ap told c.place_at-here.ensures)
 
-pub returns-in-Inside : goal.returns-in-Inside
-returns-in-Inside c =
-    let s = replay c.args.mesh.now.history in (
-      Inside c.in-Inside.cell,
+pub returns-in-Some : goal.returns-in-Some
+returns-in-Some c =
+    let s = replay c.args.mesh.now in (
+      Inside c.in-Some.cell,
       (
         (λ i.
             let e = c.locate.ensures.vertex.1 (among_true c.args.p s i) in
-            let d = c.in-Inside.is in
+            let d = c.in-Some.is in
             absurd (cc (e, d))),
-        c.locate.ensures.inside c.in-Inside.cell c.in-Inside.is,
+        c.locate.ensures.inside c.in-Some.cell c.in-Some.is,
       ),
       c.cell_at.ensures,
     )

@@ -7,9 +7,8 @@ use denote.Memory.{lone}
 use denote.RawPtr.{Ptr, block_ptr, null_ptr, lies_at}
 use denote.Param.Send.{IsSend, owning_send, part_keyless, sendable}
 use Rattle.std.proofs.Crossing.{frees}
-use Rattle.cell_store.specs.Meshes.{MeshView}
-use Rattle.cell_store.proofs.mesh.Mesh.TheSendSync.{the_send as mesh_sends}
-use Rattle.mesh_handle.specs.Held.{keeps, mesh_row}
+use Rattle.linked_mesh.proofs.mesh.LinkedMesh.TheSendSync.{the_send as mesh_sends}
+use Rattle.mesh_handle.specs.Held.{MeshView, keeps, mesh_row}
 use Rattle.mesh_handle.specs.contracts.handle.MeshHandle.{the_row, the_type}
 
 -- what lies at a pointer names no thread

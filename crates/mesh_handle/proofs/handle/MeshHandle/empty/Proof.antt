@@ -16,7 +16,7 @@ use denote.Triple.Entry.{alive}
 use denote.Triple.Walked.{Stays, walk_of}
 use Rattle.std.specs.Prelude.{Option, None}
 use Rattle.std.proofs.raw_atomic.Walks.{proved_at, leaves}
-use Rattle.cell_store.specs.Meshes.{MeshView}
+use Rattle.mesh_handle.specs.Held.{MeshView}
 use Rattle.mesh_handle.proofs.Handles.{held_good, held_in, held_val}
 use Rattle.mesh_handle.specs.contracts.handle.MeshHandle.empty.{ended, clauses}
 use Rattle.mesh_handle.specs.contracts.handle.MeshHandle.empty.Key.{name as #self}

@@ -23,8 +23,7 @@ use Rattle.std.specs.contracts.impls.GlobalAllocator.TheImpl.{ghosts}
 use Rattle.std.specs.Box.Ownership.{box_owns}
 use Rattle.std.proofs.alloc.Calls.{Goes-blank}
 use Rattle.std.proofs.raw_atomic.Walks.{proved_at, leaves}
-use Rattle.cell_store.specs.Meshes.{MeshView}
-use Rattle.mesh_handle.specs.Held.{mesh_row}
+use Rattle.mesh_handle.specs.Held.{MeshView, mesh_row}
 use Rattle.mesh_handle.proofs.Pointers.{both, Loose, loose_good, loose_out}
 use Rattle.mesh_handle.proofs.Handles.{held_good, held_in, held_val, ptr_good}
 use Rattle.mesh_handle.specs.contracts.handle.MeshHandle.of_loose.{ended, clauses}
