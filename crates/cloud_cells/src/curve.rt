@@ -75,3 +75,14 @@ pub(crate) fn turn_of(p: Point) -> u64 {
     let place = place_on_curve(p.x() as u64, p.y() as u64, p.z() as u64);
     round << 48 | place
 }
+
+// The level of a point where there are blocks: the last has half of the points, the one before a quarter, and so on.
+pub(crate) fn level_of(p: Point) -> u64 {
+    let before = mixed(p.key()).leading_zeros() as u64;
+    31u64.saturating_sub(before)
+}
+
+// The place of a point on the curve.
+pub(crate) fn place_of(p: Point) -> u64 {
+    place_on_curve(p.x() as u64, p.y() as u64, p.z() as u64)
+}

@@ -8,10 +8,13 @@ ghost use Rattle.hole_laws.specs.Others.{IsOtherOf, HaveNoOther};
 ghost use Rattle.cloud_cells.specs.Stars.{HaveRoom};
 ghost use Rattle.cloud_cells.specs.Marked.{IsOtherAt};
 ghost use Rattle.cloud_cells.specs.Nets.{AreMoved, AreWith, HasNoOther, IsOtherOn, IsWithout, cells_of_slots, slot_at};
+ghost use Rattle.cloud_cells.specs.Pages.{slots_of};
 
 use crate::corners::{Corners, Face};
 use crate::edges::Door;
 use crate::packed::Packed;
+use crate::paged::Slots;
+use crate::pages::Page;
 use crate::spot::Spot;
 use point_order::Cell;
 use std::alloc::{AllocError, Global};
@@ -51,7 +54,7 @@ impl Slot {
     }
 
     // A slot without a cell.
-    fn free() -> Slot
+    pub(crate) fn free() -> Slot
         ensures { result ≡ None }
     {
         Slot {
@@ -61,7 +64,7 @@ impl Slot {
     }
 
     // The keys of the cell, if it has one.
-    fn corners(&self) -> Option<Corners>
+    pub(crate) fn corners(&self) -> Option<Corners>
         ensures { result ≡ self.now }
     {
         self.packed.corners()
@@ -93,13 +96,6 @@ impl Slot {
         self.packed.number()
     }
 
-    // The cell is taken out, so many after the first.
-    fn clear(&mut self, number: usize)
-        ensures { self.new ≡ None }
-    {
-        self.packed = Packed::none(short(number));
-    }
-
     // What stands in it, without the rest.
     pub(crate) fn packed(self) -> Packed
         ensures { result ≡ self }
@@ -107,27 +103,23 @@ impl Slot {
         self.packed
     }
 
-    // A cell is put in.
-    fn fill(&mut self, cell: &Corners)
-        ensures { self.new ≡ Some cell.now }
+    // What stands in it becomes another.
+    pub(crate) fn set(&mut self, packed: Packed)
+        ensures { self.new ≡ packed }
     {
-        self.packed = Packed::of(cell);
+        self.packed = packed;
     }
 }
 
 // What stands in a slot; past the end nothing does.
-pub(crate) fn cell_at(slots: &[Slot], i: usize) -> Option<Corners>
+pub(crate) fn cell_at(slots: &Slots, i: usize) -> Option<Corners>
     ensures { result ≡ slot_at slots.now i }
 {
-    if i < slots.len() {
-        slots[i].corners()
-    } else {
-        None
-    }
+    slots.cell_at(i)
 }
 
 // Whether the cell stands in a slot.
-fn stands_at(slots: &[Slot], i: usize, cell: &Corners) -> bool
+fn stands_at(slots: &Slots, i: usize, cell: &Corners) -> bool
     ensures { IsTrue result ↔ (slot_at slots.now i ≡ Some cell.now) }
 {
     match cell_at(slots, i) {
@@ -137,7 +129,7 @@ fn stands_at(slots: &[Slot], i: usize, cell: &Corners) -> bool
 }
 
 // The slot of a cell, which is likely to be the hint.
-fn place_of(slots: &[Slot], cell: &Corners, hint: usize) -> usize
+fn place_of(slots: &Slots, cell: &Corners, hint: usize) -> usize
     requires { IsIn cell.now (cells_of_slots slots.now) }
     ensures { slot_at slots.now result ≡ Some cell.now }
 {
@@ -160,7 +152,7 @@ fn is_other(other: &Corners, cell: &Corners, facet: &Face) -> bool
 }
 
 // Which of its facets the facet is of the cell of a slot, where that is another on it.
-pub(crate) fn other_at(slots: &[Slot], i: usize, cell: &Corners, facet: &Face) -> Option<usize>
+pub(crate) fn other_at(slots: &Slots, i: usize, cell: &Corners, facet: &Face) -> Option<usize>
     ensures { MatchOption result (HasNoOther slots.now i cell.now facet.now)
         (λ number. IsOtherAt slots.now cell.now facet.now i) }
 {
@@ -173,7 +165,7 @@ pub(crate) fn other_at(slots: &[Slot], i: usize, cell: &Corners, facet: &Face) -
 }
 
 // The slot of the cell across a facet of a cell, where all are looked at. There is to be one.
-pub(crate) fn other_across(slots: &[Slot], cell: &Corners, facet: &Face) -> Door
+pub(crate) fn other_across(slots: &Slots, cell: &Corners, facet: &Face) -> Door
     requires { HasOtherIn (cells_of_slots slots.now) cell.now facet.now }
     ensures { IsOtherAt slots.now cell.now facet.now result.place }
 {
@@ -210,43 +202,38 @@ pub(crate) fn gone_across(
 }
 
 // Whether the slot is there, and free.
-fn is_free(slots: &[Slot], i: usize) -> bool
+fn is_free(slots: &Slots, i: usize) -> bool
     ensures { IsTrue result → (i < length slots.now) × (slot_at slots.now i ≡ None) }
 {
-    i < slots.len() && cell_at(slots, i).is_none()
+    slots.is_free(i)
 }
 
 // Puts a cell into the slot of the hint, where that is free, or behind all, and answers which that was.
-pub(crate) fn put_in(
-    slots: &mut Vec<Slot>,
-    cell: &Corners,
-    hint: usize,
-) -> Result<usize, AllocError>
-    ensures { OnOk result (AreWith (cells_of_slots slots.old.items) cell.now (cells_of_slots slots.new.items)) }
+pub(crate) fn put_in(slots: &mut Slots, cell: &Corners, hint: usize) -> Result<usize, AllocError>
+    ensures { OnOk result (AreWith (cells_of_slots slots.old) cell.now (cells_of_slots slots.new)) }
 {
     if is_free(slots, hint) {
-        slots[hint].fill(cell);
+        slots.fill(hint, cell);
         return Ok(hint);
     }
-    let place = slots.len();
-    slots.push(Slot::new(cell))?;
+    let place = slots.push(Slot::new(cell))?;
     Ok(place)
 }
 
 // Takes a cell out of its slot, so many after the first. No slot comes or goes.
-pub(crate) fn clear_slot(slots: &mut [Slot], cell: &Corners, hint: usize, number: usize)
+pub(crate) fn clear_slot(slots: &mut Slots, cell: &Corners, hint: usize, number: usize)
     requires { IsIn cell.now (cells_of_slots slots.old) }
     ensures taken { IsWithout (cells_of_slots slots.old) cell.now (cells_of_slots slots.new) }
     ensures size { length slots.new ≡ length slots.old }
 {
     let place = place_of(slots, cell, hint);
     if place < slots.len() {
-        slots[place].clear(number);
+        slots.clear(place, short(number));
     }
 }
 
 // Whether the slot has no cell.
-fn has_none(slots: &[Slot], i: usize) -> bool
+fn has_none(slots: &Slots, i: usize) -> bool
     ensures { IsTrue result ↔ (slot_at slots.now i ≡ None) }
 {
     match cell_at(slots, i) {
@@ -256,7 +243,7 @@ fn has_none(slots: &[Slot], i: usize) -> bool
 }
 
 // A free slot, which is likely to be the hint. There is to be one.
-fn free_slot(slots: &[Slot], hint: usize) -> usize
+fn free_slot(slots: &Slots, hint: usize) -> usize
     requires { HaveRoom slots.now 1 }
     ensures { (result < length slots.now) × (slot_at slots.now result ≡ None) }
 {
@@ -272,34 +259,34 @@ fn free_slot(slots: &[Slot], hint: usize) -> usize
 }
 
 // Puts a cell into a free slot, which is likely to be the hint, and answers which that was. No slot comes or goes.
-pub(crate) fn fill_slot(slots: &mut [Slot], cell: &Corners, hint: usize) -> usize
+pub(crate) fn fill_slot(slots: &mut Slots, cell: &Corners, hint: usize) -> usize
     requires { HaveRoom slots.old 1 }
     ensures with_cell { AreWith (cells_of_slots slots.old) cell.now (cells_of_slots slots.new) }
     ensures size { length slots.new ≡ length slots.old }
     ensures count { length (cells_of_slots slots.new) ≡ length (cells_of_slots slots.old) + 1 }
 {
     let place = free_slot(slots, hint);
-    slots[place].fill(cell);
+    slots.fill(place, cell);
     place
 }
 
-// Puts a free slot behind all.
-pub(crate) fn push_free(slots: &mut Vec<Slot>) -> Result<(), AllocError>
-    ensures cells { cells_of_slots slots.new.items ≡ cells_of_slots slots.old.items }
-    ensures less { length slots.old.items ≤ length slots.new.items }
-    ensures size { OnOk result (length slots.new.items ≡ length slots.old.items + 1) }
+// Puts a free slot behind the list.
+pub(crate) fn push_free(slots: &mut Slots) -> Result<(), AllocError>
+    ensures cells { cells_of_slots slots.new ≡ cells_of_slots slots.old }
+    ensures less { length slots.old ≤ length slots.new }
+    ensures size { OnOk result (length slots.new ≡ length slots.old + 1) }
 {
     slots.push(Slot::free())?;
     Ok(())
 }
 
-// Puts the cell of a slot, if it has one, behind the cells.
-pub(crate) fn push_slot(cells: &mut Vec<Cell>, slot: &Slot) -> Result<(), AllocError>
-    ensures { OnOk result (cells.new.items ≡ cells.old.items ++ cells_of_slots (slot.now ∷ [])) }
+// Puts a cell, if there is one, behind the cells.
+pub(crate) fn push_cell(cells: &mut Vec<Cell>, cell: Option<Corners>) -> Result<(), AllocError>
+    ensures { OnOk result (cells.new.items ≡ cells.old.items ++ cells_of_slots (cell ∷ [])) }
 {
-    match slot.cell() {
+    match cell {
         Some(cell) => {
-            cells.push(cell)?;
+            cells.push(cell.to_cell())?;
             Ok(())
         }
         None => Ok(()),
@@ -321,14 +308,36 @@ fn move_slot(slots: &mut Vec<Slot>, packed: &mut Vec<Packed>, slot: Slot) -> Res
     Ok(())
 }
 
-// What stands in slots, without what is likely of it. The last go first, and their room is given back before all are
-// packed, so that both lists never stand in memory whole.
-pub(crate) fn packed_of(alloc: Global, mut slots: Vec<Slot>) -> Result<Vec<Packed>, AllocError>
-    ensures { IfOk result (λ packed. AreMoved (cells_of_slots slots.items) (cells_of_slots packed.items)) }
+// Puts what stands in slots behind others. The last go first, and their room is given back before all are packed, so
+// that both lists never stand in memory whole.
+fn move_all(mut slots: Vec<Slot>, packed: &mut Vec<Packed>) -> Result<(), AllocError>
+    ensures { OnOk result (AreMoved (cells_of_slots slots.items ++ cells_of_slots packed.old.items)
+        (cells_of_slots packed.new.items)) }
+{
+    while let Some(slot) = slots.pop() {
+        move_slot(&mut slots, packed, slot)?;
+    }
+    Ok(())
+}
+
+// So those of pages.
+fn move_pages(mut pages: Vec<Page>, packed: &mut Vec<Packed>) -> Result<(), AllocError>
+    ensures { OnOk result (AreMoved (cells_of_slots (slots_of pages.items) ++ cells_of_slots packed.old.items)
+        (cells_of_slots packed.new.items)) }
+{
+    while let Some(page) = pages.pop() {
+        move_all(page.into_slots(), packed)?;
+    }
+    Ok(())
+}
+
+// What stands in slots, without what is likely of it.
+pub(crate) fn packed_of(alloc: Global, slots: Slots) -> Result<Vec<Packed>, AllocError>
+    ensures { IfOk result (λ packed. AreMoved (cells_of_slots slots) (cells_of_slots packed.items)) }
 {
     let mut packed = Vec::with_capacity(alloc, slots.len())?;
-    while let Some(slot) = slots.pop() {
-        move_slot(&mut slots, &mut packed, slot)?;
-    }
+    let (list, pages) = slots.into_parts();
+    move_pages(pages, &mut packed)?;
+    move_all(list, &mut packed)?;
     Ok(packed)
 }

@@ -4,7 +4,7 @@ ghost use Rattle.std.specs.Prelude.{◌≡◌, ◌↔◌, ◌∷◌, [], IfOk, I
 ghost use Rattle.point_order.specs.Sets.{IsIn};
 ghost use Rattle.cloud_cells.specs.Parts.{AreOthers};
 
-use crate::curve::turn_of;
+use crate::tree::Tree;
 use point_order::Point;
 use std::alloc::{AllocError, Global};
 use std::marker::Model;
@@ -30,6 +30,38 @@ impl Turn {
         ensures { result ≡ self.now }
     {
         self.point
+    }
+
+    // The block of it, where there are some.
+    pub(crate) fn block(&self) -> usize {
+        (self.number >> 48) as usize & 1023
+    }
+
+    // How often it was tried.
+    fn times(&self) -> u64 {
+        (self.number >> 42) & 63
+    }
+
+    // The level of it.
+    pub(crate) fn level(&self) -> u64 {
+        self.number >> 58
+    }
+
+    // Whether it is put in by one thread, so that others have smaller holes: a quarter of those tried three times are.
+    pub(crate) fn is_sown(&self) -> bool {
+        let drawn = self.point.key().wrapping_mul(0x9E3779B97F4A7C15) >> 40;
+        self.times() > 2 && drawn.wrapping_add(self.times()) % 4 == 0
+    }
+
+    // The same, tried once more.
+    pub(crate) fn tried(&self) -> Turn
+        ensures { result ≡ self.now }
+    {
+        let more = if self.times() < 63 { 1u64 << 42 } else { 0 };
+        Turn {
+            number: self.number.wrapping_add(more),
+            point: self.point,
+        }
     }
 
     // The same once more.
@@ -58,6 +90,7 @@ pub(crate) fn turns_of(
     b: Point,
     c: Point,
     d: Point,
+    tree: &Tree,
 ) -> Result<Vec<Turn>, AllocError>
     ensures { IfOk result (λ turns. AreOthers (a ∷ b ∷ c ∷ d ∷ []) points.now turns.items) }
 {
@@ -66,7 +99,7 @@ pub(crate) fn turns_of(
         if !is_of_four(a, b, c, d, *p) {
             let _ = p.key();
             turns.push(Turn {
-                number: turn_of(*p),
+                number: tree.turn_of(*p),
                 point: *p,
             })?;
         }

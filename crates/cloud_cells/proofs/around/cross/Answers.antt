@@ -1,5 +1,5 @@
 use Rattle.std.specs.Prelude.{◌≡◌, ◌∷◌, []}
-use Rattle.std.proofs.Common.{inl, inr, sym, ◌∙◌, subst, List, arith}
+use Rattle.std.proofs.Common.{inl, inr, sym, ◌∙◌, subst, List}
 use Rattle.list_laws.proofs.Cited.{among_from, among_true, in_snoc, not_both}
 use Rattle.point_order.specs.declared.cell.Cell.{Cell}
 use Rattle.point_order.specs.Facets.{points_on}

@@ -1,5 +1,5 @@
 use Rattle.std.specs.Prelude.{◌≡◌, slice_index_or}
-use Rattle.std.proofs.Common.{refl, inl, inr, sym, ◌∙◌, ap, subst, List, ◌<◌, ◌≤◌, ◌++◌, length, [], ◌∷◌, arith}
+use Rattle.std.proofs.Common.{refl, inl, inr, sym, ◌∙◌, ap, subst, List, ◌<◌, ◌++◌, length, [], ◌∷◌, arith}
 use Rattle.list_laws.proofs.Cited.{at_place, in_left, one_value}
 use Rattle.point_order.specs.declared.cell.Cell.{Cell}
 use Rattle.point_order.specs.Facets.{points_of}

@@ -4,12 +4,14 @@ use Rattle.cloud_cells.specs.Nets.{AreMoved}
 use Rattle.cloud_cells.proofs.Beside.{come_over}
 use Rattle.cloud_cells.proofs.groups.deal_points.Goals as goal
 
-pub deal_point-requires : goal.deal_point-requires
-deal_point-requires c =
-    let a = c.group_of-g.ensures in
+pub number_in-g-requires : goal.number_in-g-requires
+number_in-g-requires c =
     let b = c.requires in
     let d = c.loop-turn.invariant.2 in
-    omega (arith, a, b, d)
+    rw c.deref.ensures.value (omega (arith, b, d))
+
+pub deal_point-requires : goal.deal_point-requires
+deal_point-requires c = rw c.deref.ensures.value at c.number_in-g.ensures
 
 pub loop-turn-preserved : goal.loop-turn-preserved
 loop-turn-preserved c =

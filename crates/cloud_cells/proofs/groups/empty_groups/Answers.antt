@@ -6,15 +6,17 @@ use Rattle.cloud_cells.proofs.Beside.{flat_behind}
 use Rattle.cloud_cells.proofs.groups.empty_groups.Goals as goal
 
 pub fill-init : goal.fill-init
-fill-init c = rw c.new-groups.ensures.items (refl, refl)
+fill-init c = rw c.new-groups.ensures.items (refl, refl, refl)
 
 pub fill-preserved : goal.fill-preserved
 fill-preserved c =
-    let g = c.new.result in
+    let g = c.in_ok-group.group in
     let l = c.fill.groups.items in
+    let i = c.fill.invariant in
     rw c.in_ok-push.ensures.items (
-      flat_behind (λ (x : Group). cells_of_slots x.net) l g ∙ ap (λ (v : List Cell). v ++ cells_of_slots g.net)
-          c.fill.invariant.0 ∙ ap cells_of_slots c.new.ensures.cells,
-      flat_behind (λ (x : Group). x.waiting.items) l g ∙ ap (λ (v : List ℕ). v ++ g.waiting.items)
-          c.fill.invariant.1 ∙ c.new.ensures.points,
+      c.of.ensures.net ∙ i.0,
+      flat_behind (λ (x : Group). cells_of_slots x.net) l g ∙ ap (λ (v : List Cell). v ++ cells_of_slots g.net) i.1
+          ∙ ap cells_of_slots c.in_ok-group.ensures.cells,
+      flat_behind (λ (x : Group). x.waiting.items) l g ∙ ap (λ (v : List ℕ). v ++ g.waiting.items) i.2
+          ∙ c.in_ok-group.ensures.points,
     )

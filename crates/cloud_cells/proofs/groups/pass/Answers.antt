@@ -31,11 +31,11 @@ returns g c =
     (c.work_all.auto.groups ∙ c.deref_mut.ensures.len) in
     let cells : AreMoved (cells_of_groups done) new =
     subst (λ (n : List (Option Cell)). AreMoved (cells_of_slots n ++ cells_of_groups done) new) before.net
-    (subst (λ (l : List Group). AreMoved (cells_of_slots c.deal.new.net ++ cells_of_groups l) new) back
+    (subst (λ (l : List Group). AreMoved (cells_of_slots c.deal_all.new.net ++ cells_of_groups l) new) back
     c.in_ok-gather.ensures.cells) in
     let points : AreMoved (points_of_groups done) left =
     subst (λ (n : List ℕ). AreMoved (n ++ points_of_groups done) left) before.waiting
-    (subst (λ (l : List Group). AreMoved (c.deal.new.waiting.items ++ points_of_groups l) left) back
+    (subst (λ (l : List Group). AreMoved (c.deal_all.new.waiting.items ++ points_of_groups l) left) back
     c.in_ok-gather.ensures.points) in
     put_moved (points_of_groups dealt) c.args.waiting.now.items (points_of_groups done) left (cells_of_groups dealt)
     (cells_of_slots c.args.net.now) (cells_of_groups done) new before.points points before.cells cells put

@@ -1,6 +1,5 @@
 use denote.Param.Send.{sendable}
 use Rattle.std.proofs.Crossing.{crosses, sync as heap_sync}
-use Rattle.cloud_cells.proofs.cuts.Moves.TheSendSync.{the_sync as moves_sync}
 use Rattle.cloud_cells.proofs.groups.Group.TheSendSync.{the_send as group_send}
 use Rattle.std.proofs.Common.{◌≡◌, ◌∙◌, ◌<◌, false, subst, sym, length}
 use Rattle.list_laws.proofs.Cited.{at_place, within_list}
@@ -14,7 +13,7 @@ pub par_for_each_mut-requires : goal.par_for_each_mut-requires
 par_for_each_mut-requires g c k = (
   search (sendable, group_send) depth 20,
   (
-    search (sendable, crosses, heap_sync, moves_sync) depth 20,
+    search (sendable, crosses, heap_sync) depth 20,
     (
       search sendable depth 20,
       λ i p l e. room_at (λ (x : Group). x.waiting.items) (λ (x : Group). cells_of_slots x.net) c.args.groups.now i

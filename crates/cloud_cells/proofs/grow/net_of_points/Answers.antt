@@ -30,7 +30,7 @@ returns c =
     let left = c.in_ok-put_points.field-0.items in
     let done : ArePut turns left old new = rw c.deref-2.ensures.value at c.in_ok-put_points.ensures.put in
     let all : ArePut turns [] old new = subst (λ (l : List ℕ). ArePut turns l old new)
-    (c.in_ok-put_points.ensures.all refl) done in
+    (c.in_ok-put_points.ensures.all refl refl) done in
     grown_set c.args.points.now turns four new c.requires.ascending c.in_ok-turns.ensures c.four_of-a.ensures.among
     (put_whole four turns [] old new all begun
     (others_new c.args.points.now turns four c.requires.ascending c.in_ok-turns.ensures))

@@ -25,7 +25,7 @@ returns-clause-put c =
     let old = cells_of_slots c.args.net.now in
     let new = cells_of_slots c.insert.new.net in (
       c.args.turn.now ∷ [],
-      rw c.copied.ensures at c.in_ok-push.ensures.items,
+      rw c.tried.ensures at c.in_ok-push.ensures.items,
       put_none (c.args.turn.now ∷ []) old new
           (subst (λ (n : List (Option Cell)). AreMoved old (cells_of_slots n))
           (sym (MatchBool-at_false _ _ c.if-is_put.false c.in_ok-is_put.ensures).1) (moved_none old)),

@@ -1,17 +1,22 @@
-use Rattle.std.proofs.Common.{subst, List, Option, ◌++◌}
+use Rattle.std.proofs.Common.{◌∙◌, ◌++◌, ap, append-nil, subst, sym, List, Option}
 use Rattle.point_order.specs.declared.cell.Cell.{Cell}
 use Rattle.cloud_cells.specs.Nets.{AreMoved, cells_of_slots}
-use Rattle.cloud_cells.proofs.Marks.{move_one, none_moved}
+use Rattle.cloud_cells.specs.Pages.{slots_of}
+use Rattle.cloud_cells.proofs.Moving.{moved_last, moved_on}
+use Rattle.cloud_cells.proofs.Nets.{live_append}
 use Rattle.cloud_cells.proofs.slots.packed_of.Goals as goal
 
-pub loop-slot-init : goal.loop-slot-init
-loop-slot-init c = rw c.in_ok-packed.ensures.items (none_moved c.args.slots.items)
-
-pub loop-slot-preserved : goal.loop-slot-preserved
-loop-slot-preserved c =
-    let packed = c.loop-slot.packed.items in
-    rw (c.in_ok-move_slot.ensures.slots, c.in_ok-move_slot.ensures.packed)
-    (move_one (cells_of_slots c.args.slots.items) c.pop.new.self.items packed c.in-Some.slot
-    (subst (λ (v : List (Option Cell)). AreMoved (cells_of_slots c.args.slots.items)
-    (cells_of_slots v ++ cells_of_slots packed))
-    c.in-Some.ensures.items c.loop-slot.invariant))
+pub returns : goal.returns
+returns c =
+    let list = c.into_parts-list.result.0.items in
+    let pages = slots_of c.into_parts-list.result.1.items in
+    let mid = cells_of_slots c.move_pages.new.packed.items in
+    let new = cells_of_slots c.move_all.new.packed.items in
+    let first : AreMoved (cells_of_slots pages) mid =
+    subst (λ (v : List Cell). AreMoved v mid)
+    (ap (λ (v : List (Option Cell)). cells_of_slots pages ++ cells_of_slots v) c.in_ok-packed.ensures.items
+    ∙ append-nil (cells_of_slots pages)) c.in_ok-move_pages.ensures in
+    subst (λ (v : List Cell). AreMoved v new) (sym (ap cells_of_slots c.into_parts-list.ensures
+    ∙ live_append list pages))
+    (moved_on (cells_of_slots list ++ cells_of_slots pages) (cells_of_slots list ++ mid) new
+    (moved_last (cells_of_slots list) (cells_of_slots pages) mid first) c.in_ok-move_all.ensures)

@@ -44,4 +44,4 @@ returns g c =
     let done : ArePut waiting c.in_ok-put_points.field-0.items mid new =
     rw c.deref.ensures.value at c.in_ok-put_points.ensures.put in
     put_left turns waiting [] old mid new first
-    (subst (λ (l : List ℕ). ArePut waiting l mid new) (c.in_ok-put_points.ensures.all refl) done)
+    (subst (λ (l : List ℕ). ArePut waiting l mid new) (c.in_ok-put_points.ensures.all refl refl) done)

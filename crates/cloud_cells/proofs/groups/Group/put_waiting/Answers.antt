@@ -1,5 +1,4 @@
 use Rattle.cloud_cells.proofs.groups.Group.put_waiting.Goals as goal
 
 pub put_points-requires : goal.put_points-requires
-put_points-requires c =
-    rw (c.deref.ensures.value, c.in_ok-relink_all.ensures.points, c.in_ok-relink_all.ensures.cells) c.requires
+put_points-requires c = rw c.deref.ensures.value c.requires

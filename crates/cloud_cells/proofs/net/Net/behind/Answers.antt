@@ -1,4 +1,4 @@
-use Rattle.std.proofs.Common.{◌++◌, List, subst, sym, ◌∙◌}
+use Rattle.std.proofs.Common.{◌++◌, List, subst, sym}
 use Rattle.std.specs.declared.option.Option.{Option}
 use Rattle.point_order.specs.declared.cell.Cell.{Cell}
 use Rattle.hole_laws.specs.Others.{IsOtherOf}
@@ -29,7 +29,7 @@ other_across-door-requires c =
     let h = subst (λ (q : Cell). HasOtherIn (cells_of_slots c.args.self.now ++ c.args.gone.now) q c.args.facet.now)
     (sym c.cell-cell.ensures) c.requires in
     subst (λ (l : List (Option Cell)). HasOtherIn (cells_of_slots l) cell c.args.facet.now)
-    (sym c.self.view_is ∙ sym c.deref.ensures.value)
+    (sym c.self.view_is)
     (other_kept (cells_of_slots c.args.self.now) c.args.gone.now cell c.args.facet.now h c.in-None.ensures)
 
 pub returns-in-None : goal.returns-in-None
@@ -38,7 +38,7 @@ returns-in-None c =
     let f = c.args.facet.now in
     let x = c.cell_in-in-None.result in
     let o = subst (λ (n : List (Option Cell)). IsOtherAt n c.cell-cell.result.now f c.other_across-door.result.place)
-    (c.deref.ensures.value ∙ c.self.view_is) c.other_across-door.ensures in
+    c.self.view_is c.other_across-door.ensures in
     other_left l c.args.gone.now c.args.spot.now f x
     (subst (λ (q : Cell). IsOtherOf l q f x) c.cell-cell.ensures
     (other_there c.args.self.now c.cell-cell.result.now f c.other_across-door.result.place x o

@@ -1,12 +1,11 @@
--- what is left and what is packed are the cells of all slots
 use Rattle.std.proofs.Common.{◌++◌, length}
 use Rattle.cloud_cells.specs.Nets.{AreMoved, cells_of_slots}
-use Rattle.cloud_cells.proofs.slots.packed_of.Given as goal
+use Rattle.cloud_cells.proofs.slots.move_all.Given as goal
 
 abbrev pub invariant-loop-slot : goal.invariant-loop-slot
-invariant-loop-slot l = AreMoved (cells_of_slots l.initial.slots.items)
+invariant-loop-slot l =
+    AreMoved (cells_of_slots l.initial.slots.items ++ cells_of_slots l.initial.packed.items)
     (cells_of_slots l.slots.items ++ cells_of_slots l.packed.items)
 
--- one slot fewer is left each time
 abbrev pub decreases-loop-slot : goal.decreases-loop-slot
 decreases-loop-slot l = length l.slots.items

@@ -1,24 +1,24 @@
-use Rattle.std.proofs.Common.{◌≡◌, ◌∙◌, ◌++◌, ◌∷◌, [], ap, subst, sym, List}
+use Rattle.std.proofs.Common.{◌≡◌, ◌∙◌, ◌++◌, ap, subst, sym, List}
 use Rattle.point_order.specs.declared.cell.Cell.{Cell}
 use Rattle.cloud_cells.specs.Nets.{AreMoved, cells_of_slots}
 use Rattle.cloud_cells.specs.declared.groups.Group.{Group}
 use Rattle.cloud_cells.proofs.Beside.{flat_more, flat_same}
 use Rattle.cloud_cells.proofs.Moving.{moved_none}
 use Rattle.cloud_cells.proofs.Nets.{live_append}
-use Rattle.cloud_cells.proofs.groups.deal_slot.Goals as goal
+use Rattle.cloud_cells.proofs.groups.deal_page.Goals as goal
 
 pub returns-clause-cells : goal.returns-clause-cells
 returns-clause-cells c =
     let o = c.index_mut.result.now in
-    let slot = c.args.slot ∷ [] in
-    let e : cells_of_slots c.take_in.new.self.net ≡ cells_of_slots o.net ++ cells_of_slots slot =
-    ap cells_of_slots c.in_ok-place.ensures.cells ∙ live_append o.net slot in
+    let page = c.args.page in
+    let e : cells_of_slots c.take_in.new.self.net ≡ cells_of_slots o.net ++ cells_of_slots page =
+    ap cells_of_slots c.in_ok-take_in.ensures.cells ∙ live_append o.net page in
     flat_more (λ (x : Group). cells_of_slots x.net) c.args.groups.now.items c.args.g o c.take_in.new.self
-    (cells_of_slots slot) c.requires c.index_mut.ensures.value
-    (subst (λ (v : List Cell). AreMoved (cells_of_slots o.net ++ cells_of_slots slot) v) (sym e)
-    (moved_none (cells_of_slots o.net ++ cells_of_slots slot)))
+    (cells_of_slots page) c.requires.group c.index_mut.ensures.value
+    (subst (λ (v : List Cell). AreMoved (cells_of_slots o.net ++ cells_of_slots page) v) (sym e)
+    (moved_none (cells_of_slots o.net ++ cells_of_slots page)))
 
 pub returns-clause-points : goal.returns-clause-points
 returns-clause-points c =
     flat_same (λ (x : Group). x.waiting.items) c.args.groups.now.items c.args.g c.index_mut.result.now
-    c.take_in.new.self c.requires c.index_mut.ensures.value c.in_ok-place.ensures.points
+    c.take_in.new.self c.requires.group c.index_mut.ensures.value c.in_ok-take_in.ensures.points
