@@ -6,3 +6,4 @@ pub use Rattle.cell_stars.proofs.Least.{live_at}
 pub use Rattle.cell_stars.proofs.PartLaws.{in_own, keys_apart}
 pub use Rattle.cell_stars.proofs.Turned.{turn_is_one, turn_leads_back}
 pub use Rattle.cell_stars.proofs.KeyLaws.{same_or_not}
+pub use Rattle.cell_stars.proofs.WriteLaws.{filter_next}

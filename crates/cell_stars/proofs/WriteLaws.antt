@@ -1,9 +1,10 @@
 -- The stars after an exchange.
 use Rattle.std.specs.Prelude.{◌≡◌, ℕ, ◌+◌, ◌%◌, ◌<◌, ◌≤◌, Bool, true, false, not, List, [], ◌∷◌, ◌++◌, ◌⊎◌, length, map}
-use Rattle.std.specs.Prelude.{slice_index, slice_index_or, MatchBool, ◌==◌}
+use Rattle.std.specs.Prelude.{slice_index, slice_index_or, MatchBool, cond, ◌==◌}
 use Rattle.std.specs.List.{filter}
 use Rattle.std.proofs.Common.{refl, sym, ◌∙◌, ap, subst, inl, inr, arith, take}
-use Rattle.std.proofs.lemmas.List.{map-append, take_all}
+use Rattle.std.proofs.lemmas.List.{append-nil, map-append}
+use Rattle.std.proofs.lemmas.List.Elements.{filter-append}
 use Rattle.list_laws.proofs.Cited.{Gathered, below_each, filtered_from, filtered_true, gather_all, gather_step}
 use Rattle.list_laws.proofs.Cited.{in_pushed, mapped_from, mapped_true, same_from, take_next}
 use Rattle.point_order.specs.declared.cell.Cell.{Cell}
@@ -145,6 +146,14 @@ IsHeld b least t =
     IsOwnNumber b t.1 t.0
     ⊎ ((t.0 < least) × IsSpare b.stars t.0 × ((i : ℕ) → IsStarred b.keys b.stars t.1 i → ⊥))
 
+-- of one more element what passes is what passed before, and it if it passes
+pub filter_next : {X : Type 0} (test : X → Bool) (xs : List X) (n : ℕ) (x : X) (t : Bool) → n < length xs →
+    x ≡ slice_index_or xs n x → test x ≡ t →
+    filter test (take (n + 1) xs) ≡ filter test (take n xs) ++ cond t (x ∷ []) []
+filter_next test xs n x t h e q =
+    ap (filter test) (take_next xs n x h e) ∙ filter-append test (take n xs) (x ∷ [])
+    ∙ ap (λ r. filter test (take n xs) ++ cond r (x ∷ []) []) q
+
 -- the numbers of the vertices so far
 pub record NumberedSoFar (b : Placed) (ps : List ℕ) (least : ℕ) (turns : List (ℕ × ℕ)) : Type 0 where
   pub vertices : map (λ t. t.1) turns ≡ ps
@@ -152,8 +161,8 @@ pub record NumberedSoFar (b : Placed) (ps : List ℕ) (least : ℕ) (turns : Lis
   pub apart : (n p q : ℕ) → IsIn (n, p) turns → IsIn (n, q) turns → p ≡ q
 
 -- of none
-pub numbered_none : (b : Placed) (ps : List ℕ) (turns : List (ℕ × ℕ)) → turns ≡ [] → NumberedSoFar b (take 0 ps) 0 turns
-numbered_none b ps turns e = record {
+pub numbered_none : (b : Placed) (turns : List (ℕ × ℕ)) → turns ≡ [] → NumberedSoFar b [] 0 turns
+numbered_none b turns e = record {
   vertices = ap (map (λ (t : ℕ × ℕ). t.1)) e;
   each = λ n p i. absurd (subst (λ (l : List (ℕ × ℕ)). IsIn (n, p) l) e i);
   apart = λ n p q i j. absurd (subst (λ (l : List (ℕ × ℕ)). IsIn (n, p) l) e i);
@@ -161,12 +170,13 @@ numbered_none b ps turns e = record {
 
 -- with one more
 pub numbered_more : (b : Placed) (ps : List ℕ) (k p least more : ℕ) (turns new : List (ℕ × ℕ)) → k < length ps →
-    p ≡ slice_index_or ps k p → IsTurnAdded b p least more turns new → NumberedSoFar b (take k ps) least turns →
-    NumberedSoFar b (take (k + 1) ps) more new
-numbered_more b ps k p least more turns new h e a s = record {
+    p ≡ slice_index_or ps k p → lies_in b.place p ≡ true → IsTurnAdded b p least more turns new →
+    NumberedSoFar b (filter (lies_in b.place) (take k ps)) least turns →
+    NumberedSoFar b (filter (lies_in b.place) (take (k + 1) ps)) more new
+numbered_more b ps k p least more turns new h e t a s = record {
   vertices =
       ap (map (λ (t : ℕ × ℕ). t.1)) a.added ∙ map-append (λ (t : ℕ × ℕ). t.1) turns ((a.number, p) ∷ [])
-      ∙ ap (λ (l : List ℕ). l ++ p ∷ []) s.vertices ∙ sym (take_next ps k p h e);
+      ∙ ap (λ (l : List ℕ). l ++ p ∷ []) s.vertices ∙ sym (filter_next (lies_in b.place) ps k p true h e t);
   each = λ n q i. elim (in_pushed turns new (a.number, p) (n, q) a.added i) [
     | inl j ↦ elim (s.each n q j) [
       | inl o ↦ inl o
@@ -201,25 +211,27 @@ numbered_more b ps k p least more turns new h e a s = record {
       ]
     ]
 
+-- with one more that lies elsewhere
+pub numbered_same : (b : Placed) (ps : List ℕ) (k p least : ℕ) (turns : List (ℕ × ℕ)) → k < length ps →
+    p ≡ slice_index_or ps k p → lies_in b.place p ≡ false →
+    NumberedSoFar b (filter (lies_in b.place) (take k ps)) least turns →
+    NumberedSoFar b (filter (lies_in b.place) (take (k + 1) ps)) least turns
+numbered_same b ps k p least turns h e t s = subst (λ (l : List ℕ). NumberedSoFar b l least turns)
+    (sym (filter_next (lies_in b.place) ps k p false h e t ∙ append-nil (filter (lies_in b.place) (take k ps)))) s
+
 -- of all
-pub numbered_all : (b : Placed) (ps : List ℕ) (n least : ℕ) (turns : List (ℕ × ℕ)) → IsAscending ps → length ps ≤ n →
-    NumberedSoFar b (take n ps) least turns → AreTurnsFor b ps turns × (map (λ t. t.1) turns ≡ ps)
-numbered_all b ps n least turns a h s = (
-  record {
-    each = λ k p i. subst (λ (l : List ℕ). IsIn p l) same (mapped_true (λ t. t.1) (k, p) turns i);
-    all = λ p i. (
-        let r = mapped_from (λ t. t.1) p turns (subst (λ (l : List ℕ). IsIn p l) (sym same) i) in
-        (r.0.0, subst (λ (q : ℕ). IsIn (r.0.0, q) turns) r.2 r.1));
-    apart = s.apart;
-    single = λ k j p i o. one_turn turns k j p (subst IsAscending (sym same) a) i o;
-    vacant = λ k p q x i f g. elim (s.each k p i) [ inl o ↦ sym f ∙ o.owned | inr r ↦ absurd (r.1 x g) ];
-    held = λ k p i. elim (s.each k p i) [ inl o ↦ inl o | inr r ↦ inr (r.1, r.2) ];
-  },
-  same,
-)
-  where
-    same : map (λ t. t.1) turns ≡ ps
-    same = s.vertices ∙ take_all n ps h
+pub numbered_all : (b : Placed) (ps : List ℕ) (least : ℕ) (turns : List (ℕ × ℕ)) → IsAscending ps →
+    NumberedSoFar b ps least turns → AreTurnsFor b ps turns
+numbered_all b ps least turns a s = record {
+  each = λ k p i. subst (λ (l : List ℕ). IsIn p l) s.vertices (mapped_true (λ t. t.1) (k, p) turns i);
+  all = λ p i. (
+      let r = mapped_from (λ t. t.1) p turns (subst (λ (l : List ℕ). IsIn p l) (sym s.vertices) i) in
+      (r.0.0, subst (λ (q : ℕ). IsIn (r.0.0, q) turns) r.2 r.1));
+  apart = s.apart;
+  single = λ k j p i o. one_turn turns k j p (subst IsAscending (sym s.vertices) a) i o;
+  vacant = λ k p q x i f g. elim (s.each k p i) [ inl o ↦ sym f ∙ o.owned | inr r ↦ absurd (r.1 x g) ];
+  held = λ k p i. elim (s.each k p i) [ inl o ↦ inl o | inr r ↦ inr (r.1, r.2) ];
+}
 
 -- the star with the number of a vertex has the places of that
 pub held_places : (b : Placed) (p n : ℕ) (items : List ℕ) → AreFiled b.keys →

@@ -167,23 +167,28 @@ impl Joined {
         }
     }
 
-    // Matches a facet of a cell that comes with the one that was met before.
-    fn join(&mut self, table: &mut Table, facet: u32, cell: u32, side: u8) {
-        if let Some(met) = table.meet(Met::new(facet, cell, side, false)) {
-            self.set(cell, side, Beside::Fresh(met.cell()));
-            self.set(met.cell(), met.side(), Beside::Fresh(cell));
+    // What lies across a facet of a cell that comes, if that was met before: which is told of it then too.
+    fn join(&mut self, table: &mut Table, facet: u32, cell: u32, side: u8) -> Beside {
+        match table.meet(Met::new(facet, cell, side, false)) {
+            Some(met) => {
+                self.set(met.cell(), met.side(), Beside::Fresh(cell));
+                Beside::Fresh(met.cell())
+            }
+            None => Beside::Nothing,
         }
     }
 
     // Adds a cell that comes.
     fn add(&mut self, table: &mut Table, facets: [u32; 4]) -> Result<(), AllocError> {
         let cell = u32::try_from(self.sides.len()).unwrap_or(NONE);
-        self.sides.push([Beside::Nothing; 4])?;
         let [a, b, c, d] = facets;
-        self.join(table, a, cell, 0);
-        self.join(table, b, cell, 1);
-        self.join(table, c, cell, 2);
-        self.join(table, d, cell, 3);
+        let sides = [
+            self.join(table, a, cell, 0),
+            self.join(table, b, cell, 1),
+            self.join(table, c, cell, 2),
+            self.join(table, d, cell, 3),
+        ];
+        self.sides.push(sides)?;
         Ok(())
     }
 

@@ -3,7 +3,7 @@
 ghost use Rattle.std.specs.Prelude.{◌≡◌, OnOk};
 
 use crate::guesses::links_at;
-use crate::joined::{Beside, Joined};
+use crate::joined::{Beside, Joined, Side};
 use crate::links::{Links, NONE};
 use crate::moves::Moves;
 use crate::slots::Slot;
@@ -115,40 +115,34 @@ impl Joins<'_> {
     }
 
     // The place across a side of the cell that is put at the place.
+    #[inline]
     fn across(&self, rim: &mut Vec<Joint>, place: u32, beside: Beside) -> Result<u32, AllocError> {
         match beside {
             Beside::Nothing => Ok(NONE),
             Beside::Fresh(other) => Ok(self.place_of(other)),
-            Beside::Behind(behind) => {
-                let freed = number_at(&self.moves.gone.places, behind.cell);
-                let outside = links_at(self.slots, freed).across(usize::from(behind.side));
-                self.add_rim(rim, freed, outside, place)?;
-                Ok(outside)
-            }
+            Beside::Behind(side) => self.behind(rim, place, side),
         }
     }
 
-    // Links the cell outside, which was linked with the freed place, with the one that is put.
-    fn add_rim(
-        &self,
-        rim: &mut Vec<Joint>,
-        freed: u32,
-        outside: u32,
-        other: u32,
-    ) -> Result<(), AllocError> {
+    // The place that lay across a side of a cell that goes: its cell is to be linked with the one that is put.
+    #[inline(never)]
+    fn behind(&self, rim: &mut Vec<Joint>, place: u32, side: Side) -> Result<u32, AllocError> {
+        let freed = number_at(&self.moves.gone.places, side.cell);
+        let outside = links_at(self.slots, freed).across(usize::from(side.side));
         if outside == NONE {
-            return Ok(());
+            return Ok(NONE);
         }
-        for (side, place) in links_at(self.slots, outside).around.iter().enumerate() {
-            if *place == freed {
+        for (side, other) in links_at(self.slots, outside).around.iter().enumerate() {
+            if *other == freed {
                 rim.push(Joint {
                     place: outside,
                     side,
-                    other,
+                    other: place,
                 })?;
+                break;
             }
         }
-        Ok(())
+        Ok(outside)
     }
 
     // Links the cell that is put at the place.

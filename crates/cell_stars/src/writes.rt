@@ -69,17 +69,6 @@ fn spare_behind(stars: &[Around], first: u32) -> Result<u32, AllocError>
 }
 
 impl Cells {
-    // Those of the vertices that lie in the bucket, where they are ascending.
-    fn vertices_here(&self, alloc: Global, vertices: &[Point]) -> Result<Vec<Point>, AllocError>
-        requires { IsAscending vertices.now }
-        ensures order { IfOk result (λ list. IsAscending list.items) }
-        ensures here { IfOk result (λ list. list.items ≡ filter (lies_in self.now.place) vertices.now) }
-    {
-        let mut list = Vec::from_slice(alloc, vertices)?;
-        list.retain(|p| self.has_here(*p));
-        Ok(list)
-    }
-
     // The number of the vertex's star, if it has one with places.
     fn number_of(&self, p: Point) -> Option<u32>
         ensures { MatchOption result ((i : ℕ) → IsStarred self.now.keys self.now.stars p i →
@@ -131,17 +120,21 @@ impl Cells {
         Ok(())
     }
 
-    // The numbers that the stars of the vertices have after an exchange.
+    // The numbers that the stars of those of the vertices that lie in the bucket have after an exchange.
     fn turns(&self, alloc: Global, vertices: &[Point]) -> Result<Vec<(u32, Point)>, AllocError>
         requires { IsAscending vertices.now }
-        ensures numbered { IfOk result (λ turns. AreTurnsFor self.now vertices.now turns.items) }
-        ensures vertices { IfOk result (λ turns. map (λ t. t.1) turns.items ≡ vertices.now) }
+        ensures numbered { IfOk result (λ turns. AreTurnsFor self.now
+            (filter (lies_in self.now.place) vertices.now) turns.items) }
+        ensures vertices { IfOk result (λ turns. map (λ t. t.1) turns.items
+            ≡ filter (lies_in self.now.place) vertices.now) }
     {
         let _ = &self.stars;
         let mut turns = Vec::with_capacity(alloc, vertices.len())?;
         let mut least = 0;
         for p in vertices {
-            self.add_turn(&mut turns, &mut least, *p)?;
+            if self.has_here(*p) {
+                self.add_turn(&mut turns, &mut least, *p)?;
+            }
         }
         Ok(turns)
     }
@@ -256,8 +249,7 @@ impl Cells {
         ensures { IfOk result (λ writes. IsRewriting self.now moves.now.freed.items moves.now.placed.items
             writes.items) }
     {
-        let vertices = self.vertices_here(alloc, vertices)?;
-        let turns = self.turns(alloc, &vertices)?;
+        let turns = self.turns(alloc, vertices)?;
         *loaded = self.loaded_stars(&turns);
         self.stars_after(alloc, &turns, moves)
     }
