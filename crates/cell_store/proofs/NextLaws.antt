@@ -4,6 +4,7 @@ use Rattle.std.specs.List.{filter}
 use Rattle.std.specs.Option.{option_map}
 use Rattle.std.proofs.Common.{refl, sym, ◌∙◌, ap, subst, inl, inr, arith}
 use Rattle.std.proofs.lemmas.Bool.{eqb-true}
+use Rattle.std.proofs.lemmas.List.{append-nil}
 use Rattle.std.proofs.lemmas.List.Elements.{filter-append}
 use Rattle.std.proofs.lemmas.List.Kept.{IsStrictlySortedBy-filter}
 use Rattle.list_laws.proofs.Cited.{filter_swap, filtered_ascending, filtered_from, filtered_true}
@@ -167,11 +168,7 @@ entries_after g b h e t = sym (filter-append (λ e. lies g b (point_of e.edit)) 
 pub entries_stay : (g b : ℕ) (h : List Entry) (e : Entry) → lies g b (point_of e.edit) ≡ false →
     entries_share g b h ≡ entries_share g b (h ++ e ∷ [])
 entries_stay g b h e t = sym (filter-append (λ e. lies g b (point_of e.edit)) h (e ∷ [])
-    ∙ ap (λ o. entries_share g b h ++ cond o (e ∷ []) []) t ∙ nil (entries_share g b h))
-  where
-    nil : (l : List Entry) → l ++ [] ≡ l
-    nil [] = refl
-    nil (x ∷ l) = ap (λ (m : List Entry). x ∷ m) (nil l)
+    ∙ ap (λ o. entries_share g b h ++ cond o (e ∷ []) []) t ∙ append-nil (entries_share g b h))
 
 -- ---- the laws
 

@@ -1,12 +1,12 @@
 -- What buckets get of a history at once.
 use Rattle.std.specs.Prelude.{◌≡◌, ℕ, zero, suc, ◌+◌, ◌*◌, ◌<◌, ◌≤◌, ◌==◌, ◌||◌, Bool, true, false, List, [], ◌∷◌, ◌++◌}
 use Rattle.std.specs.Prelude.{◌⊎◌, Option, None, Some, IsSome, length, map, replicate, slice_get, slice_index_or}
-use Rattle.std.specs.Prelude.{slice_set, if◌then◌else◌}
+use Rattle.std.specs.Prelude.{slice_set}
 use Rattle.std.specs.List.{filter, list_any}
 use Rattle.std.specs.List.Sorted.{IsStrictlySortedBy}
 use Rattle.std.proofs.Common.{Vec, Global, refl, sym, ◌∙◌, ap, subst, inl, inr, arith, take}
-use Rattle.std.proofs.lemmas.List.{get_or-set_same, get_or-set_other, length-append, length-map, map-append, take_all}
-use Rattle.std.proofs.lemmas.List.Elements.{filter-append}
+use Rattle.std.proofs.lemmas.List.{append-nil, get_or-set_same, get_or-set_other, length-append, length-map, map-append}
+use Rattle.std.proofs.lemmas.List.{take_all}
 use Rattle.std.proofs.lemmas.List.Folds.{list_any_more}
 use Rattle.std.proofs.lemmas.List.Kept.{IsStrictlySortedBy-filter}
 use Rattle.list_laws.proofs.Cited.{len_set, map_set, filtered_ascending, filtered_from, in_pushed, is_there, same_from}
@@ -31,7 +31,7 @@ use Rattle.cell_store.specs.Wholes.{AreAt, AreCellsParted, AreParted, AreParts, 
 use Rattle.cell_store.specs.Wholes.{is_noted_at, lies_at, list_at}
 use Rattle.cell_store.specs.declared.whole.Parts.{Parts}
 use Rattle.cell_store.proofs.HandLaws.{empty_stands, put_stands}
-use Rattle.cell_stars.proofs.Cited.{same_or_not}
+use Rattle.cell_stars.proofs.Cited.{filter_next, same_or_not}
 use Rattle.list_laws.proofs.Cited.{right_true as or_true}
 
 -- the test tells two that are not one
@@ -130,24 +130,6 @@ parted_none g test xs lists c f = record { count = c; each = λ b h. f b ∙ non
     none [] b = refl
     none (x ∷ xs) b = refl
 
--- one element passes or does not
-filter_one : {X : Type 0} (test : X → Bool) (x : X) (t : Bool) → test x ≡ t →
-    filter test (x ∷ []) ≡ if t then x ∷ [] else []
-filter_one test x t e = ap (λ r. if r then x ∷ [] else []) e
-
--- so what passes of one more is what passed before, and it if it passes
-filter_next : {X : Type 0} (test : X → Bool) (xs : List X) (n : ℕ) (x : X) (t : Bool) → n < length xs →
-    x ≡ slice_index_or xs n x → test x ≡ t →
-    filter test (take (n + 1) xs) ≡ filter test (take n xs) ++ (if t then x ∷ [] else [])
-filter_next test xs n x t h e q =
-    ap (filter test) (take_next xs n x h e) ∙ filter-append test (take n xs) (x ∷ [])
-    ∙ ap (λ l. filter test (take n xs) ++ l) (filter_one test x t q)
-
--- nothing behind a list leaves it
-append_none : {X : Type 0} (l : List X) → l ++ [] ≡ l
-append_none [] = refl
-append_none (x ∷ l) = ap (λ r. x ∷ r) (append_none l)
-
 -- an element more stands last in the list of its bucket
 pub parted_more : {X : Type 0} (g : ℕ) (test : ℕ → X → Bool) (home : X → ℕ) (xs : List X) (n b : ℕ) (x : X)
     (old new : List (List X)) →
@@ -164,7 +146,7 @@ parted_more g test home xs n b x old new t h e i s p = record {
     | inr f ↦ (
         let no : test k x ≡ false = t k ∙ differ_false (home x) k (λ q. f (sym q ∙ sym i)) in
         p.others k f ∙ s.each k m ∙ sym (filter_next (test k) xs n x false h e no
-        ∙ append_none (filter (test k) (take n xs))))
+        ∙ append-nil (filter (test k) (take n xs))))
   ];
 }
 
@@ -307,7 +289,7 @@ cells_more g cells n x old new h e s p = record {
     by b m false t =
         ap (map (slice_get cells)) (p.others b t) ∙ s.each b m
         ∙ sym (ap (map (λ c. Some c)) (filter_next (touches g b) cells n x false h e t
-        ∙ append_none (filter (touches g b) (take n cells))))
+        ∙ append-nil (filter (touches g b) (take n cells))))
 
 -- at the end each list has the places of the cells that touch its bucket
 pub cells_all : (g : ℕ) (cells : List Cell) (n : ℕ) (lists : List (List ℕ)) → length cells ≤ n →

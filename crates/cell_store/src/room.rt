@@ -17,6 +17,7 @@ use crate::bucket::Bucket;
 use cell_stars::{Grid, Matched, Plan};
 use edit_history::Entry;
 use point_order::{Cell, Point};
+use smallvec::SmallVec;
 use std::alloc::{AllocError, Global};
 use std::mem::swap;
 
@@ -47,8 +48,11 @@ pub(crate) fn bucket_in(places: &[Option<Bucket>], b: u32) -> Option<&Bucket>
     }
 }
 
-// A number is added once, as long as there are no more than so many.
+// A number is added once, as long as there are no more than so many; these take no memory.
 const EARLY: usize = 8;
+
+// Numbers of buckets. An exchange mostly touches few.
+type Numbers = SmallVec<u32, EARLY>;
 
 // Whether the number is one of the first ones.
 fn is_early(numbers: &[u32], b: u32) -> bool
@@ -58,7 +62,7 @@ fn is_early(numbers: &[u32], b: u32) -> bool
 }
 
 // Adds the number, where it is not one of the first ones.
-fn add_number(numbers: &mut Vec<u32>, b: u32) -> Result<(), AllocError>
+fn add_number(numbers: &mut Numbers, b: u32) -> Result<(), AllocError>
     ensures { OnOk result ((n : ℕ) → IsIn n numbers.new.items ↔ (IsIn n numbers.old.items ⊎ (b ≡ n))) }
 {
     if !is_early(numbers, b) {
@@ -68,7 +72,7 @@ fn add_number(numbers: &mut Vec<u32>, b: u32) -> Result<(), AllocError>
 }
 
 // Adds the numbers of the buckets of the points.
-fn add_numbers_at(numbers: &mut Vec<u32>, grid: Grid, points: &[Point]) -> Result<(), AllocError>
+fn add_numbers_at(numbers: &mut Numbers, grid: Grid, points: &[Point]) -> Result<(), AllocError>
     ensures { OnOk result (Gathers (IsBucketOf grid) points.now numbers.old.items numbers.new.items) }
 {
     for p in points {
@@ -78,12 +82,12 @@ fn add_numbers_at(numbers: &mut Vec<u32>, grid: Grid, points: &[Point]) -> Resul
 }
 
 // The numbers of the buckets of the points, ascending.
-fn numbers_at(alloc: Global, grid: Grid, points: &[Point]) -> Result<Vec<u32>, AllocError>
+fn numbers_at(alloc: Global, grid: Grid, points: &[Point]) -> Result<Numbers, AllocError>
     ensures order { IfOk result (λ numbers. IsAscending numbers.items) }
     ensures numbers { IfOk result (λ numbers. (b : ℕ) → IsIn b numbers.items ↔ IsIn b
         (map (number_of grid) points.now)) }
 {
-    let mut numbers = Vec::with_capacity(alloc, EARLY)?;
+    let mut numbers = Numbers::new(alloc);
     add_numbers_at(&mut numbers, grid, points)?;
     numbers.sort_unstable();
     numbers.dedup();
@@ -130,7 +134,7 @@ fn plans_for(
     let matched = Matched::of(alloc, grid, gone, fresh)?;
     let numbers = numbers_at(alloc, grid, matched.vertices())?;
     let mut plans = Vec::with_capacity(alloc, numbers.len())?;
-    for b in &numbers {
+    for b in numbers.as_slice() {
         plans.push(plan_for(alloc, *b, places, gone, fresh, &matched, found)?)?;
     }
     Ok(plans)

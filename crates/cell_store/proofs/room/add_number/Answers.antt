@@ -6,7 +6,7 @@ pub returns-in_ok-push : goal.returns-in_ok-push
 returns-in_ok-push c n =
     let old = c.args.numbers.now.items in
     let new = c.push.new.self.items in
-    let e = c.in_ok-push.ensures.items in (
+    let e = c.in_ok-push.ensures.ok in (
       λ m. in_pushed old new c.args.b n e m,
       λ m. elim m [ inl k ↦ pushed_old old new c.args.b n e k | inr f ↦ rw f at (pushed_new old new c.args.b e) ],
     )

@@ -8,11 +8,11 @@ use Rattle.cell_store.proofs.room.plans_for.Goals as goal
 
 pub plan_for-requires-clause-held : goal.plan_for-requires-clause-held
 plan_for-requires-clause-held c =
-    let i = at_in c.deref-b-items.result.now c.loop-b.b-index 0 c.loop-b-test.true in
+    let i = at_in c.as_slice-b-items.result.now c.loop-b.b-index 0 c.loop-b-test.true in
     let v = subst (AreVertices c.args.gone.now c.args.fresh.now) (sym c.vertices.ensures.vertices)
     c.in_ok-matched.ensures.vertices in
     elim ((vertex_numbers c.args.grid c.args.gone.now c.args.fresh.now c.vertices.result.now v _).0
-    ((c.in_ok-numbers.ensures.numbers _).0 (subst (IsIn _) c.deref-b-items.ensures.value i))) [
+    ((c.in_ok-numbers.ensures.numbers _).0 (subst (IsIn _) c.as_slice-b-items.ensures i))) [
       | inl j ↦ c.requires.gone _ j
       | inr j ↦ c.requires.fresh _ j
     ]
@@ -22,7 +22,7 @@ loop-b-preserved c =
     let e = c.in_ok-push.ensures.items in
     record {
       numbers = numbers_more c.loop-b.plans.items c.push.new.self.items c.in_ok-plan_for.field-0
-          c.deref-b-items.result.now c.loop-b.b-index c.loop-b-test.true e c.in_ok-plan_for.ensures.number
+          c.as_slice-b-items.result.now c.loop-b.b-index c.loop-b-test.true e c.in_ok-plan_for.ensures.number
           c.loop-b.invariant.numbers;
       each = ready_more c.args.gone.now c.args.fresh.now c.args.places.now c.loop-b.plans.items c.push.new.self.items
           c.in_ok-plan_for.field-0 e c.loop-b.invariant.each c.in_ok-plan_for.ensures.ready;
@@ -34,7 +34,7 @@ returns c =
     c.in_ok-matched.ensures.vertices in
     ready_all c.args.grid c.args.gone.now c.args.fresh.now c.args.places.now c.loop-b.plans.items
     c.in_ok-numbers.numbers.items c.loop-b.invariant.each
-    (c.loop-b.invariant.numbers ∙ take_all c.loop-b.b-index c.deref-b-items.result.now c.loop-b-test.false
-    ∙ c.deref-b-items.ensures.value) c.in_ok-numbers.ensures.order
+    (c.loop-b.invariant.numbers ∙ take_all c.loop-b.b-index c.as_slice-b-items.result.now c.loop-b-test.false
+    ∙ c.as_slice-b-items.ensures) c.in_ok-numbers.ensures.order
     (λ b i. (c.in_ok-numbers.ensures.numbers b).1
     ((vertex_numbers c.args.grid c.args.gone.now c.args.fresh.now c.vertices.result.now v b).1 i))
