@@ -115,7 +115,7 @@ impl Joins<'_> {
     }
 
     // The place across a side of the cell that is put at the place.
-    #[inline]
+    #[inline(always)]
     fn across(&self, rim: &mut Vec<Joint>, place: u32, beside: Beside) -> Result<u32, AllocError> {
         match beside {
             Beside::Nothing => Ok(NONE),

@@ -344,6 +344,7 @@ impl Hold {
     }
 
     /// What `cell_across` gives for a cell at hand, at hand too.
+    #[inline(always)]
     pub fn spot_across(&self, spot: &Spot, facet: &Facet) -> Spot
         requires shown { ShowsWith self.now spot.now }
         requires facet { IsIn facet.now (facets_of spot.now) }
