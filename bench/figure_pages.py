@@ -8,7 +8,7 @@ from typing import NamedTuple
 
 from figure_runs import TOP, processors, sum_of
 
-COLUMNS = {'python': (1, 3, 4), 'python-10000': (1, 3, 4), 'near': (0, 1, 2, 4), 'page': (1, 3, 4, 6)}
+COLUMNS = {'python': (1, 3, 4), 'near': (0, 1, 2, 4), 'page': (1, 3, 4, 6)}
 OTHERS = (1, 2, 3, 4)
 BESIDE = '| {} | program | CGAL | program / CGAL | peak memory: program, CGAL |'
 
@@ -55,8 +55,9 @@ SPEED = {
         Row('`voronoi`, with the mesh', 'python', 'delaunay, voronoi'),
         Row('`vertex_neighbor_vertices`', 'python', 'vertex_neighbor_vertices'),
         Row('100,000 nearest points, beside `cKDTree.query`', 'python', 'nearest'),
-        Row('the same, mesh of buckets or tree included', 'python', 'the first nearest, of all'),
-        Row("the filtration of 10,000 points, beside GUDHI's AlphaComplex", 'python-10000', 'delaunay, filtration')]),
+        Row('the same, mesh or tree included', 'python', 'the first nearest, of all'),
+        Row("their filtration, with the mesh (`faces=True`), beside GUDHI's AlphaComplex", 'python',
+            'delaunay, filtration')]),
     'Pages': ("| page: here, plotly's | size | shown after | frames a second, turned | of the slider |", [
         Row(f'{count:,} points on a {kind}', 'page', f'{kind}-{count}')
         for kind, count in (('ring', 3000), ('ring', 100000))] + [
@@ -72,8 +73,7 @@ FIRST_PAGE = [
     Row("shapes of three radii after the mesh, beside CGAL's", 'shape', '3'),
     Row("from Python, 100,000 points with neighbours, beside scipy's Delaunay (Qhull)", 'python',
         'delaunay, simplices, neighbors'),
-    Row("from Python, the filtration of 10,000 points, beside GUDHI's AlphaComplex", 'python-10000',
-        'delaunay, filtration'),
+    Row("from Python, the filtration of 100,000 points, beside GUDHI's AlphaComplex", 'python', 'delaunay, filtration'),
 ]
 UNPROVED = 'an unproved build, some twentieth slower than a proved one'
 HEAD_OF_FIRST = '| processor time, least of {} runs, {} | here | peer | here / peer |'

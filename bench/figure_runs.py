@@ -49,7 +49,6 @@ TABLES = {
     'near': Table(['bench/near'], ['bench/near', '--count', '8192', '--queries', '8192']),
     'check': Table(['bench/check'], ['bench/check', '--count', '8192']),
     'python': Table(['bench/python', '100000'], ['bench/python', '2000'], **PACKAGE),
-    'python-10000': Table(['bench/python', '10000'], None, **PACKAGE),
     'page': Table(['bench/page'], ['bench/page', '--seconds', '1', 'ring-3000']),
 }
 
