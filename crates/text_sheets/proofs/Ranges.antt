@@ -1,7 +1,7 @@
 -- Lines of a text, from one number to another.
 use Rattle.std.proofs.Common.{◌≡◌, ◌≤◌, ◌∙◌, ℕ, List, ◌++◌, length, take, drop, arith, sym, ap}
 use Rattle.std.specs.List.{concat}
-use Rattle.std.proofs.lemmas.List.{drop-append-le, length-take, take-append-drop, take-take, take_all}
+use Rattle.std.proofs.lemmas.List.{drop-append-le, length-take, take-append-drop, take-take}
 use Rattle.std.proofs.lemmas.List.Folds.{concat-append}
 use Rattle.text_sheets.specs.Ways.{lines_from}
 

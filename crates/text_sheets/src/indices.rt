@@ -14,13 +14,13 @@ use point_order::{Point, Quad, Tri};
 use std::marker::Model;
 
 /// How many sections the range of keys has, and one more.
-const SECTIONS: usize = 2049;
+const SECTIONS: usize = 8193;
 
-// The section of a point: of its key's forty-two bits the first eleven.
+// The section of a point: of its key's forty-two bits the first thirteen.
 fn section_of(point: Point) -> usize
-    ensures { result < 2048 }
+    ensures { result < 8192 }
 {
-    (point.key() / 2147483648) as usize
+    (point.key() / 536870912) as usize
 }
 
 // Whether all points before one place are below a key, and none from another on.
@@ -57,13 +57,13 @@ fn search(points: &[Point], key: u64, low: usize, high: usize) -> usize
 
 /// An ascending list of points that gives the index of each.
 ///
-/// It keeps where each of 2,048 sections of the range of points begins, which is where a search begins: so a search
+/// It keeps where each of 8,192 sections of the range of points begins, which is where a search begins: so a search
 /// looks at few points, and takes no memory. Contracts see it as the list of the points.
 #[derive(Drop)]
 pub struct Indices<'a> {
     points: &'a [Point],
     // A place before which the points of a section may stand. It is looked at before it is believed.
-    ends: [u32; 2049],
+    ends: [u32; 8193],
 }
 
 impl<'a> Model for Indices<'a> {
@@ -101,7 +101,7 @@ impl<'a> Indices<'a> {
 
     // Where the points of a section begin and end, if the table is right.
     fn section(&self, section: usize) -> (usize, usize)
-        requires { section < 2048 }
+        requires { section < 8192 }
     {
         match (self.ends.get(section), self.ends.get(section + 1)) {
             (Some(first), Some(end)) => (*first as usize, *end as usize),

@@ -1,13 +1,13 @@
 //! Numbers and lines of text, put on a sheet.
 
-ghost use Rattle.std.specs.Prelude.{[], ◌∷◌, ◌++◌, codes, decimal, OnOk, OnErr};
+ghost use Rattle.std.specs.Prelude.{◌≡◌, ◌+◌, ◌≤◌, [], ◌∷◌, ◌++◌, codes, decimal, drop, OnOk, OnErr};
 ghost use Rattle.byte_ends.specs.Ends.{HasCause};
-ghost use Rattle.text_sheets.specs.Lines.{numbers_line, spaced};
+ghost use Rattle.text_sheets.specs.Lines.{numbers_line};
 ghost use Rattle.text_sheets.specs.Sheets.{Puts};
 
 use crate::sheet::Sheet;
 use byte_ends::{Failed, Sink};
-use itoa::Buffer;
+use itoa::{Buffer, write_digits};
 
 /// Puts a number in decimal.
 pub fn put_number<O: Sink>(sheet: &mut Sheet<O>, number: u64)
@@ -25,37 +25,57 @@ pub fn put_number_and<O: Sink>(sheet: &mut Sheet<O>, number: u64, piece: &[u8])
     sheet.put(piece);
 }
 
-// Puts two numbers, parted by a space.
-fn put_two<O: Sink>(sheet: &mut Sheet<O>, a: u64, b: u64)
-    ensures { Puts O.holds O.faults sheet.old sheet.new (spaced (a ∷ b ∷ [])) }
+// Writes a number and a space behind it before what stands in a line from a place on, and answers where it begins.
+fn write_before(line: &mut [u8; 84], at: usize, number: u64) -> usize
+    requires room { 21 ≤ at }
+    requires within { at ≤ 84 }
+    ensures written { drop result line.new ≡ decimal number ++ codes " " ++ drop at line.old }
+    ensures room { at ≤ result + 21 }
+    ensures within { result ≤ 84 }
 {
-    put_number_and(sheet, a, b" ");
-    put_number(sheet, b);
+    line[at - 1] = b' ';
+    write_digits(number, line, at - 1)
 }
 
-// Puts three numbers, parted by one space each.
-fn put_spaced<O: Sink>(sheet: &mut Sheet<O>, a: u64, b: u64, c: u64)
-    ensures { Puts O.holds O.faults sheet.old sheet.new (spaced (a ∷ b ∷ c ∷ [])) }
+// Writes a number and a line feed at the end of a line, and answers where it begins.
+fn write_last(line: &mut [u8; 84], number: u64) -> usize
+    ensures written { drop result line.new ≡ decimal number ++ codes "\n" }
+    ensures room { 84 ≤ result + 21 }
+    ensures within { result ≤ 84 }
 {
-    put_number_and(sheet, a, b" ");
-    put_two(sheet, b, c);
+    line[83] = b'\n';
+    write_digits(number, line, 83)
+}
+
+// Puts what stands in a line from a place on.
+fn put_from<O: Sink>(sheet: &mut Sheet<O>, line: &[u8; 84], first: usize)
+    requires { first ≤ 84 }
+    ensures { Puts O.holds O.faults sheet.old sheet.new (drop first line.now) }
+{
+    sheet.put(&line[first..]);
 }
 
 /// Puts three numbers, as a line.
 pub fn put_three<O: Sink>(sheet: &mut Sheet<O>, a: u64, b: u64, c: u64)
     ensures { Puts O.holds O.faults sheet.old sheet.new (numbers_line (a ∷ b ∷ c ∷ [])) }
 {
-    put_spaced(sheet, a, b, c);
-    sheet.put(b"\n");
+    let mut line = [0; 84];
+    let third = write_last(&mut line, c);
+    let second = write_before(&mut line, third, b);
+    let first = write_before(&mut line, second, a);
+    put_from(sheet, &line, first);
 }
 
 /// Puts four numbers, as a line.
 pub fn put_four<O: Sink>(sheet: &mut Sheet<O>, a: u64, b: u64, c: u64, d: u64)
     ensures { Puts O.holds O.faults sheet.old sheet.new (numbers_line (a ∷ b ∷ c ∷ d ∷ [])) }
 {
-    put_number_and(sheet, a, b" ");
-    put_spaced(sheet, b, c, d);
-    sheet.put(b"\n");
+    let mut line = [0; 84];
+    let fourth = write_last(&mut line, d);
+    let third = write_before(&mut line, fourth, c);
+    let second = write_before(&mut line, third, b);
+    let first = write_before(&mut line, second, a);
+    put_from(sheet, &line, first);
 }
 
 /// Puts the first line of a block: its title, and how many lines follow.
