@@ -1,6 +1,6 @@
 //! Cells and facets as the keys of their points.
 
-ghost use Rattle.std.specs.Prelude.{◌≡◌, ◌↔◌, ◌<◌, List, MatchOption, IsTrue, ℕ};
+ghost use Rattle.std.specs.Prelude.{◌≡◌, ◌↔◌, ◌<◌, ◌≤◌, List, MatchOption, IsTrue, ℕ};
 ghost use Rattle.point_order.specs.Conflicts.{CanJudge, is_in_conflict};
 ghost use Rattle.point_order.specs.Coordinates.{IsKey};
 ghost use Rattle.point_order.specs.Facets.{facets_of, points_of, points_on};
@@ -118,6 +118,15 @@ impl Model for Corners {
     } };
 }
 
+// Of two points that follow one another the one that stays where a point is missing.
+#[inline(always)]
+fn one_of(missing: u64, first: u64, second: u64) -> u64
+    ensures first { first < missing → result ≡ first }
+    ensures second { missing ≤ first → result ≡ second }
+{
+    if missing > first { first } else { second }
+}
+
 impl Corners {
     // The keys of a cell.
     pub(crate) fn of(cell: &Cell) -> Corners
@@ -225,26 +234,17 @@ impl Corners {
         ]
     }
 
-    // Which of its facets it is, or 4, where it is none.
+    // Which of its facets it is, or 4, where it is none. The point that is not the facet's is told by the sums of the
+    // keys, and then no branch is taken that a processor would have to guess.
     pub(crate) fn number_of(&self, face: &Face) -> usize
         ensures { (result < 4) ↔ IsIn face.now (facets_of self.now) }
     {
-        if self.d == face.z {
-            if self.c == face.y {
-                if self.b == face.x {
-                    0
-                } else if self.a == face.x {
-                    1
-                } else {
-                    4
-                }
-            } else if self.a == face.x && self.b == face.y {
-                2
-            } else {
-                4
-            }
-        } else if self.c == face.z && self.b == face.y && self.a == face.x {
-            3
+        let missing = (self.a + self.b + self.c + self.d).wrapping_sub(face.x + face.y + face.z);
+        let x = one_of(missing, self.a, self.b);
+        let y = one_of(missing, self.b, self.c);
+        let z = one_of(missing, self.c, self.d);
+        if x == face.x && y == face.y && z == face.z {
+            (missing > self.a) as usize + (missing > self.b) as usize + (missing > self.c) as usize
         } else {
             4
         }
