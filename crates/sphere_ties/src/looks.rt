@@ -57,6 +57,9 @@ fn coefficient_of(a: Point, b: Point, c: Point, d: Point, e: Point, at: Point) -
 }
 
 /// The coefficient of the greatest point whose coefficient is not 0.
+///
+/// Few tests come here. It is a call of its own, so that the test before it keeps no coordinates for it.
+#[inline(never)]
 pub fn first_coefficient(a: Point, b: Point, c: Point, d: Point, e: Point) -> i64
     requires independent { is_flat a b c d ≡ false }
     requires distinct { AreFive a b c d e }
