@@ -1,15 +1,14 @@
 -- What the judging of a file says of its bytes.
 use Rattle.std.proofs.Common.{◌≡◌, refl, subst, ap, ◌∙◌, ℕ, ◌+◌, ◌<◌, ◌≤◌, List, [], ◌∷◌, ◌++◌, length, arith, inl, inr}
 use Rattle.std.specs.Prelude.{Option, None, Some, IfSome, IfErr, IfOk, Result, Ok, Err}
-use Rattle.std.specs.List.{AllZip}
-use Rattle.list_laws.proofs.Cited.{length_zip}
+use Rattle.std.specs.List.{AllByRecursion}
+use Rattle.edit_files.proofs.Cited.{file_is_within}
 use Rattle.edit_files.specs.Content.{Content, content}
 use Rattle.edit_files.specs.declared.file.File.{File}
 use Rattle.edit_files.specs.Grammar.{IsFile, Limits}
 use Rattle.edit_files.specs.Versions.{row}
 use Rattle.command_pages.specs.Report.{AreRadii}
 use Rattle.command_pages.specs.Taken.{file_limits}
-use Rattle.edit_files.specs.Forms.{IsPointLine, IsEditLine, IsRadiusLine}
 use Rattle.edit_files.specs.Faults.{IsFault}
 use Rattle.command_words.specs.declared.stop.Stop.{Stop}
 use Rattle.command_words.specs.declared.stop.Stop.TheVariants.{Memory, BadLine, Flat, TooLong}
@@ -23,26 +22,18 @@ use Rattle.byte_ends.specs.Ends.{TakesInto}
 -- a file has at most as many points and edits as lines are allowed
 pub file_small : (limits : Limits) (bytes : List ℕ) (f : Content) → IsFile limits bytes f →
     length f.points + length f.edits ≤ limits.lines
-file_small limits bytes f h =
-    omega (
-      arith,
-      length_zip IsPointLine h.points f.points h.point_lines,
-      length_zip (IsEditLine f.version) h.edits f.edits h.edit_lines,
-      h.line_count,
-    )
+file_small limits bytes f h = (file_is_within limits bytes f h).line_count
 
 -- the radii of a file are in the range of its version
 pub radii_small : (limits : Limits) (bytes : List ℕ) (f : Content) → IsFile limits bytes f →
     AreRadii f.version f.radii
-radii_small limits bytes f h = of_lines h.radii f.radii h.radius_lines
+radii_small limits bytes f h = each_small f.radii (file_is_within limits bytes f h).radii
   where
-    of_lines : (lines : List (List ℕ)) (radii : List ℕ) → AllZip (IsRadiusLine f.version) lines radii →
+    each_small : (radii : List ℕ) → AllByRecursion (λ r. r < (row f.version).radius_end) radii →
         AreRadii f.version radii
-    of_lines [] [] z = λ k d l. absurd (omega arith)
-    of_lines [] (r ∷ radii) z = absurd z
-    of_lines (l ∷ lines) [] z = absurd z
-    of_lines (l ∷ lines) (r ∷ radii) z = All-cons (λ radius. radius < (row f.version).radius_end) r radii z.0.1
-        (of_lines lines radii z.1)
+    each_small [] z = λ k d l. absurd (omega arith)
+    each_small (r ∷ radii) z = All-cons (λ radius. radius < (row f.version).radius_end) r radii z.0
+        (each_small radii z.1)
 
 -- what holds of the bytes that were read to the end holds of those that the source told
 pub if_told : (P : List ℕ → Type 0) (left : Option (List ℕ)) (old bytes now : List ℕ) → old ≡ [] → now ≡ bytes →

@@ -1,7 +1,7 @@
 -- The command `check`: what is told of the text of a mesh, why nothing is, and what a run of it promises of its end.
 use Rattle.std.specs.Prelude.{◌≡◌, ◌≢◌, ◌⊎◌, ◌↔◌, ◌<◌, ◌≤◌, ℕ, List, [], length, Option, IfSome, if◌then◌else◌, ⊤}
 use Rattle.edit_history.specs.declared.history.Entry.{Entry}
-use Rattle.edit_files.specs.declared.fault.Fault.{Fault}
+use Rattle.text_readings.specs.declared.fault.Fault.{Fault}
 use Rattle.mesh_reader.specs.Faults.{IsMeshFault}
 use Rattle.mesh_reader.specs.Grammar.{IsMeshText, MeshParts}
 use Rattle.mesh_check.specs.declared.flaw.Verdict.{Verdict}

@@ -10,7 +10,7 @@ use Rattle.edit_files.specs.Content.{Content}
 use Rattle.edit_files.specs.Grammar.{IsFile}
 use Rattle.command_pages.specs.Taken.{file_limits}
 use Rattle.edit_files.specs.Faults.{IsFault}
-use Rattle.edit_files.specs.declared.fault.Fault.{Fault}
+use Rattle.text_readings.specs.declared.fault.Fault.{Fault}
 use Rattle.command_pages.specs.Report.{text_of_history}
 use Rattle.command_pages.specs.Statuses.{IsEarly}
 use Rattle.command_words.specs.Words.{Checks, Draws, Kind, Parts, Queries, Reports, Steps}

@@ -1,8 +1,8 @@
 -- The statuses of a run, and the line that each has on standard error.
 use Rattle.std.specs.Prelude.{◌≡◌, ◌≢◌, ◌⊎◌, ◌<◌, ℕ, List, ◌++◌, codes, decimal, Option, IfSome}
-use Rattle.edit_files.specs.declared.fault.Why.{Why}
-use Rattle.edit_files.specs.declared.fault.Why.TheVariants.{Section, Field, Range, TooMany, Truncated}
-use Rattle.edit_files.specs.declared.fault.Fault.{Fault}
+use Rattle.text_readings.specs.declared.fault.Why.{Why}
+use Rattle.text_readings.specs.declared.fault.Why.TheVariants.{Section, Field, Range, TooMany, Truncated}
+use Rattle.text_readings.specs.declared.fault.Fault.{Fault}
 use Rattle.std.specs.Io.KnownBytes.{Appends}
 use Rattle.byte_ends.specs.Ends.{AppendsFront, Rose}
 use Rattle.command_pages.specs.Taken.{file_limits}

@@ -3,8 +3,8 @@
 ghost use Rattle.std.specs.Prelude.{◌≡◌, ◌≤◌, ◌++◌, [], List, ℕ, IfSome, IfOk, IfErr, Err, IsOk, if◌then◌else◌};
 ghost use Rattle.std.specs.Io.KnownBytes.{IsAtEnd};
 ghost use Rattle.byte_ends.specs.Ends.{Rose};
-ghost use Rattle.edit_files.specs.declared.fault.Fault.{Fault as FaultParts};
-ghost use Rattle.edit_files.specs.declared.fault.ReadRefused.TheVariants.{Bad};
+ghost use Rattle.text_readings.specs.declared.fault.Fault.{Fault as FaultParts};
+ghost use Rattle.text_readings.specs.declared.fault.ReadRefused.TheVariants.{Bad};
 ghost use Rattle.mesh_reader.specs.Faults.{IsMeshFault};
 ghost use Rattle.mesh_reader.specs.Grammar.{IsMeshText, parts};
 ghost use Rattle.mesh_reader.specs.Order.{IsInOrder};
@@ -18,11 +18,11 @@ use crate::made::{Made, Page};
 use crate::telling::fault_line;
 use byte_ends::{Reached, Source, read_to_limit};
 use command_words::Stop;
-use edit_files::ReadRefused;
 use mesh_check::{Made as Complex, made_of, tell};
 use mesh_reader::{MeshReader, PackedMesh};
 use std::alloc::{AllocError, Global};
 use std::marker::Model;
+use text_readings::ReadRefused;
 
 // One more byte than the text of a mesh may have.
 const TOO_MANY: usize = 1_073_741_825;

@@ -3,9 +3,9 @@
 ghost use Rattle.std.specs.Prelude.{◌≡◌, ◌++◌, IfOk, codes};
 ghost use Rattle.command_pages.specs.Statuses.{fault_line as fault_line_of, why_word};
 
-use edit_files::{Fault, Why};
 use itoa::Buffer;
 use std::alloc::{AllocError, Global};
+use text_readings::{Fault, Why};
 
 fn word(why: Why) -> &'static str
     ensures { result.now ≡ why_word why }

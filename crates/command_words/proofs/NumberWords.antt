@@ -19,7 +19,7 @@ use Rattle.clap.proofs.OnLiterals.{clap_on_literals}
 use Rattle.clap.proofs.ValueTestLemmas.{Accepts-accepts}
 use Rattle.clap.specs.declared.builder.value_parser.ValueParser.TheVariants.{Signed, Unsigned}
 use Rattle.std.proofs.lemmas.Bool.Decides.{nat_tests}
-use Rattle.edit_files.proofs.Cited.{no_minus}
+use Rattle.text_readings.proofs.Cited.{no_minus}
 use Rattle.cell_store.specs.Grids.{is_grid_size}
 use Rattle.command_words.specs.Words.{SayGen, SayGenText, SayMeshing, SayPartsAt, DrawsFile, ReadsFile, asked_alpha}
 use Rattle.command_words.specs.Words.{asked_index, asked_most, asks_check, asks_drawn, asks_near, asks_parts}

@@ -1,341 +1,360 @@
--- What is read of a line is what the line says, and a line that is not read is not of its form or out of range.
-use Rattle.std.proofs.Common.{◌≡◌, ℕ, ◌+◌, ◌*◌, ◌<◌, Bool, true, false, cond, eqb, ltb, ◌⊎◌, List, [], ◌∷◌, ◌++◌}
-use Rattle.std.proofs.Common.{Option, Some, None, Result, Ok, Err, refl, sym, ap, subst, ◌∙◌, arith, inl, inr}
-use Rattle.std.proofs.Common.{append_assoc}
-use Rattle.std.specs.List.{AllByRecursion, join_with_byte}
-use Rattle.std.specs.Str.Parse.{AllDigits}
-use Rattle.std.proofs.lemmas.Bool.{cases_lt, ne_eqb, eqb-true, lt-ltb, le-ltb}
-use Rattle.std.proofs.lemmas.Str.Parse.{digit_from_value}
-use Rattle.std.proofs.lemmas.List.Splits.{join_with_byte-slice_split}
-use Rattle.point_order.specs.Coordinates.{x_of, y_of, z_of}
-use Rattle.edit_files.specs.declared.fault.Why.{Why}
-use Rattle.edit_files.specs.declared.fault.Why.TheVariants.{Field, Range}
-use Rattle.edit_files.specs.Numbers.{IsNumber}
-use Rattle.edit_files.specs.Forms.{HasPointForm, IsPointLine, three_spaced}
-use Rattle.edit_files.specs.Judging.{number, point, point_at, point_from, point_from_fields, fields_of}
-use Rattle.edit_files.proofs.Values.{number_read, number_some, number_of, of_number, reading}
-use Rattle.edit_files.proofs.Points.{point_at_own, coordinate_below}
+-- Judging a line finds whether it leads on where a reading is, and why it does not.
+use Rattle.std.proofs.Common.{◌≡◌, ℕ, ◌<◌, ◌≤◌, Bool, true, false, cond, leb, List, [], ◌∷◌, ◌++◌, Option, Some, None}
+use Rattle.std.proofs.Common.{Result, Ok, Err, refl, sym, ap, subst, ◌∙◌, inl, inr}
+use Rattle.std.specs.Prelude.{◌⊎◌, codes}
+use Rattle.std.specs.Str.{bytes_eq}
+use Rattle.std.proofs.lemmas.Bool.{both_ways, cases_lt, false_from_ne_true, leb-false, leb-true, le-leb, lt-leb}
+use Rattle.std.proofs.lemmas.Slice.Eq.{bytes_eq-Decides}
+use Rattle.edit_history.specs.declared.history.Edit.{Edit}
+use Rattle.edit_history.specs.declared.history.Edit.TheVariants.{Add, Take, Move}
+use Rattle.text_readings.specs.declared.fault.Why.{Why}
+use Rattle.text_readings.specs.declared.fault.Why.TheVariants.{Section, Field, Range, TooMany, Truncated}
+use Rattle.text_readings.specs.Judging.{then_at}
+use Rattle.text_readings.specs.Numbers.{IsNumber}
+use Rattle.text_readings.specs.PointLines.{HasPointForm, IsPointLine}
+use Rattle.text_readings.specs.Scanning.{point}
+use Rattle.text_readings.proofs.Cited.{Decides, err_one, off_form, off_range, ok_err, ok_one, point_form}
+use Rattle.text_readings.proofs.Cited.{points_decided, takes, then_err, then_ok, word_err, word_is, word_not, word_ok}
+use Rattle.edit_files.specs.declared.place.Part.{Part}
+use Rattle.edit_files.specs.declared.place.Part.TheVariants.{Points, Edits, Radii, Queries}
+use Rattle.edit_files.specs.declared.place.Due.{Due}
+use Rattle.edit_files.specs.declared.place.Due.TheVariants.{Title, Heading, Body, Nothing}
+use Rattle.edit_files.specs.declared.version.Version.{Version}
+use Rattle.edit_files.specs.declared.version.Version.TheVariants.{One, Two, Three, Four}
+use Rattle.edit_files.specs.Content.{Content}
+use Rattle.edit_files.specs.Faults.{IsReason, IsWrongWord, is_word}
+use Rattle.edit_files.specs.Forms.{HasEditForm, IsEditLine, IsRadiusLine}
+use Rattle.edit_files.specs.Grammar.{HasFormOf, IsTaken, IsWithinNewest, Leads, Limits, Reached, due_behind, lines_in}
+use Rattle.edit_files.specs.Grammar.{most_of, word_behind}
+use Rattle.edit_files.specs.Judging.{after_line, edit, is_full, radius, step_at, taken, with_title}
+use Rattle.edit_files.specs.Versions.{row, titled}
+use Rattle.edit_files.proofs.DecidedEdits.{edits_decided, radii_decided}
+use Rattle.edit_files.proofs.Words.{none_behind, none_word, not_behind, taken_none}
 
--- A function reads the lines of a list, and says where one is not of its form or out of range.
-pub record Decides {A : Type 0} (read : List ℕ → Result A Why) (Says : List ℕ → A → Type 0) (Form : List ℕ →
-    Type 0) : Type 0 where
-  pub sound : (line : List ℕ) (a : A) → read line ≡ Ok a → Says line a
-  pub complete : (line : List ℕ) (a : A) → Says line a → read line ≡ Ok a
-  pub field : (line : List ℕ) → read line ≡ Err Field → Form line → ⊥
-  pub range : (line : List ℕ) → read line ≡ Err Range → Form line
-  pub only : (line : List ℕ) (why : Why) → read line ≡ Err why → (why ≡ Field) ⊎ (why ≡ Range)
+-- a place by its parts
+abbrev pub at : Due → Content → Reached
+at due f = record { due = due; taken = f }
 
--- ---- fields
+-- what was taken, in a file of this version
+abbrev pub of_version : Version → Content → Content
+of_version v f = record f { version = v }
 
--- none of the bytes is this one
-abbrev pub HasNo : ℕ → List ℕ → Type 0
-HasNo c bs = AllByRecursion (λ b. eqb b c ≡ false) bs
+-- ---- the first line
 
--- none of them is a space
-abbrev pub HasNoSpace : List ℕ → Type 0
-HasNoSpace bs = HasNo 32 bs
+-- the first line of a version tells it
+titled_title : (v : Version) → titled (row v).title ≡ Some v
+titled_title One = refl
+titled_title Two = refl
+titled_title Three = refl
+titled_title Four = refl
 
--- bytes with no space, in front of a space, are the first field, and what is behind it has the others
-pub fields_front : (x rest : List ℕ) → HasNoSpace x → fields_of (x ++ 32 ∷ rest) ≡ x ∷ fields_of rest
-fields_front [] rest h = refl
-fields_front (b ∷ bs) rest h = let e = fields_front bs rest h.1 in let f : eqb b 32 ≡ false = h.0 in rw (f, e) refl
+-- a version that a line tells
+abbrev told : Version → Option Version
+told v = Some v
 
--- bytes with no space are the one field
-pub fields_last : (x : List ℕ) → HasNoSpace x → fields_of x ≡ x ∷ []
-fields_last [] h = refl
-fields_last (b ∷ bs) h = let e = fields_last bs h.1 in let f : eqb b 32 ≡ false = h.0 in rw (f, e) refl
+-- it tells one version
+told_same : (v w : Version) → told v ≡ told w → v ≡ w
+told_same v w h = cc
 
--- no byte below 45, as a space and a line feed are, stands in digits
-digits_without : (low : ℕ) (ds : List ℕ) → low < 45 → AllDigits 10 ds → HasNo low ds
-digits_without low [] lt h = tt
-digits_without low (c ∷ cs) lt h = (
-  let w = digit_from_value c h.0 in ne_eqb c low (λ e. absurd (omega (arith, w.0))),
-  digits_without low cs lt h.1,
+-- the first line that tells a version is its title
+title_is : (line : List ℕ) (w : Version) → titled line ≡ Some w → line ≡ (row w).title
+title_is line w = by (bytes_eq line (row One).title) (bytes_eq line (row Two).title) (bytes_eq line (row Three).title)
+    (bytes_eq line (row Four).title) refl refl refl refl
+  where
+    is : (v : Version) → bytes_eq line (row v).title ≡ true → told v ≡ Some w → line ≡ (row w).title
+    is v e h = (bytes_eq-Decides line (row v).title).0 e ∙ ap (λ (u : Version). (row u).title) (told_same v w h)
+
+    by : (a b c d : Bool) → bytes_eq line (row One).title ≡ a → bytes_eq line (row Two).title ≡ b →
+        bytes_eq line (row Three).title ≡ c → bytes_eq line (row Four).title ≡ d
+        → cond a (Some One) (cond b (Some Two) (cond c (Some Three) (cond d (Some Four) None))) ≡ Some w →
+        line ≡ (row w).title
+    by true b c d p q r s h = is One p h
+    by false true c d p q r s h = is Two q h
+    by false false true d p q r s h = is Three r h
+    by false false false true p q r s h = is Four s h
+    by false false false false p q r s h = absurd cc
+
+-- a first line that led on tells a version that is none after the newest
+title_ok : (newest : Version) (f : Content) (o : Option Version) (b : Reached) → with_title newest f o ≡ Ok b →
+    (v : Version) × (o ≡ told v) × ((row v).number ≤ (row newest).number) × (b ≡ at Heading (of_version v f))
+title_ok newest f None b h = absurd (ok_err b Section (sym h))
+title_ok newest f (Some w) b h = by (leb (row w).number (row newest).number) refl h
+  where
+    by : (t : Bool) → leb (row w).number (row newest).number ≡ t → cond t (Ok (at Heading (of_version w f)))
+        (Err Section) ≡ Ok b → (v : Version) × (told w ≡ told v) × ((row v).number ≤ (row newest).number)
+        × (b ≡ at Heading (of_version v f))
+    by true le k = (w, refl, leb-true _ _ le, sym (ok_one (at Heading (of_version w f)) b k))
+    by false le k = absurd (ok_err b Section (sym k))
+
+-- such a line leads on
+title_goes : (limits : Limits) (f : Content) (v : Version) → IsWithinNewest limits v →
+    with_title limits.newest f (titled (row v).title) ≡ Ok (at Heading (of_version v f))
+title_goes limits f v le =
+    let within : leb (row v).number (row limits.newest).number ≡ true = le-leb _ _ le in
+    ap (with_title limits.newest f) (titled_title v) ∙ rw within refl
+
+-- another is refused as a section
+title_err : (newest : Version) (f : Content) (o : Option Version) (why : Why) → with_title newest f o ≡ Err why →
+    why ≡ Section
+title_err newest f None why h = sym (err_one {A = Reached} Section why h)
+title_err newest f (Some w) why h = by (leb (row w).number (row newest).number) h
+  where
+    by : (t : Bool) → cond t (Ok (at Heading (of_version w f))) (Err Section) ≡ Err why → why ≡ Section
+    by true k = absurd (ok_err (at Heading (of_version w f)) why k)
+    by false k = sym (err_one {A = Reached} Section why k)
+
+-- and a wrong one is refused
+title_wrong : (limits : Limits) (f : Content) (line : List ℕ) → IsWrongWord limits Title f line →
+    (o : Option Version) → titled line ≡ o → with_title limits.newest f o ≡ Err Section
+title_wrong limits f line h None e = refl
+title_wrong limits f line h (Some w) e =
+    let late : leb (row w).number (row limits.newest).number ≡ false =
+    false_from_ne_true _ (λ t. h w (title_is line w e) (leb-true _ _ t)) in
+    rw late refl
+
+-- ---- what is taken
+
+-- an edit line has its form
+edit_form : (v : Version) (line : List ℕ) (e : Edit) → IsEditLine v line e → HasEditForm v line
+edit_form v line (Add p) s = (s.0, inl (inl s.1, point_form s.0 p s.2))
+edit_form v line (Take p) s = (s.0, inl (inr s.1, point_form s.0 p s.2))
+edit_form v line (Move a b) s = (
+  s.0,
+  inr (
+    s.1,
+    s.2,
+    record {
+      from = s.3.from;
+      to = s.3.to;
+      fields = s.3.fields;
+      from_form = point_form s.3.from a s.3.from_point;
+      to_form = point_form s.3.to b s.3.to_point;
+    },
+  ),
 )
 
--- nor in digits behind a minus
-signed_without : (low : ℕ) (t : Bool) (b : ℕ) (bs : List ℕ) → low < 45 → (t ≡ true → b ≡ 45) →
-    AllDigits 10 (cond t bs (b ∷ bs)) → HasNo low (b ∷ bs)
-signed_without low true b bs lt h all = (
-  ne_eqb b low (λ e. absurd (omega (arith, h refl))),
-  digits_without low bs lt
-      all,
-)
-signed_without low false b bs lt h all = digits_without low (b ∷ bs) lt all
+-- a line that is taken has its form
+taken_form : (p : Part) (f : Content) (line : List ℕ) (g : Content) → IsTaken p f line g → HasFormOf f.version p line
+taken_form Points f line g h = point_form line h.0 h.1
+taken_form Edits f line g h = edit_form f.version line h.0 h.1
+taken_form Radii f line g h = h.1.0.number
+taken_form Queries f line g h = point_form line h.0 h.1
 
--- no space or line feed stands in a number
-pub number_without : (low : ℕ) (bs : List ℕ) → low < 45 → IsNumber bs → HasNo low bs
-number_without low [] lt h = tt
-number_without low (b ∷ bs) lt h = signed_without low (eqb b 45) b bs lt (eqb-true b 45) h.1
+-- what is taken is taken of the lines that say it
+pub taken_decided : (p : Part) (f : Content) → Decides (taken p f) (IsTaken p f) (HasFormOf f.version p)
+taken_decided Points f = takes point (λ p. record f { points = f.points ++ p ∷ [] }) IsPointLine HasPointForm
+    points_decided point_form
+taken_decided Edits f = takes (edit f.version) (λ e. record f { edits = f.edits ++ e ∷ [] }) (IsEditLine f.version)
+    (HasEditForm f.version) (edits_decided f.version) (edit_form f.version)
+taken_decided Radii f = takes (radius f.version) (λ r. record f { radii = f.radii ++ r ∷ [] }) (IsRadiusLine f.version)
+    IsNumber (radii_decided f.version) (λ line r s. s.0.number)
+taken_decided Queries f = takes point (λ q. record f { queries = f.queries ++ q ∷ [] }) IsPointLine HasPointForm
+    points_decided point_form
 
--- no space stands in a number
-pub number_no_space : (bs : List ℕ) → IsNumber bs → HasNoSpace bs
-number_no_space bs h = number_without 32 bs (omega arith) h
+-- ---- a line in a list, by what is tested of it
 
--- three numbers with one space between two are the fields of their line
-three_fields : (x y z : List ℕ) → IsNumber x → IsNumber y → IsNumber z → fields_of (three_spaced x y z) ≡ x ∷ y ∷ z ∷ []
-three_fields x y z a b c =
-    let whole : three_spaced x y z ≡ x ++ (32 ∷ (y ++ 32 ∷ z)) = append_assoc x (32 ∷ y) (32 ∷ z) in
-    let first : fields_of (x ++ (32 ∷ (y ++ 32 ∷ z))) ≡ x ∷ fields_of (y ++ 32 ∷ z) =
-    fields_front x (y ++ 32 ∷ z) (number_no_space x a) in
-    let second : fields_of (y ++ 32 ∷ z) ≡ y ∷ fields_of z = fields_front y z (number_no_space y b) in
-    let third : fields_of z ≡ z ∷ [] = fields_last z (number_no_space z c) in
-    ap fields_of whole ∙ first ∙ ap (λ (fs : List (List ℕ)). x ∷ fs) (second
-    ∙ ap (λ (fs : List (List ℕ)). y ∷ fs) third)
+-- a line that led on is the word behind the list, or one that was taken
+body_ok : (w k full : Bool) (next : Reached) (r : Result Reached Why) (b : Reached) →
+    cond w (Ok next) (cond k (Err Section) (cond full (Err TooMany) r)) ≡ Ok b →
+    ((w ≡ true) × (b ≡ next)) ⊎ ((full ≡ false) × (r ≡ Ok b))
+body_ok true k full next r b h = inl (refl, sym (ok_one next b h))
+body_ok false true full next r b h = absurd (ok_err b Section (sym h))
+body_ok false false true next r b h = absurd (ok_err b TooMany (sym h))
+body_ok false false false next r b h = inr (refl, h)
 
--- a line with three fields is the three with one space between two
-from_fields : (line x y z : List ℕ) → fields_of line ≡ x ∷ y ∷ z ∷ [] → line ≡ three_spaced x y z
-from_fields line x y z e =
-    let back : line ≡ join_with_byte 32 (x ∷ y ∷ z ∷ []) = sym (join_with_byte-slice_split 32 line)
-    ∙ ap (join_with_byte 32) e in
-    back ∙ sym (append_assoc x (32 ∷ y) (32 ∷ z))
+-- why a line was refused
+body_err : (w k full : Bool) (next : Reached) (r : Result Reached Why) (why : Why) →
+    cond w (Ok next) (cond k (Err Section) (cond full (Err TooMany) r)) ≡ Err why →
+    (w ≡ false) × (((k ≡ true) × (why ≡ Section)) ⊎ ((k ≡ false) × (((full ≡ true) × (why ≡ TooMany))
+    ⊎ ((full ≡ false) × (r ≡ Err why)))))
+body_err true k full next r why h = absurd (ok_err next why h)
+body_err false true full next r why h = (refl, inl (refl, sym (err_one {A = Reached} Section why h)))
+body_err false false true next r why h =
+    (refl, inr (refl, inl (refl, sym (err_one {A = Reached} TooMany why h))))
+body_err false false false next r why h = (refl, inr (refl, inr (refl, h)))
 
--- three fields and what follows them
-pub four_fields : (x y z rest : List ℕ) → IsNumber x → IsNumber y → IsNumber z →
-    fields_of (three_spaced x y z ++ 32 ∷ rest) ≡ x ∷ y ∷ z ∷ fields_of rest
-four_fields x y z rest a b c =
-    let whole : three_spaced x y z ++ 32 ∷ rest ≡ x ++ (32 ∷ (y ++ (32 ∷ (z ++ 32 ∷ rest)))) =
-    append_assoc (x ++ 32 ∷ y) (32 ∷ z) (32 ∷ rest) ∙ append_assoc x (32 ∷ y) (32 ∷ (z ++ 32 ∷ rest)) in
-    ap fields_of whole
-    ∙ fields_front x (y ++ (32 ∷ (z ++ 32 ∷ rest))) (number_no_space x a)
-    ∙ ap (λ (fs : List (List ℕ)). x ∷ fs) (fields_front y (z ++ 32 ∷ rest) (number_no_space y b))
-    ∙ ap (λ (fs : List (List ℕ)). x ∷ y ∷ fs) (fields_front z rest (number_no_space z c))
+-- a line that is no word, where the list has room
+body_is : (w k full : Bool) (next : Reached) (r : Result Reached Why) → w ≡ false → k ≡ false → full ≡ false →
+    cond w (Ok next) (cond k (Err Section) (cond full (Err TooMany) r)) ≡ r
+body_is w k full next r a b c = rw (a, b, c) refl
 
--- a line with four fields or more is the first three, a space, and the others with spaces between
-pub from_four : (line x y z u : List ℕ) (fs : List (List ℕ)) → fields_of line ≡ x ∷ y ∷ z ∷ u ∷ fs →
-    line ≡ three_spaced x y z ++ 32 ∷ join_with_byte 32 (u ∷ fs)
-from_four line x y z u fs e =
-    let rest : List ℕ = join_with_byte 32 (u ∷ fs) in
-    let back : line ≡ join_with_byte 32 (x ∷ y ∷ z ∷ u ∷ fs) =
-    sym (join_with_byte-slice_split 32 line) ∙ ap (join_with_byte 32) e in
-    back ∙ sym (append_assoc (x ++ 32 ∷ y) (32 ∷ z) (32 ∷ rest) ∙ append_assoc x (32 ∷ y) (32 ∷ (z ++ 32 ∷ rest)))
+-- a list that is not full has room
+has_room : (limits : Limits) (p : Part) (f : Content) → is_full limits p f ≡ false → lines_in p f < most_of limits p
+has_room limits p f h = leb-false (most_of limits p) (lines_in p f) h
 
--- ---- points
+-- one with room is not full
+room_has : (limits : Limits) (p : Part) (f : Content) → lines_in p f < most_of limits p → is_full limits p f ≡ false
+room_has limits p f h = lt-leb (most_of limits p) (lines_in p f) h
 
--- three numbers are the coordinates of a point, or one of them is out of range
-point_at_cases : (a b c : ℕ) → ((a < 16384) × (b < 16384) × (c < 16384) × (point_at a b c ≡ Ok (a * 268435456 + b *
-    16384 + c))) ⊎ (point_at a b c ≡ Err Range)
-point_at_cases a b c =
-    elim (cases_lt a 16384) [
-      | inr le ↦ let e : ltb a 16384 ≡ false = le-ltb _ _ le in inr (rw e refl)
-      | inl p ↦ elim (cases_lt b 16384) [
-        | inr le ↦ let d : ltb a 16384 ≡ true = lt-ltb _ _ p in let e : ltb b 16384 ≡ false =
-            le-ltb _ _ le in inr (rw (d, e) refl)
-        | inl q ↦ elim (cases_lt c 16384) [
-          | inr le ↦ let d : ltb a 16384 ≡ true = lt-ltb _ _ p in let e : ltb b 16384 ≡ true =
-              lt-ltb _ _ q in let f : ltb c 16384 ≡ false = le-ltb _ _ le in inr (rw (d, e, f) refl)
-          | inl r ↦ let d : ltb a 16384 ≡ true = lt-ltb _ _ p in let e : ltb b 16384 ≡ true =
-              lt-ltb _ _ q in let f : ltb c 16384 ≡ true = lt-ltb _ _ r in inl (p, q, r, rw (d, e, f) refl)
-        ]
+-- and one without is
+no_room : (limits : Limits) (p : Part) (f : Content) → ¬ (lines_in p f < most_of limits p) → is_full limits p f ≡ true
+no_room limits p f h = elim (cases_lt (lines_in p f) (most_of limits p)) [
+  | inl lt ↦ absurd (h lt)
+  | inr le ↦ le-leb (most_of limits p) (lines_in p f) le
+]
+
+-- ---- a line, where this is due
+
+-- where the reading goes on, the line leads there
+at_sound : (limits : Limits) (due : Due) (f : Content) (line : List ℕ) (b : Reached) → step_at limits due f line ≡ Ok b
+    → Leads limits due f line b
+at_sound limits Title f line b h =
+    let k = title_ok limits.newest f (titled line) b h in
+    (k.0, title_is line k.0 k.1, k.2, k.3)
+at_sound limits Heading f line b h = word_ok line (codes "points") (at (Body Points) f) b h
+at_sound limits (Body p) f line b h =
+    elim (body_ok (bytes_eq line (word_behind f.version p)) (is_word f.version line) (is_full limits p f)
+    (at (due_behind f.version p) f) (then_at (at (Body p)) (taken p f line)) b h) [
+      | inl c ↦ inl ((bytes_eq-Decides line (word_behind f.version p)).0 c.0, c.1)
+      | inr c ↦
+          let k = then_ok (at (Body p)) (taken p f line) b c.1 in
+          inr (k.0, has_room limits p f c.0, (taken_decided p f).sound line k.0 k.1, k.2)
+    ]
+at_sound limits Nothing f line b h = absurd (ok_err b Section (sym h))
+
+-- where a line leads on, the reading goes there
+at_complete : (limits : Limits) (due : Due) (f : Content) (line : List ℕ) (b : Reached) → Leads limits due f line b
+    → step_at limits due f line ≡ Ok b
+at_complete limits Title f line b h =
+    ap (λ (l : List ℕ). with_title limits.newest f (titled l)) h.1 ∙ title_goes limits f h.0 h.2
+    ∙ ap (λ (r : Reached). Ok r) (sym h.3)
+at_complete limits Heading f line b h =
+    word_is line (codes "points") (at (Body Points) f) h.0 ∙ ap (λ (r : Reached). Ok r) (sym h.1)
+at_complete limits (Body p) f line b h = elim h [
+  | inl c ↦
+      let e : bytes_eq line (word_behind f.version p) ≡ true =
+      (bytes_eq-Decides line (word_behind f.version p)).1 c.0 in
+      rw e (ap (λ (r : Reached). Ok r) (sym c.1))
+  | inr c ↦
+      let read : taken p f line ≡ Ok c.0 = (taken_decided p f).complete line c.0 c.2 in
+      let none = taken_none p f line c.0 read in
+      body_is (bytes_eq line (word_behind f.version p)) (is_word f.version line) (is_full limits p f)
+      (at (due_behind f.version p) f) (then_at (at (Body p)) (taken p f line)) (none_behind f.version p line none)
+      (none_word f.version line none) (room_has limits p f c.1)
+      ∙ ap (then_at (at (Body p))) read ∙ ap (λ (r : Reached). Ok r) (sym c.3)
+]
+at_complete limits Nothing f line b h = absurd h
+
+-- why a line of a list was refused is why it is wrong
+taken_reason : (limits : Limits) (p : Part) (f : Content) (line : List ℕ) (why : Why) → taken p f line ≡ Err why →
+    is_word f.version line ≡ false → lines_in p f < most_of limits p → IsReason limits (Body p) f line why
+taken_reason limits p f line why h word room = elim ((taken_decided p f).only line why h) [
+  | inl k ↦ subst (λ (w : Why). IsReason limits (Body p) f line w) (sym k) (
+    λ t. both_ways _ word t,
+    room,
+    (taken_decided p f).field line (h ∙ ap (λ (w : Why). Err w) k),
+  )
+  | inr k ↦ subst (λ (w : Why). IsReason limits (Body p) f line w) (sym k) (
+    λ t. both_ways _ word t,
+    room,
+    (taken_decided p f).range line (h ∙ ap (λ (w : Why). Err w) k),
+    λ g is. ok_err g why (sym ((taken_decided p f).complete line g is) ∙ h),
+  )
+]
+
+-- why a line was refused
+at_reason : (limits : Limits) (due : Due) (f : Content) (line : List ℕ) (why : Why) → step_at limits due f line
+    ≡ Err why → IsReason limits due f line why
+at_reason limits Title f line why h =
+    subst (λ (w : Why). IsReason limits Title f line w) (sym (title_err limits.newest f (titled line) why h))
+    (λ v e le. ok_err (at Heading (of_version v f)) why (sym (ap (λ (l : List ℕ). with_title limits.newest f
+    (titled l)) e ∙ title_goes limits f v le) ∙ h))
+at_reason limits Heading f line why h =
+    let k = word_err line (codes "points") (at (Body Points) f) why h in
+    subst (λ (w : Why). IsReason limits Heading f line w) (sym k.1) k.0
+at_reason limits (Body p) f line why h =
+    let k = body_err (bytes_eq line (word_behind f.version p)) (is_word f.version line) (is_full limits p f)
+    (at (due_behind f.version p) f) (then_at (at (Body p)) (taken p f line)) why h in
+    elim k.1 [
+      | inl c ↦ subst (λ (w : Why). IsReason limits (Body p) f line w) (sym c.1) (
+        c.0,
+        λ e. both_ways _ k.0 ((bytes_eq-Decides line (word_behind f.version p)).1 e),
+      )
+      | inr c ↦ elim c.1 [
+        | inl d ↦ subst (λ (w : Why). IsReason limits (Body p) f line w) (sym d.1) (
+          λ t. both_ways _ c.0 t,
+          λ lt. both_ways _ (room_has limits p f lt) d.0,
+        )
+        | inr d ↦ taken_reason limits p f line why (then_err (at (Body p)) (taken p f line) why d.1) c.0
+            (has_room limits p f d.0)
       ]
     ]
+at_reason limits Nothing f line why h = subst (λ (w : Why). IsReason limits Nothing f line w)
+    (err_one {A = Reached} Section why h) tt
 
--- a point that is read
-abbrev pub done : ℕ → Result ℕ Why
-done n = Ok n
+-- a line of a list that is no word, where the list has room, comes to what is taken
+refused_taken : (limits : Limits) (p : Part) (f : Content) (line : List ℕ) (why : Why) →
+    ¬ (is_word f.version line ≡ true) → lines_in p f < most_of limits p → taken p f line ≡ Err why →
+    step_at limits (Body p) f line ≡ Err why
+refused_taken limits p f line why n room h =
+    body_is (bytes_eq line (word_behind f.version p)) (is_word f.version line) (is_full limits p f)
+    (at (due_behind f.version p) f) (then_at (at (Body p)) (taken p f line)) (not_behind f.version p line n)
+    (false_from_ne_true _ n) (room_has limits p f room)
+    ∙ ap (then_at (at (Body p))) h
 
--- what is read is read as one thing
-pub ok_same : (m n : ℕ) → done m ≡ done n → m ≡ n
-ok_same m n h = cc
+-- where a line of a list is wrong, it is refused, and for this reason
+reason_body : (limits : Limits) (p : Part) (f : Content) (line : List ℕ) (why : Why) → IsReason limits (Body p) f line
+    why → step_at limits (Body p) f line ≡ Err why
+reason_body limits p f line Section h =
+    let other : bytes_eq line (word_behind f.version p) ≡ false =
+    false_from_ne_true _ (λ t. h.1 ((bytes_eq-Decides line (word_behind f.version p)).0 t)) in
+    let word : is_word f.version line ≡ true = h.0 in
+    rw (other, word) refl
+reason_body limits p f line TooMany h =
+    let other : bytes_eq line (word_behind f.version p) ≡ false = not_behind f.version p line h.0 in
+    let word : is_word f.version line ≡ false = false_from_ne_true _ h.0 in
+    let full : is_full limits p f ≡ true = no_room limits p f h.1 in
+    rw (other, word, full) refl
+reason_body limits p f line Field h = refused_taken limits p f line Field h.0 h.1
+    (off_form (taken p f) (IsTaken p f) (HasFormOf f.version p) (taken_decided p f) (taken_form p f) line
+    (taken p f line) refl h.2)
+reason_body limits p f line Range h = refused_taken limits p f line Range h.0 h.1
+    (off_range (taken p f) (IsTaken p f) (HasFormOf f.version p) (taken_decided p f) line (taken p f line) refl h.2
+    h.3)
+reason_body limits p f line Truncated h = absurd h
 
--- what is not read is not read for one reason
-pub err_same : {A : Type 0} (v w : Why) → ◌≡◌ {A = Result A Why} (Err v) (Err w) → v ≡ w
-err_same v w h = cc
+-- so it is wherever the reading is
+reason_at : (limits : Limits) (due : Due) (f : Content) (line : List ℕ) (why : Why) → IsReason limits due f line why
+    → step_at limits due f line ≡ Err why
+reason_at limits (Body p) f line why h = reason_body limits p f line why h
+reason_at limits Title f line Section h = title_wrong limits f line h (titled line) refl
+reason_at limits Title f line TooMany h = absurd h
+reason_at limits Title f line Field h = absurd h
+reason_at limits Title f line Range h = absurd h
+reason_at limits Title f line Truncated h = absurd h
+reason_at limits Heading f line Section h = word_not line (codes "points") (at (Body Points) f) h
+reason_at limits Heading f line TooMany h = absurd h
+reason_at limits Heading f line Field h = absurd h
+reason_at limits Heading f line Range h = absurd h
+reason_at limits Heading f line Truncated h = absurd h
+reason_at limits Nothing f line Section h = refl
+reason_at limits Nothing f line TooMany h = absurd h
+reason_at limits Nothing f line Field h = absurd h
+reason_at limits Nothing f line Range h = absurd h
+reason_at limits Nothing f line Truncated h = absurd h
 
--- a line of the form, with what is read of its numbers
-record Three (line : List ℕ) : Type 0 where
-  x : List ℕ
-  y : List ℕ
-  z : List ℕ
-  a : ℕ
-  b : ℕ
-  c : ℕ
-  fields : line ≡ three_spaced x y z
-  x_read : number x ≡ Some a
-  y_read : number y ≡ Some b
-  z_read : number z ≡ Some c
-  point_read : point line ≡ point_at a b c
+-- ---- a step
 
--- what is read of a line as a point depends on its fields alone
-point_fields : (line : List ℕ) (fs : List (List ℕ)) → fields_of line ≡ fs → point line ≡ point_from_fields fs
-unfolding point
-point_fields line fs e = ap point_from_fields e
+-- a step leads where it goes
+pub step_sound : (limits : Limits) (a : Reached) (line : List ℕ) (b : Reached) → after_line limits a line ≡ Ok b →
+    Leads limits a.due a.taken line b
+unfolding after_line
+step_sound limits a line b h = at_sound limits a.due a.taken line b h
 
--- the fields of a line of a point's form are its three numbers
-form_fields : (line : List ℕ) (f : HasPointForm line) → fields_of line ≡ f.x ∷ f.y ∷ f.z ∷ []
-form_fields line f = ap fields_of f.fields ∙ three_fields f.x f.y f.z f.x_number f.y_number f.z_number
+-- and goes where the line leads
+pub step_complete : (limits : Limits) (a : Reached) (line : List ℕ) (b : Reached) →
+    Leads limits a.due a.taken line b → after_line limits a line ≡ Ok b
+unfolding after_line
+step_complete limits a line b h = at_complete limits a.due a.taken line b h
 
--- of a line of a point's form three numbers are read
-form_three : (line : List ℕ) → HasPointForm line → Three line
-form_three line f = record {
-  x = f.x;
-  y = f.y;
-  z = f.z;
-  a = reading f.x;
-  b = reading f.y;
-  c = reading f.z;
-  fields = f.fields;
-  x_read = number_read f.x f.x_number;
-  y_read = number_read f.y f.y_number;
-  z_read = number_read f.z f.z_number;
-  point_read = point_fields line (f.x ∷ f.y ∷ f.z ∷ []) (form_fields line f)
-      ∙ ap (λ (o : Option ℕ). point_from o (number f.y) (number f.z)) (number_read f.x f.x_number)
-      ∙ ap (λ (o : Option ℕ). point_from (Some (reading f.x)) o (number f.z)) (number_read f.y f.y_number)
-      ∙ ap (λ (o : Option ℕ). point_from (Some (reading f.x)) (Some (reading f.y)) o) (number_read f.z f.z_number);
-}
+-- the reason of a refusal is why the line is wrong
+pub step_reason : (limits : Limits) (a : Reached) (line : List ℕ) (why : Why) → after_line limits a line ≡ Err why →
+    IsReason limits a.due a.taken line why
+unfolding after_line
+step_reason limits a line why h = at_reason limits a.due a.taken line why h
 
--- a line of which three numbers are read is of the form
-three_form : (line : List ℕ) → Three line → HasPointForm line
-three_form line t = record {
-  x = t.x;
-  y = t.y;
-  z = t.z;
-  fields = t.fields;
-  x_number = number_some t.x t.a t.x_read;
-  y_number = number_some t.y t.b t.y_read;
-  z_number = number_some t.z t.c t.z_read;
-}
-
--- what is read of three fields
-numbers_view : (line x y z : List ℕ) (i j k : Option ℕ) → fields_of line ≡ x ∷ y ∷ z ∷ [] → number x ≡ i →
-    number y ≡ j → number z ≡ k → (point line ≡ Err Field) ⊎ Three line
-numbers_view line x y z None j k e p q r = inl (point_fields line (x ∷ y ∷ z ∷ []) e
-    ∙ ap (λ (o : Option ℕ). point_from o (number y) (number z)) p)
-numbers_view line x y z (Some a) None k e p q r =
-    inl (point_fields line (x ∷ y ∷ z ∷ []) e ∙ ap (λ (o : Option ℕ). point_from o (number y) (number z)) p
-    ∙ ap (λ (o : Option ℕ). point_from (Some a) o (number z)) q)
-numbers_view line x y z (Some a) (Some b) None e p q r =
-    inl (point_fields line (x ∷ y ∷ z ∷ []) e ∙ ap (λ (o : Option ℕ). point_from o (number y) (number z)) p
-    ∙ ap (λ (o : Option ℕ). point_from (Some a) o (number z)) q
-    ∙ ap (λ (o : Option ℕ). point_from (Some a) (Some b) o) r)
-numbers_view line x y z (Some a) (Some b) (Some c) e p q r = inr (record {
-  x = x;
-  y = y;
-  z = z;
-  a = a;
-  b = b;
-  c = c;
-  fields = from_fields line x y z e;
-  x_read = p;
-  y_read = q;
-  z_read = r;
-  point_read = point_fields line (x ∷ y ∷ z ∷ []) e ∙ ap (λ (o : Option ℕ). point_from o (number y) (number z)) p
-      ∙ ap (λ (o : Option ℕ). point_from (Some a) o (number z)) q
-      ∙ ap (λ (o : Option ℕ). point_from (Some a) (Some b) o) r;
-})
-
--- of a line with these fields no point is read for its form, or three numbers are read
-fields_view : (line : List ℕ) (fs : List (List ℕ)) → fields_of line ≡ fs → (point line ≡ Err Field) ⊎ Three line
-fields_view line [] e = inl (point_fields line [] e)
-fields_view line (x ∷ []) e = inl (point_fields line (x ∷ []) e)
-fields_view line (x ∷ y ∷ []) e = inl (point_fields line (x ∷ y ∷ []) e)
-fields_view line (x ∷ y ∷ z ∷ []) e = numbers_view line x y z (number x) (number y) (number z) e refl refl refl
-fields_view line (x ∷ y ∷ z ∷ w ∷ fs) e = inl (point_fields line (x ∷ y ∷ z ∷ w ∷ fs) e)
-
--- so it is with every line
-point_view : (line : List ℕ) → (point line ≡ Err Field) ⊎ Three line
-point_view line = fields_view line (fields_of line) refl
-
--- the coordinates of a packed point
-packed_coordinates : (a b c : ℕ) → a < 16384 → b < 16384 → c < 16384 → (x_of (a * 268435456 + b * 16384 + c) ≡ a) ×
-    (y_of (a * 268435456 + b * 16384 + c) ≡ b) × (z_of (a * 268435456 + b * 16384 + c) ≡ c)
-unfolding x_of y_of z_of
-packed_coordinates a b c p q r = (omega arith, omega arith, omega arith)
-
--- where the three numbers are the coordinates of a point, the line says that point
-three_says : (line : List ℕ) (t : Three line) (p : ℕ) → point_at t.a t.b t.c ≡ Ok p → IsPointLine line p
-three_says line t p h =
-    elim (point_at_cases t.a t.b t.c) [
-      | inr e ↦ absurd cc
-      | inl k ↦
-          let packed : ℕ = t.a * 268435456 + t.b * 16384 + t.c in
-          let same : packed ≡ p = ok_same packed p (sym k.3 ∙ h) in
-          let at = packed_coordinates t.a t.b t.c k.0 k.1 k.2 in
-          subst (λ (q : ℕ). IsPointLine line q) same (record {
-            x = t.x;
-            y = t.y;
-            z = t.z;
-            fields = t.fields;
-            x_value = of_number t.x (x_of packed) (t.x_read ∙ ap (λ (n : ℕ). Some n) (sym at.0)) (omega (
-              arith,
-              at.0,
-              k.0,
-            ));
-            y_value = of_number t.y (y_of packed) (t.y_read ∙ ap (λ (n : ℕ). Some n) (sym at.1)) (omega (
-              arith,
-              at.1,
-              k.1,
-            ));
-            z_value = of_number t.z (z_of packed) (t.z_read ∙ ap (λ (n : ℕ). Some n) (sym at.2)) (omega (
-              arith,
-              at.2,
-              k.2,
-            ));
-            key = omega (arith, k.0, k.1, k.2);
-          })
-    ]
-
--- a point that is read of a line is what the line says
-pub point_sound : (line : List ℕ) (p : ℕ) → point line ≡ Ok p → IsPointLine line p
-point_sound line p h =
-    elim (point_view line) [
-      | inl e ↦ absurd cc
-      | inr t ↦ three_says line t p (sym t.point_read ∙ h)
-    ]
-
--- a point that a line says is read of it
-pub point_complete : (line : List ℕ) (p : ℕ) → IsPointLine line p → point line ≡ Ok p
-point_complete line p s =
-    let below = coordinate_below p in
-    let f : HasPointForm line = record {
-      x = s.x;
-      y = s.y;
-      z = s.z;
-      fields = s.fields;
-      x_number =
-          s.x_value.number;
-      y_number = s.y_value.number;
-      z_number = s.z_value.number;
-    } in
-    point_fields line (s.x ∷ s.y ∷ s.z ∷ []) (form_fields line f)
-    ∙ ap (λ (o : Option ℕ). point_from o (number s.y) (number s.z)) (number_of s.x (x_of p) s.x_value
-    (omega (arith, below.0)))
-    ∙ ap (λ (o : Option ℕ). point_from (Some (x_of p)) o (number s.z)) (number_of s.y (y_of p) s.y_value
-    (omega (arith, below.1)))
-    ∙ ap (λ (o : Option ℕ). point_from (Some (x_of p)) (Some (y_of p)) o) (number_of s.z (z_of p) s.z_value
-    (omega (arith, below.2)))
-    ∙ point_at_own p s.key
-
--- coordinates are never wrong in form
-point_at_field : (a b c : ℕ) → point_at a b c ≡ Err Field → ⊥
-point_at_field a b c h = elim (point_at_cases a b c) [ inl k ↦ (let e = k.3 in absurd cc) | inr e ↦ absurd cc ]
-
--- a line that is refused for its form is not of it
-pub point_field : (line : List ℕ) → point line ≡ Err Field → HasPointForm line → ⊥
-point_field line h f = let t = form_three line f in point_at_field t.a t.b t.c (sym t.point_read ∙ h)
-
--- one that is refused for its range is of the form
-pub point_range : (line : List ℕ) → point line ≡ Err Range → HasPointForm line
-point_range line h = elim (point_view line) [ inl e ↦ absurd cc | inr t ↦ three_form line t ]
-
--- a point line is refused for its form or for its range
-pub point_only : (line : List ℕ) (why : Why) → point line ≡ Err why → (why ≡ Field) ⊎ (why ≡ Range)
-point_only line why h =
-    elim (point_view line) [
-      | inl e ↦ inl (err_same why Field (sym h ∙ e))
-      | inr t ↦ elim (point_at_cases t.a t.b t.c) [
-        | inl k ↦ let e = t.point_read in let f = k.3 in absurd cc
-        | inr e ↦ inr (err_same why Range (sym h ∙ t.point_read ∙ e))
-      ]
-    ]
-
--- so reading a point decides what a line says
-pub points_decided : Decides point IsPointLine HasPointForm
-points_decided = record {
-  sound = point_sound;
-  complete = point_complete;
-  field = point_field;
-  range =
-      point_range;
-  only = point_only;
-}
+-- and where a line is wrong it is refused for that reason
+pub reason_step : (limits : Limits) (a : Reached) (line : List ℕ) (why : Why) →
+    IsReason limits a.due a.taken line why → after_line limits a line ≡ Err why
+unfolding after_line
+reason_step limits a line why h = reason_at limits a.due a.taken line why h

@@ -1,22 +1,23 @@
 -- The same of edit lines and of radius lines.
-use Rattle.std.proofs.Common.{◌≡◌, ℕ, ◌<◌, ◌≤◌, Bool, true, false, eqb, ltb, ◌⊎◌, List, [], ◌∷◌, Option, Some, None}
-use Rattle.std.proofs.Common.{Result, Ok, Err, refl, sym, ap, subst, ◌∙◌, arith, inl, inr, lit<}
+use Rattle.std.proofs.Common.{◌≡◌, ℕ, ◌<◌, ◌≤◌, Bool, true, false, eqb, ltb, ◌⊎◌, List, [], ◌∷◌, Option, Some, None, Ok}
+use Rattle.std.proofs.Common.{Err, refl, sym, ap, subst, ◌∙◌, arith, inl, inr, lit<}
 use Rattle.std.specs.Prelude.{IsTrue}
 use Rattle.std.proofs.lemmas.Bool.{cases_lt, lt-ltb, le-ltb}
 use Rattle.std.proofs.lemmas.Bool.Decides.{eqb_tells}
 use Rattle.edit_history.specs.declared.history.Edit.{Edit}
 use Rattle.edit_history.specs.declared.history.Edit.TheVariants.{Add, Take, Move}
-use Rattle.edit_files.specs.declared.fault.Why.{Why}
-use Rattle.edit_files.specs.declared.fault.Why.TheVariants.{Field, Range}
+use Rattle.text_readings.specs.declared.fault.Why.{Why}
+use Rattle.text_readings.specs.declared.fault.Why.TheVariants.{Field, Range}
 use Rattle.edit_files.specs.declared.version.Version.{Version}
 use Rattle.edit_files.specs.declared.version.Version.TheVariants.{One, Two, Three, Four}
 use Rattle.edit_files.specs.Versions.{row}
-use Rattle.edit_files.specs.Numbers.{IsNumber}
-use Rattle.edit_files.specs.Forms.{HasPointForm, HasPairForm, HasEditForm, IsEditLine, IsRadiusLine}
-use Rattle.edit_files.specs.Judging.{far, number, point, edit, edit_from, radius, radius_from}
-use Rattle.edit_files.proofs.Values.{number_some, number_none_not, number_of, of_number}
-use Rattle.edit_files.proofs.Decided.{Decides, point_sound, point_complete, point_field, point_range, point_only}
-use Rattle.edit_files.proofs.Decided.{err_same, ok_same}
+use Rattle.text_readings.specs.Numbers.{IsNumber}
+use Rattle.text_readings.specs.PointLines.{HasPointForm}
+use Rattle.edit_files.specs.Forms.{HasPairForm, HasEditForm, IsEditLine, IsRadiusLine}
+use Rattle.text_readings.specs.Scanning.{far, number, point}
+use Rattle.edit_files.specs.Judging.{edit, edit_from, radius, radius_from}
+use Rattle.text_readings.proofs.Cited.{number_some, number_none_not, number_of, of_number, Decides, point_sound}
+use Rattle.text_readings.proofs.Cited.{point_complete, point_field, point_range, point_only, err_same, ok_same}
 use Rattle.edit_files.proofs.Pairs.{from_ok, from_err, move_line, pair_sound, pair_complete, pair_field, pair_range}
 use Rattle.edit_files.proofs.Pairs.{pair_only, refused_same}
 

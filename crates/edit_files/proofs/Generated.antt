@@ -15,12 +15,10 @@ use Rattle.edit_history.specs.declared.history.Edit.TheVariants.{Add, Take, Move
 use Rattle.edit_history.specs.Edits.{HasKeys, is_move, point_of}
 use Rattle.edit_history.specs.Opening.{opening_four}
 use Rattle.plain_laws.specs.Plain.{IsAnchored}
-use Rattle.std.specs.Prelude.{All}
-use Rattle.list_laws.proofs.Cited.{all_of_each, mapped_from}
 use Rattle.edit_files.specs.Grammar.{up_to}
 use Rattle.edit_files.specs.declared.version.Version.TheVariants.{One}
 use Rattle.edit_files.specs.Writing.{IsEditOf, IsWithinLimits}
-use Rattle.edit_files.specs.Keys.{coordinate_count, key_of}
+use Rattle.text_readings.specs.Keys.{coordinate_count, key_of}
 use Rattle.edit_files.specs.Generator.{next_state, state_after, draw, draw_of, drawn_point, most_edits, point_behind}
 use Rattle.edit_files.specs.Generator.{draws_before, drawn_by, corners, back_to, edit_line, generated}
 

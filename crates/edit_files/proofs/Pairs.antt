@@ -1,19 +1,20 @@
 -- Lines of two places, as a move has them.
-use Rattle.std.proofs.Common.{◌≡◌, ℕ, ◌+◌, ◌-◌, ◌<◌, ◌≤◌, ◌⊎◌, List, [], ◌∷◌, ◌++◌, length, take, Option, Some, None}
-use Rattle.std.proofs.Common.{Result, Ok, Err, refl, sym, ap, subst, ◌∙◌, arith, inl, inr}
+use Rattle.std.proofs.Common.{◌≡◌, ℕ, ◌+◌, ◌-◌, ◌≤◌, ◌⊎◌, List, [], ◌∷◌, ◌++◌, length, take, Some, None, Result, Ok}
+use Rattle.std.proofs.Common.{Err, refl, sym, ap, subst, ◌∙◌, arith, inl, inr}
 use Rattle.std.specs.List.{join_with_byte}
 use Rattle.std.proofs.Math.Seq.{take-append_seam}
 use Rattle.std.proofs.lemmas.List.{length-append}
 use Rattle.std.proofs.lemmas.List.Splits.{join_with_byte-slice_split}
 use Rattle.edit_history.specs.declared.history.Edit.{Edit}
 use Rattle.edit_history.specs.declared.history.Edit.TheVariants.{Move}
-use Rattle.edit_files.specs.declared.fault.Why.{Why}
-use Rattle.edit_files.specs.declared.fault.Why.TheVariants.{Section, Field, Range, TooMany, Truncated}
-use Rattle.edit_files.specs.Forms.{HasPointForm, HasPairForm, IsPairLine, three_spaced}
-use Rattle.edit_files.specs.Judging.{point, fields_of, halves, halves_of, worse, move_from, move_of, edit_from}
-use Rattle.edit_files.proofs.Points.{some_field}
-use Rattle.edit_files.proofs.Decided.{four_fields, from_four, point_sound, point_complete, point_field, point_range}
-use Rattle.edit_files.proofs.Decided.{point_only}
+use Rattle.text_readings.specs.declared.fault.Why.{Why}
+use Rattle.text_readings.specs.declared.fault.Why.TheVariants.{Section, Field, Range, TooMany, Truncated}
+use Rattle.text_readings.specs.PointLines.{HasPointForm, three_spaced}
+use Rattle.edit_files.specs.Forms.{HasPairForm, IsPairLine}
+use Rattle.text_readings.specs.Scanning.{point, fields_of}
+use Rattle.edit_files.specs.Judging.{halves, halves_of, worse, move_from, move_of, edit_from}
+use Rattle.text_readings.proofs.Cited.{some_field, four_fields, from_four, point_sound, point_complete, point_field}
+use Rattle.text_readings.proofs.Cited.{point_range, point_only}
 
 -- ---- two places
 

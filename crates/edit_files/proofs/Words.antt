@@ -1,50 +1,43 @@
--- Section words, and lists of lines that have none.
-use Rattle.std.proofs.Common.{◌≡◌, ℕ, Bool, true, false, cond, ◌||◌, ◌&&◌, not, List, [], ◌∷◌, ◌++◌, length, Result, Ok}
-use Rattle.std.proofs.Common.{Err, refl, sym, ap, ◌∙◌, arith}
+-- Section words, which no line of a list is.
+use Rattle.std.proofs.Common.{◌≡◌, ℕ, Bool, true, false, cond, ◌&&◌, List, Ok, Err, refl, sym, ap, ◌∙◌}
 use Rattle.std.specs.Prelude.{codes}
-use Rattle.std.specs.List.{AllByRecursion, AllZip, count_by}
 use Rattle.std.specs.Str.{bytes_eq}
-use Rattle.std.proofs.lemmas.Bool.{or_parts, or_from, false_from_ne_true}
+use Rattle.std.proofs.lemmas.Bool.{or_from, false_from_ne_true}
 use Rattle.std.proofs.lemmas.Slice.Eq.{bytes_eq-Decides}
-use Rattle.std.proofs.lemmas.List.Sums.{sum_by-cons}
-use Rattle.edit_files.specs.declared.fault.Why.{Why}
-use Rattle.edit_files.specs.declared.fault.Why.TheVariants.{Field}
+use Rattle.text_readings.specs.declared.fault.Why.TheVariants.{Field}
+use Rattle.text_readings.specs.Scanning.{digits, digits_from, number, point}
+use Rattle.text_readings.proofs.Cited.{ok_err}
+use Rattle.edit_files.specs.declared.place.Part.{Part}
+use Rattle.edit_files.specs.declared.place.Part.TheVariants.{Points, Edits, Radii, Queries}
 use Rattle.edit_files.specs.declared.version.Version.{Version}
+use Rattle.edit_files.specs.declared.version.Version.TheVariants.{One, Two, Three, Four}
+use Rattle.edit_files.specs.Content.{Content}
+use Rattle.edit_files.specs.Faults.{is_word}
+use Rattle.edit_files.specs.Grammar.{word_behind}
+use Rattle.edit_files.specs.Judging.{edit, radius, taken}
 use Rattle.edit_files.specs.Versions.{row}
-use Rattle.edit_files.specs.Forms.{IsPointLine, IsEditLine, IsRadiusLine}
-use Rattle.edit_files.specs.Faults.{is_word, lines_after, has_line}
-use Rattle.edit_files.specs.Judging.{point, edit, radius, number, digits, digits_from}
-use Rattle.edit_files.proofs.Decided.{points_decided}
-use Rattle.edit_files.proofs.DecidedEdits.{edits_decided, radii_decided}
 
 -- no section word is of the form of a list's lines
-record ReadsNoWord {A : Type 0} (read : List ℕ → Result A Why) : Type 0 where
-  points : read (codes "points") ≡ Err Field
-  edits : read (codes "edits") ≡ Err Field
-  radii : read (codes "radii") ≡ Err Field
-  queries : read (codes "queries") ≡ Err Field
-  end : read (codes "end") ≡ Err Field
+record TakesNoWord (p : Part) (f : Content) : Type 0 where
+  points : taken p f (codes "points") ≡ Err Field
+  edits : taken p f (codes "edits") ≡ Err Field
+  radii : taken p f (codes "radii") ≡ Err Field
+  queries : taken p f (codes "queries") ≡ Err Field
+  end : taken p f (codes "end") ≡ Err Field
 
--- no section word is read as a point
-words_point : ReadsNoWord point
-unfolding point number digits digits_from
-words_point = record { points = refl; edits = refl; radii = refl; queries = refl; end = refl }
+-- none is taken in a list
+no_word_taken : (p : Part) (f : Content) → TakesNoWord p f
+unfolding edit radius point number digits digits_from
+no_word_taken Points f = record { points = refl; edits = refl; radii = refl; queries = refl; end = refl }
+no_word_taken Edits f = record { points = refl; edits = refl; radii = refl; queries = refl; end = refl }
+no_word_taken Radii f = record { points = refl; edits = refl; radii = refl; queries = refl; end = refl }
+no_word_taken Queries f = record { points = refl; edits = refl; radii = refl; queries = refl; end = refl }
 
--- none as an edit
-words_edit : (v : Version) → ReadsNoWord (edit v)
-unfolding edit point number digits digits_from
-words_edit v = record { points = refl; edits = refl; radii = refl; queries = refl; end = refl }
-
--- and none as a radius
-words_radius : (v : Version) → ReadsNoWord (radius v)
-unfolding radius number digits digits_from
-words_radius v = record { points = refl; edits = refl; radii = refl; queries = refl; end = refl }
-
--- a line that is read is not a word that is not
-other : {A : Type 0} (read : List ℕ → Result A Why) (line word : List ℕ) (a : A) → read line ≡ Ok a →
-    read word ≡ Err Field → bytes_eq line word ≡ false
-other read line word a h w = false_from_ne_true (bytes_eq line word) (λ t. let same : line ≡ word =
-    (bytes_eq-Decides line word).0 t in let e : read word ≡ Ok a = sym (ap read same) ∙ h in absurd cc)
+-- a line that is taken is not a word that is not
+other : (p : Part) (f : Content) (line word : List ℕ) (g : Content) → taken p f line ≡ Ok g →
+    taken p f word ≡ Err Field → bytes_eq line word ≡ false
+other p f line word g h w = false_from_ne_true (bytes_eq line word)
+    (λ t. ok_err g Field (sym h ∙ ap (taken p f) ((bytes_eq-Decides line word).0 t) ∙ w))
 
 -- a line that is no section word of any version
 pub record IsNone (line : List ℕ) : Type 0 where
@@ -54,28 +47,15 @@ pub record IsNone (line : List ℕ) : Type 0 where
   pub queries : bytes_eq line (codes "queries") ≡ false
   pub end : bytes_eq line (codes "end") ≡ false
 
--- so a line that is read is no section word
-no_word : {A : Type 0} (read : List ℕ → Result A Why) (r : ReadsNoWord read) (line : List ℕ) (a : A) →
-    read line ≡ Ok a → IsNone line
-no_word read r line a h = record {
-  points = other read line (codes "points") a h r.points;
-  edits = other read line (codes "edits") a h r.edits;
-  radii = other read line (codes "radii") a h r.radii;
-  queries = other read line (codes "queries") a h r.queries;
-  end = other read line (codes "end") a h r.end;
+-- so a line that is taken is none
+pub taken_none : (p : Part) (f : Content) (line : List ℕ) (g : Content) → taken p f line ≡ Ok g → IsNone line
+taken_none p f line g h = let w = no_word_taken p f in record {
+  points = other p f line (codes "points") g h w.points;
+  edits = other p f line (codes "edits") g h w.edits;
+  radii = other p f line (codes "radii") g h w.radii;
+  queries = other p f line (codes "queries") g h w.queries;
+  end = other p f line (codes "end") g h w.end;
 }
-
--- a point line is none
-pub point_no_word : (line : List ℕ) (p : ℕ) → IsPointLine line p → IsNone line
-point_no_word line p s = no_word point words_point line p (points_decided.complete line p s)
-
--- an edit line is none
-pub edit_no_word : (v : Version) (line : List ℕ) (e : _) → IsEditLine v line e → IsNone line
-edit_no_word v line e s = no_word (edit v) (words_edit v) line e ((edits_decided v).complete line e s)
-
--- and a radius line is none
-pub radius_no_word : (v : Version) (line : List ℕ) (r : ℕ) → IsRadiusLine v line r → IsNone line
-radius_no_word v line r s = no_word (radius v) (words_radius v) line r ((radii_decided v).complete line r s)
 
 -- it is none of a version
 pub none_word : (v : Version) (line : List ℕ) → IsNone line → is_word v line ≡ false
@@ -87,38 +67,38 @@ none_word v line n =
     by true = refl
     by false = refl
 
--- no line is a section word
-abbrev pub HaveNoWord : List (List ℕ) → Type 0
-HaveNoWord lines = AllByRecursion IsNone lines
+-- and not the word behind a list
+pub none_behind : (v : Version) (p : Part) (line : List ℕ) → IsNone line → bytes_eq line (word_behind v p) ≡ false
+none_behind v Points line n = n.edits
+none_behind v Edits line n = n.radii
+none_behind v Radii line n = by (row v).queries
+  where
+    by : (b : Bool) → bytes_eq line (cond b (codes "queries") (codes "end")) ≡ false
+    by true = n.queries
+    by false = n.end
+none_behind v Queries line n = n.end
 
--- lines that say the values of a list are none, where a line that says a value is none
-pub said_no_word : {A : Type 0} (Says : List ℕ → A → Type 0) → ((line : List ℕ) (a : A) → Says line a → IsNone line) →
-    (lines : List (List ℕ)) (vs : List A) → AllZip Says lines vs → HaveNoWord lines
-said_no_word Says h [] vs z = tt
-said_no_word Says h (l ∷ ls) [] z = absurd z
-said_no_word Says h (l ∷ ls) (v ∷ vs) z = (h l v z.0, said_no_word Says h ls vs z.1)
+-- the word behind a list is a section word
+behind_word : (v : Version) (p : Part) → is_word v (word_behind v p) ≡ true
+behind_word One Points = refl
+behind_word One Edits = refl
+behind_word One Radii = refl
+behind_word One Queries = refl
+behind_word Two Points = refl
+behind_word Two Edits = refl
+behind_word Two Radii = refl
+behind_word Two Queries = refl
+behind_word Three Points = refl
+behind_word Three Edits = refl
+behind_word Three Radii = refl
+behind_word Three Queries = refl
+behind_word Four Points = refl
+behind_word Four Edits = refl
+behind_word Four Radii = refl
+behind_word Four Queries = refl
 
--- a section word does not stand among lines that are none
-pub has_none : (word : List ℕ) → ((line : List ℕ) → IsNone line → bytes_eq line word ≡ false) →
-    (lines : List (List ℕ)) → HaveNoWord lines → has_line word lines ≡ false
-has_none word h [] z = refl
-has_none word h (l ∷ ls) z = or_from _ _ (h l z.0) (has_none word h ls z.1)
-
--- all lines count that are no section words
-pub count_all : (v : Version) (lines : List (List ℕ)) → HaveNoWord lines →
-    count_by (λ line. not (is_word v line)) lines ≡ length lines
-count_all v [] z = refl
-count_all v (l ∷ ls) z =
-    let f : List ℕ → ℕ = λ line. cond (not (is_word v line)) 1 0 in
-    let here : f l ≡ 1 = rw (none_word v l z.0) refl in
-    sum_by-cons f l ls ∙ omega (arith, here, count_all v ls z.1)
-
--- behind the first place of a word are the lines that follow it
-pub lines_after_at : (word : List ℕ) (front rest : List (List ℕ)) → bytes_eq word word ≡ true →
-    has_line word front ≡ false →
-    lines_after word (front ++ word ∷ rest) ≡ rest
-lines_after_at word [] rest w h = rw w refl
-lines_after_at word (l ∷ ls) rest w h =
-    let p = or_parts (bytes_eq l word) (has_line word ls) h in
-    let e : bytes_eq l word ≡ false = p.0 in
-    rw e (lines_after_at word ls rest w p.1)
+-- so a line that is none is not that word
+pub not_behind : (v : Version) (p : Part) (line : List ℕ) → (is_word v line ≡ true → ⊥) →
+    bytes_eq line (word_behind v p) ≡ false
+not_behind v p line n = false_from_ne_true (bytes_eq line (word_behind v p))
+    (λ t. n (ap (is_word v) ((bytes_eq-Decides line (word_behind v p)).0 t) ∙ behind_word v p))

@@ -1,61 +1,34 @@
--- The lines that are written of a file are its lines.
-use Rattle.std.proofs.Common.{◌≡◌, ℕ, ◌+◌, ◌<◌, ◌≤◌, ◌^◌, true, false, List, [], ◌∷◌, ◌++◌, length, get_or, drop, refl}
-use Rattle.std.proofs.Common.{sym, ap, subst, ◌∙◌, arith, append_assoc, append-nil, map}
+-- What is written of a file within its limits is read as it; and each file that is read is within them.
+use Rattle.std.proofs.Common.{◌≡◌, ℕ, ◌+◌, ◌<◌, ◌≤◌, Bool, true, false, cond, List, [], ◌∷◌, ◌++◌, length, get_or, drop}
+use Rattle.std.proofs.Common.{refl, sym, ap, subst, ◌∙◌, arith, append_assoc, append-nil, inl, inr, lit≤, map}
 use Rattle.std.specs.Prelude.{codes, decimal}
-use Rattle.std.specs.Str.Parse.{IsNumeral, digits_value, starts_with_minus}
-use Rattle.std.proofs.lemmas.Bool.{ne_eqb, both_ways}
-use Rattle.std.proofs.lemmas.Fmt.{decimal_is_IsNumeral}
-use Rattle.std.proofs.lemmas.List.{length-map, at_drop_more, at_drop_all}
-use Rattle.std.proofs.lemmas.Str.Parse.{digit_from_value}
-use Rattle.list_laws.proofs.Cited.{length_zip, zip_all, zip_map}
-use Rattle.point_order.specs.Coordinates.{x_of, y_of, z_of, IsKey}
+use Rattle.std.specs.List.{AllByRecursion}
+use Rattle.std.proofs.lemmas.Bool.{both_ways}
+use Rattle.std.proofs.lemmas.List.{at_drop_more, at_drop_all, length-append}
+use Rattle.point_order.specs.Coordinates.{IsKey}
 use Rattle.edit_history.specs.declared.history.Edit.{Edit}
 use Rattle.edit_history.specs.declared.history.Edit.TheVariants.{Add, Take, Move}
-use Rattle.edit_files.specs.Content.{Content}
-use Rattle.edit_files.specs.Lines.{text_of}
-use Rattle.edit_files.specs.Numbers.{IsNumberOf, after_minus}
-use Rattle.edit_files.specs.Forms.{IsPointLine, IsEditLine, IsRadiusLine}
-use Rattle.edit_files.specs.Grammar.{IsFile, Limits, query_section}
-use Rattle.edit_files.specs.Versions.{row}
+use Rattle.text_readings.specs.Lines.{lines_of, text_of}
+use Rattle.text_readings.specs.PointLines.{line_of_point}
+use Rattle.text_readings.specs.Readings.{AllLead}
+use Rattle.text_readings.proofs.Cited.{decimal_is, lead_append, lines_of_text, point_line, text_of_append}
+use Rattle.edit_files.specs.declared.place.Part.{Part}
+use Rattle.edit_files.specs.declared.place.Part.TheVariants.{Points, Edits, Radii, Queries}
+use Rattle.edit_files.specs.declared.place.Due.{Due}
+use Rattle.edit_files.specs.declared.place.Due.TheVariants.{Title, Heading, Body, Nothing}
 use Rattle.edit_files.specs.declared.version.Version.{Version}
-use Rattle.std.specs.List.{AllZip}
-use Rattle.edit_files.specs.Writing.{edit_text, file_lines, file_text, IsEditOf, line_of_point, IsWithinLimits}
-use Rattle.edit_files.proofs.Points.{coordinate_below}
-use Rattle.edit_files.proofs.Texts.{text_is_file}
+use Rattle.edit_files.specs.declared.version.Version.TheVariants.{One, Two, Three, Four}
+use Rattle.edit_files.specs.Content.{Content}
+use Rattle.edit_files.specs.Forms.{IsEditLine, IsRadiusLine}
+use Rattle.edit_files.specs.Grammar.{IsFile, IsTaken, Leads, LeadsOn, Limits, Reached, at_end, at_title, due_behind}
+use Rattle.edit_files.specs.Grammar.{lines_in, most_of, no_content, query_limit, radius_limit}
+use Rattle.edit_files.specs.Versions.{row}
+use Rattle.edit_files.specs.Writing.{IsEditOf, IsWithinLimits, edit_text, file_lines, file_text, query_section}
+use Rattle.edit_files.proofs.Decided.{at}
 use Rattle.edit_files.proofs.DecidedEdits.{end_far}
-use Rattle.edit_files.proofs.Fronts.{to_points, to_edits, to_radii}
+use Rattle.edit_files.proofs.Texts.{all_no_feed}
 
--- digits begin with no minus
-pub no_minus : (ds : List ℕ) → IsNumeral 10 ds → starts_with_minus ds ≡ false
-no_minus [] h = absurd (omega (arith, h.0))
-no_minus (c ∷ cs) h = let w = digit_from_value c h.1.0 in ne_eqb c 45 (λ e. absurd (omega (arith, w.0)))
-
--- what is written of a number below 2^64 is that number
-pub decimal_is : (n : ℕ) → n < 2 ^ 64 → IsNumberOf (decimal n) n
-decimal_is n lt =
-    let d = decimal_is_IsNumeral n lt in
-    let plain : starts_with_minus (decimal n) ≡ false = no_minus (decimal n) d.0 in
-    let same : after_minus (decimal n) ≡ decimal n = rw plain refl in
-    record {
-      number = subst (λ (ds : List ℕ). IsNumeral 10 ds) (sym same) d.0;
-      value = ap (digits_value 10) same ∙ d.1;
-      minus = λ t. absurd (both_ways _ plain t);
-    }
-
--- what is written of a key says the point
-pub point_line : (p : ℕ) → IsKey p → IsPointLine (line_of_point p) p
-point_line p key =
-    let below = coordinate_below p in
-    record {
-      x = decimal (x_of p);
-      y = decimal (y_of p);
-      z = decimal (z_of p);
-      fields = refl;
-      x_value = decimal_is (x_of p) (omega (arith, below.0));
-      y_value = decimal_is (y_of p) (omega (arith, below.1));
-      z_value = decimal_is (z_of p) (omega (arith, below.2));
-      key = key;
-    }
+-- ---- a line
 
 -- what is written of an edit that the version may hold says the edit
 edit_line : (v : Version) (e : Edit) → IsEditOf v e → IsEditLine v (edit_text e) e
@@ -78,30 +51,152 @@ edit_line v (Move a b) k = (
 radius_line : (v : Version) (r : ℕ) → r < (row v).radius_end → IsRadiusLine v (decimal r) r
 radius_line v r lt = (decimal_is r (omega (arith, lt, end_far v)), lt)
 
--- what is written of no queries is nothing
-none_written : (v : Version) (queries : List ℕ) → ((row v).queries ≡ false → queries ≡ []) → (row v).queries ≡ false →
-    map line_of_point queries ≡ []
-none_written v queries h none = ap (map line_of_point) (h none)
+-- ---- the lines of a list
+
+-- the lines that are written of points are taken as these
+points_lead : (limits : Limits) (f : Content) (ps : List ℕ) → AllByRecursion IsKey ps →
+    lines_in Points f + length ps ≤ limits.lines → AllLead (LeadsOn limits) (map line_of_point ps)
+    (at (Body Points) f) (at (Body Points) (record f { points = f.points ++ ps }))
+points_lead limits f [] all le =
+    ap (λ (v : List ℕ). at (Body Points) (record f { points = v })) (sym (append-nil f.points))
+points_lead limits f (p ∷ ps) all le =
+    let g : Content = record f { points = f.points ++ p ∷ [] } in (
+      at (Body Points) g,
+      inr (g, omega arith, (p, point_line p all.0, refl), refl),
+      subst (λ (v : List ℕ). AllLead (LeadsOn limits) (map line_of_point ps) (at (Body Points) g) (at (Body Points)
+          (record f { points = v }))) (append_assoc f.points (p ∷ []) ps)
+          (points_lead limits g ps all.1 (omega (arith, length-append f.points (p ∷ []), le))),
+    )
+
+-- those of edits
+edits_lead : (limits : Limits) (f : Content) (es : List Edit) → AllByRecursion (IsEditOf f.version) es →
+    lines_in Edits f + length es ≤ limits.lines → AllLead (LeadsOn limits) (map edit_text es)
+    (at (Body Edits) f) (at (Body Edits) (record f { edits = f.edits ++ es }))
+edits_lead limits f [] all le =
+    ap (λ (v : List Edit). at (Body Edits) (record f { edits = v })) (sym (append-nil f.edits))
+edits_lead limits f (e ∷ es) all le =
+    let g : Content = record f { edits = f.edits ++ e ∷ [] } in (
+      at (Body Edits) g,
+      inr (g, omega arith, (e, edit_line f.version e all.0, refl), refl),
+      subst (λ (v : List Edit). AllLead (LeadsOn limits) (map edit_text es) (at (Body Edits) g) (at (Body Edits)
+          (record f { edits = v }))) (append_assoc f.edits (e ∷ []) es)
+          (edits_lead limits g es all.1 (omega (arith, length-append f.edits (e ∷ []), le))),
+    )
+
+-- those of radii
+radii_lead : (limits : Limits) (f : Content) (rs : List ℕ) → AllByRecursion (λ r. r < (row f.version).radius_end) rs →
+    length f.radii + length rs ≤ radius_limit → AllLead (LeadsOn limits) (map decimal rs)
+    (at (Body Radii) f) (at (Body Radii) (record f { radii = f.radii ++ rs }))
+radii_lead limits f [] all le =
+    ap (λ (v : List ℕ). at (Body Radii) (record f { radii = v })) (sym (append-nil f.radii))
+radii_lead limits f (r ∷ rs) all le =
+    let g : Content = record f { radii = f.radii ++ r ∷ [] } in (
+      at (Body Radii) g,
+      inr (g, omega arith, (r, radius_line f.version r all.0, refl), refl),
+      subst (λ (v : List ℕ). AllLead (LeadsOn limits) (map decimal rs) (at (Body Radii) g) (at (Body Radii)
+          (record f { radii = v }))) (append_assoc f.radii (r ∷ []) rs)
+          (radii_lead limits g rs all.1 (omega (arith, length-append f.radii (r ∷ []), le))),
+    )
+
+-- and those of queries
+queries_lead : (limits : Limits) (f : Content) (qs : List ℕ) → AllByRecursion IsKey qs →
+    length f.queries + length qs ≤ query_limit → AllLead (LeadsOn limits) (map line_of_point qs)
+    (at (Body Queries) f) (at (Body Queries) (record f { queries = f.queries ++ qs }))
+queries_lead limits f [] all le =
+    ap (λ (v : List ℕ). at (Body Queries) (record f { queries = v })) (sym (append-nil f.queries))
+queries_lead limits f (q ∷ qs) all le =
+    let g : Content = record f { queries = f.queries ++ q ∷ [] } in (
+      at (Body Queries) g,
+      inr (g, omega arith, (q, point_line q all.0, refl), refl),
+      subst (λ (v : List ℕ). AllLead (LeadsOn limits) (map line_of_point qs) (at (Body Queries) g) (at (Body Queries)
+          (record f { queries = v }))) (append_assoc f.queries (q ∷ []) qs)
+          (queries_lead limits g qs all.1 (omega (arith, length-append f.queries (q ∷ []), le))),
+    )
+
+-- ---- the whole file
+
+-- the lines of the lists, up to each
+abbrev pub to_points : Version → List (List ℕ) → List (List ℕ)
+to_points v pls = (row v).title ∷ codes "points" ∷ pls
+
+-- up to the edits
+abbrev pub to_edits : Version → List (List ℕ) → List (List ℕ) → List (List ℕ)
+to_edits v pls els = to_points v pls ++ codes "edits" ∷ els
+
+-- up to the radii
+abbrev pub to_radii : Version → List (List ℕ) → List (List ℕ) → List (List ℕ) → List (List ℕ)
+to_radii v pls els rls = to_edits v pls els ++ codes "radii" ∷ rls
+
+-- a file without queries yet
+abbrev unqueried : Content → Content
+unqueried f = record f { queries = [] }
+
+-- the lines up to the radii lead to these
+to_radii_lead : (limits : Limits) (f : Content) → IsWithinLimits limits f → AllLead (LeadsOn limits)
+    (to_radii f.version (map line_of_point f.points) (map edit_text f.edits) (map decimal f.radii)) at_title
+    (at (Body Radii) (unqueried f))
+to_radii_lead limits f w =
+    let none : Content = record no_content { version = f.version } in
+    let points : Content = record none { points = f.points } in
+    let edits : Content = record points { edits = f.edits } in
+    lead_append (LeadsOn limits)
+    (to_edits f.version (map line_of_point f.points) (map edit_text f.edits)) (codes "radii" ∷ map decimal f.radii)
+    at_title (at (Body Edits) edits) (at (Body Radii) (unqueried f))
+    (lead_append (LeadsOn limits) (to_points f.version (map line_of_point f.points))
+    (codes "edits" ∷ map edit_text f.edits) at_title (at (Body Points) points) (at (Body Edits) edits) (
+      at Heading none,
+      (f.version, refl, w.version, refl),
+      (
+        at (Body Points) none,
+        (refl, refl),
+        points_lead limits none f.points w.points (omega (arith, w.line_count)),
+      ),
+    ) (
+      at (Body Edits) points,
+      inl (refl, refl),
+      edits_lead limits points f.edits w.edits (omega
+          (arith, w.line_count)),
+    ))
+    (at (Body Radii) edits, inl (refl, refl), radii_lead limits edits f.radii w.radii (omega (arith, w.radius_count)))
+
+-- those behind the radii lead from there to the end
+end_lead : (limits : Limits) (f : Content) (has : Bool) → IsWithinLimits limits f → (row f.version).queries ≡ has →
+    AllLead (LeadsOn limits) (cond has (codes "queries" ∷ map line_of_point f.queries) [] ++ codes "end" ∷ [])
+    (at (Body Radii) (unqueried f)) (at_end f)
+end_lead limits f true w has = (
+  at (Body Queries) (unqueried f),
+  inl (rw has refl, rw has refl),
+  lead_append (LeadsOn limits) (map line_of_point f.queries) (codes "end" ∷ []) (at (Body Queries) (unqueried f))
+      (at (Body Queries) f) (at_end f)
+      (queries_lead limits (unqueried f) f.queries w.queries (omega (arith, w.query_count)))
+      (at_end f, inl (refl, refl), refl),
+)
+end_lead limits f false w has = (
+  at_end (unqueried f),
+  inl (rw has refl, rw has refl),
+  ap (λ (v : List ℕ). at_end (record f { queries = v })) (sym (w.unasked has)),
+)
+
+-- so all lines of a file within the limits lead to it
+file_leads : (limits : Limits) (f : Content) → IsWithinLimits limits f →
+    AllLead (LeadsOn limits) (file_lines f) at_title (at_end f)
+file_leads limits f w =
+    let front : List (List ℕ) = to_radii f.version (map line_of_point f.points) (map edit_text f.edits)
+    (map decimal f.radii) in
+    let section : List (List ℕ) = query_section f.version (map line_of_point f.queries) in
+    subst (λ (ls : List (List ℕ)). AllLead (LeadsOn limits) ls at_title (at_end f))
+    (sym (append_assoc front section (codes "end" ∷ [])))
+    (lead_append (LeadsOn limits) front (section ++ codes "end" ∷ []) at_title (at (Body Radii) (unqueried f))
+    (at_end f) (to_radii_lead limits f w) (end_lead limits f (row f.version).queries w refl))
 
 -- the text that is written of a file within the limits is of that file
 pub written_is_file : (limits : Limits) (f : Content) → IsWithinLimits limits f → IsFile limits (file_text f) f
-written_is_file limits f w = text_is_file limits (file_lines f) f (record {
-  version = w.version;
-  points = map line_of_point f.points;
-  edits = map edit_text f.edits;
-  radii = map decimal f.radii;
-  queries = map line_of_point f.queries;
-  order = refl;
-  point_lines = zip_map IsPointLine line_of_point IsKey point_line f.points w.points;
-  edit_lines = zip_map (IsEditLine f.version) edit_text (IsEditOf f.version) (edit_line f.version) f.edits w.edits;
-  radius_lines = zip_map (IsRadiusLine f.version) decimal (λ r. r < (row f.version).radius_end) (radius_line f.version)
-      f.radii w.radii;
-  query_lines = zip_map IsPointLine line_of_point IsKey point_line f.queries w.queries;
-  unasked = none_written f.version f.queries w.unasked;
-  line_count = omega (arith, w.line_count, length-map f.points line_of_point, length-map f.edits edit_text);
-  radius_count = omega (arith, w.radius_count, length-map f.radii decimal);
-  query_count = omega (arith, w.query_count, length-map f.queries line_of_point);
-})
+written_is_file limits f w =
+    let leads = file_leads limits f w in
+    subst (λ (ls : List (List ℕ)). AllLead (LeadsOn limits) ls at_title (at_end f))
+    (sym (lines_of_text (file_lines f) (all_no_feed limits (file_lines f) at_title (at_end f) leads))) leads
+
+-- ---- what is read is within the limits
 
 -- an edit that a line says is one that the version may hold
 edit_key : (v : Version) (line : List ℕ) (e : Edit) → IsEditLine v line e → IsEditOf v e
@@ -109,40 +204,157 @@ edit_key v line (Add p) s = (s.2.key, λ moves. absurd cc)
 edit_key v line (Take p) s = (s.2.key, λ moves. absurd cc)
 edit_key v line (Move a b) s = ((s.3.from_point.key, s.3.to_point.key), λ moves. s.2)
 
--- no lines say no queries
-none_read : (lines : List (List ℕ)) (queries : List ℕ) → AllZip IsPointLine lines queries → lines ≡ [] → queries ≡ []
-none_read [] [] z e = refl
-none_read [] (q ∷ queries) z e = absurd z
-none_read (l ∷ lines) queries z e = absurd cc
+-- with one more at the end all are so
+all_more : {A : Type 0} (P : A → Type 0) (xs : List A) (x : A) → AllByRecursion P xs → P x →
+    AllByRecursion P (xs ++ x ∷ [])
+all_more P [] x all h = (h, tt)
+all_more P (y ∷ xs) x all h = (all.0, all_more P xs x all.1 h)
+
+-- what stands besides where this is due: nothing is taken before the title, and queries are due where there are some
+abbrev IsPlaced : Due → Content → Type 0
+IsPlaced Title f = f ≡ no_content
+IsPlaced Heading f = Unit {0}
+IsPlaced (Body p) f = p ≡ Queries → (row f.version).queries ≡ true
+IsPlaced Nothing f = Unit {0}
+
+-- where a reading is, what was taken is within the limits
+record IsFitting (limits : Limits) (r : Reached) : Type 0 where
+  within : IsWithinLimits limits r.taken
+  placed : IsPlaced r.due r.taken
+
+-- what a file of a version begins with is
+none_within : (limits : Limits) (v : Version) → (row v).number ≤ (row limits.newest).number →
+    IsWithinLimits limits (record no_content { version = v })
+none_within limits v le = record {
+  version = le;
+  points = tt;
+  edits = tt;
+  radii = tt;
+  queries = tt;
+  unasked = λ none. refl;
+  line_count = omega arith;
+  radius_count = omega arith;
+  query_count = omega arith;
+}
+
+-- the first version is taken always
+first_within : (v : Version) → (row One).number ≤ (row v).number
+first_within One = lit≤ tt
+first_within Two = lit≤ tt
+first_within Three = lit≤ tt
+first_within Four = lit≤ tt
+
+-- what is taken of a line stays within them, in the file's version
+taken_within : (limits : Limits) (p : Part) (f : Content) (line : List ℕ) (g : Content) → IsTaken p f line g →
+    lines_in p f < most_of limits p → (p ≡ Queries → (row f.version).queries ≡ true) → IsWithinLimits limits f →
+    IsWithinLimits limits g × (g.version ≡ f.version)
+taken_within limits Points f line g h lt has w = subst (λ (c : Content). IsWithinLimits limits c × (c.version
+    ≡ f.version)) (sym h.2) (
+      record {
+        version = w.version;
+        points = all_more IsKey f.points h.0 w.points h.1.key;
+        edits = w.edits;
+        radii = w.radii;
+        queries = w.queries;
+        unasked = w.unasked;
+        line_count = omega (arith, lt, length-append f.points (h.0 ∷ []));
+        radius_count = w.radius_count;
+        query_count = w.query_count;
+      },
+      refl,
+    )
+taken_within limits Edits f line g h lt has w = subst (λ (c : Content). IsWithinLimits limits c × (c.version
+    ≡ f.version)) (sym h.2) (
+      record {
+        version = w.version;
+        points = w.points;
+        edits = all_more (IsEditOf f.version) f.edits h.0 w.edits (edit_key f.version line h.0 h.1);
+        radii = w.radii;
+        queries = w.queries;
+        unasked = w.unasked;
+        line_count = omega (arith, lt, length-append f.edits (h.0 ∷ []));
+        radius_count = w.radius_count;
+        query_count = w.query_count;
+      },
+      refl,
+    )
+taken_within limits Radii f line g h lt has w = subst (λ (c : Content). IsWithinLimits limits c × (c.version
+    ≡ f.version)) (sym h.2) (
+      record {
+        version = w.version;
+        points = w.points;
+        edits = w.edits;
+        radii = all_more (λ r. r < (row f.version).radius_end) f.radii h.0 w.radii h.1.1;
+        queries = w.queries;
+        unasked = w.unasked;
+        line_count = w.line_count;
+        radius_count = omega (arith, lt, length-append f.radii (h.0 ∷ []));
+        query_count = w.query_count;
+      },
+      refl,
+    )
+taken_within limits Queries f line g h lt has w = subst (λ (c : Content). IsWithinLimits limits c × (c.version
+    ≡ f.version)) (sym h.2) (
+      record {
+        version = w.version;
+        points = w.points;
+        edits = w.edits;
+        radii = w.radii;
+        queries = all_more IsKey f.queries h.0 w.queries h.1.key;
+        unasked = λ none. absurd (both_ways _ none (has refl));
+        line_count = w.line_count;
+        radius_count = w.radius_count;
+        query_count = omega (arith, lt, length-append f.queries (h.0 ∷ []));
+      },
+      refl,
+    )
+
+-- behind a list queries are due where the version has some
+behind_placed : (p : Part) (f : Content) → IsPlaced (due_behind f.version p) f
+behind_placed Points f = λ e. absurd cc
+behind_placed Edits f = λ e. absurd cc
+behind_placed Radii f = by (row f.version).queries refl
+  where
+    by : (b : Bool) → (row f.version).queries ≡ b → IsPlaced (cond b (Body Queries) Nothing) f
+    by true has = λ e. has
+    by false has = tt
+behind_placed Queries f = tt
+
+-- so a line that leads on leaves it so
+lead_within : (limits : Limits) (due : Due) (f : Content) (line : List ℕ) (b : Reached) → Leads limits due f line b →
+    IsFitting limits (at due f) → IsFitting limits b
+lead_within limits Title f line b h k = subst (λ (r : Reached). IsFitting limits r) (sym h.3) (record {
+  within = subst (λ (c : Content). IsWithinLimits limits (record c { version = h.0 })) (sym k.placed)
+      (none_within limits h.0 h.2);
+  placed = tt;
+})
+lead_within limits Heading f line b h k = subst (λ (r : Reached). IsFitting limits r) (sym h.1)
+    (record { within = k.within; placed = λ e. absurd cc })
+lead_within limits (Body p) f line b h k = elim h [
+  | inl c ↦ subst (λ (r : Reached). IsFitting limits r) (sym c.1)
+      (record { within = k.within; placed = behind_placed p f })
+  | inr c ↦
+      let w = taken_within limits p f line c.0 c.2 c.1 k.placed k.within in
+      subst (λ (r : Reached). IsFitting limits r) (sym c.3)
+      (record { within = w.0; placed = λ e. ap (λ (v : Version). (row v).queries) w.1 ∙ k.placed e })
+]
+lead_within limits Nothing f line b h k = absurd h
+
+-- and so do lines
+all_within : (limits : Limits) (lines : List (List ℕ)) (a b : Reached) → AllLead (LeadsOn limits) lines a b →
+    IsFitting limits a → IsFitting limits b
+all_within limits [] a b h k = subst (λ (r : Reached). IsFitting limits r) h k
+all_within limits (line ∷ lines) a b h k =
+    all_within limits lines h.0 b h.2 (lead_within limits a.due a.taken line h.0 h.1 k)
 
 -- the file that a text is of is within the limits
 pub file_is_within : (limits : Limits) (bytes : List ℕ) (f : Content) → IsFile limits bytes f → IsWithinLimits limits f
-file_is_within limits bytes f k = record {
-  version = k.version;
-  points = zip_all IsPointLine IsKey (λ line p s. s.key) k.points f.points k.point_lines;
-  edits = zip_all (IsEditLine f.version) (IsEditOf f.version) (edit_key f.version) k.edits f.edits k.edit_lines;
-  radii = zip_all (IsRadiusLine f.version) (λ r. r < (row f.version).radius_end) (λ line r s. s.1) k.radii f.radii
-      k.radius_lines;
-  queries = zip_all IsPointLine IsKey (λ line q s. s.key) k.queries f.queries k.query_lines;
-  unasked = λ none. none_read k.queries f.queries k.query_lines (k.unasked none);
-  line_count = omega (
-    arith,
-    k.line_count,
-    length_zip IsPointLine k.points f.points k.point_lines,
-    length_zip
-        (IsEditLine f.version) k.edits f.edits k.edit_lines,
-  );
-  radius_count = omega (arith, k.radius_count, length_zip (IsRadiusLine f.version) k.radii f.radii k.radius_lines);
-  query_count = omega (arith, k.query_count, length_zip IsPointLine k.queries f.queries k.query_lines);
-}
+file_is_within limits bytes f h = (all_within limits (lines_of bytes) at_title (at_end f) h (record {
+  within = none_within limits One (first_within limits.newest);
+  placed = refl;
+})).within
 
 -- ---- the text, list by list
-
--- the text of two lists of lines is that of the first and then that of the second
-text_of_append : (a b : List (List ℕ)) → text_of (a ++ b) ≡ text_of a ++ text_of b
-text_of_append [] b = refl
-text_of_append (l ∷ a) b = ap (λ (t : List ℕ). l ++ 10 ∷ t) (text_of_append a b)
-    ∙ sym (append_assoc l (10 ∷ text_of a) (text_of b))
 
 -- so it is with a word between them
 pushed : (a : List (List ℕ)) (word : List ℕ) (b : List (List ℕ)) → text_of a ++ text_of (word ∷ []) ++ text_of b ≡

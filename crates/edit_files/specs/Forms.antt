@@ -1,36 +1,11 @@
--- The lines of an edit file that are not section words: what form each has, and what it says.
+-- The lines of an edit file that are neither section words nor point lines: what form each has, and what it says.
 use Rattle.std.specs.Prelude.{◌≡◌, ℕ, List, ◌∷◌, ◌++◌, ◌<◌, ◌⊎◌, IsTrue}
-use Rattle.point_order.specs.Coordinates.{x_of, y_of, z_of, IsKey}
 use Rattle.edit_history.specs.declared.history.Edit.{Edit}
 use Rattle.edit_history.specs.declared.history.Edit.TheVariants.{Add, Take, Move}
-use Rattle.edit_files.specs.Numbers.{IsNumber, IsNumberOf}
+use Rattle.text_readings.specs.Numbers.{IsNumberOf}
+use Rattle.text_readings.specs.PointLines.{HasPointForm, IsPointLine}
 use Rattle.edit_files.specs.Versions.{row}
 use Rattle.edit_files.specs.declared.version.Version.{Version}
-
--- three fields with one space (32) between them
-abbrev pub three_spaced : List ℕ → List ℕ → List ℕ → List ℕ
-three_spaced x y z = x ++ 32 ∷ y ++ 32 ∷ z
-
--- a line of the form of a point line: three numbers with one space between them
-pub record HasPointForm (line : List ℕ) : Type 0 where
-  pub x : List ℕ
-  pub y : List ℕ
-  pub z : List ℕ
-  pub fields : line ≡ three_spaced x y z
-  pub x_number : IsNumber x
-  pub y_number : IsNumber y
-  pub z_number : IsNumber z
-
--- the point line of a point: its three coordinates, which are 0 to 16383
-pub record IsPointLine (line : List ℕ) (point : ℕ) : Type 0 where
-  pub x : List ℕ
-  pub y : List ℕ
-  pub z : List ℕ
-  pub fields : line ≡ three_spaced x y z
-  pub x_value : IsNumberOf x (x_of point)
-  pub y_value : IsNumberOf y (y_of point)
-  pub z_value : IsNumberOf z (z_of point)
-  pub key : IsKey point
 
 -- a line of the form of two point lines, with one space between them
 pub record HasPairForm (line : List ℕ) : Type 0 where

@@ -1,11 +1,21 @@
--- The grammar of an edit file, and which file a text is.
-use Rattle.std.specs.Prelude.{◌≡◌, ℕ, false, List, [], ◌∷◌, ◌++◌, ◌+◌, ◌≤◌, length, codes, if◌then◌else◌}
-use Rattle.std.specs.List.{AllZip}
+-- The grammar of an edit file: which lines are due, one after another, and which file a text is.
+use Rattle.std.specs.Prelude.{◌≡◌, ◌⊎◌, ℕ, List, [], ◌∷◌, ◌++◌, ◌+◌, ◌<◌, ◌≤◌, length, codes, if◌then◌else◌}
+use Rattle.edit_history.specs.declared.history.Edit.{Edit}
+use Rattle.text_readings.specs.Lines.{lines_of}
+use Rattle.text_readings.specs.Numbers.{IsNumber}
+use Rattle.text_readings.specs.PointLines.{HasPointForm, IsPointLine}
+use Rattle.text_readings.specs.Readings.{AllLead}
+use Rattle.edit_files.specs.declared.place.Part.{Part}
+use Rattle.edit_files.specs.declared.place.Part.TheVariants.{Points, Edits, Radii, Queries}
+use Rattle.edit_files.specs.declared.place.Due.{Due}
+use Rattle.edit_files.specs.declared.place.Due.TheVariants.{Title, Heading, Body, Nothing}
 use Rattle.edit_files.specs.declared.version.Version.{Version}
+use Rattle.edit_files.specs.declared.version.Version.TheVariants.{One}
 use Rattle.edit_files.specs.Content.{Content}
-use Rattle.edit_files.specs.Lines.{lines_of}
-use Rattle.edit_files.specs.Forms.{IsPointLine, IsEditLine, IsRadiusLine}
+use Rattle.edit_files.specs.Forms.{HasEditForm, IsEditLine, IsRadiusLine}
 use Rattle.edit_files.specs.Versions.{row}
+
+-- ---- how many lines there may be
 
 -- how many point and edit lines a file may have together, how many radius lines, and how many queries
 abbrev pub line_limit : ℕ
@@ -30,29 +40,86 @@ up_to newest = record { lines = line_limit; newest = newest }
 abbrev pub IsWithinNewest : Limits → Version → Type 0
 IsWithinNewest limits version = (row version).number ≤ (row limits.newest).number
 
--- the section of queries, where the version has one
-abbrev pub query_section : Version → List (List ℕ) → List (List ℕ)
-query_section version queries = if (row version).queries then codes "queries" ∷ queries else []
+-- how many lines are taken of a list, points and edits counted together, and how many may be
+abbrev pub lines_in : Part → Content → ℕ
+lines_in Points f = length f.points + length f.edits
+lines_in Edits f = length f.points + length f.edits
+lines_in Radii f = length f.radii
+lines_in Queries f = length f.queries
 
--- The lines of a file: the first line, the points, the edits, the radii, the queries, and the end, each list behind
--- its word.
-pub record AreFileLines (limits : Limits) (lines : List (List ℕ)) (file : Content) : Type 0 where
-  pub version : IsWithinNewest limits file.version
-  pub points : List (List ℕ)
-  pub edits : List (List ℕ)
-  pub radii : List (List ℕ)
-  pub queries : List (List ℕ)
-  pub order : lines ≡ (row file.version).title ∷ codes "points" ∷ points ++ codes "edits" ∷ edits
-      ++ codes "radii" ∷ radii ++ query_section file.version queries ++ codes "end" ∷ []
-  pub point_lines : AllZip IsPointLine points file.points
-  pub edit_lines : AllZip (IsEditLine file.version) edits file.edits
-  pub radius_lines : AllZip (IsRadiusLine file.version) radii file.radii
-  pub query_lines : AllZip IsPointLine queries file.queries
-  pub unasked : (row file.version).queries ≡ false → queries ≡ []
-  pub line_count : length points + length edits ≤ limits.lines
-  pub radius_count : length radii ≤ radius_limit
-  pub query_count : length queries ≤ query_limit
+abbrev pub most_of : Limits → Part → ℕ
+most_of limits Points = limits.lines
+most_of limits Edits = limits.lines
+most_of limits Radii = radius_limit
+most_of limits Queries = query_limit
+
+-- ---- the lines
+
+-- a line of the form of its list's
+abbrev pub HasFormOf : Version → Part → List ℕ → Type 0
+HasFormOf version Points line = HasPointForm line
+HasFormOf version Edits line = HasEditForm version line
+HasFormOf version Radii line = IsNumber line
+HasFormOf version Queries line = HasPointForm line
+
+-- a line of a list, in range; and what is taken then
+abbrev pub IsTaken : Part → Content → List ℕ → Content → Type 0
+IsTaken Points f line g =
+    (p : ℕ) × IsPointLine line p × (g ≡ record f { points = f.points ++ p ∷ [] })
+IsTaken Edits f line g =
+    (e : Edit) × IsEditLine f.version line e × (g ≡ record f { edits = f.edits ++ e ∷ [] })
+IsTaken Radii f line g =
+    (r : ℕ) × IsRadiusLine f.version line r × (g ≡ record f { radii = f.radii ++ r ∷ [] })
+IsTaken Queries f line g =
+    (q : ℕ) × IsPointLine line q × (g ≡ record f { queries = f.queries ++ q ∷ [] })
+
+-- the word behind a list, and what is due then
+abbrev pub word_behind : Version → Part → List ℕ
+word_behind version Points = codes "edits"
+word_behind version Edits = codes "radii"
+word_behind version Radii = if (row version).queries then codes "queries" else codes "end"
+word_behind version Queries = codes "end"
+
+abbrev pub due_behind : Version → Part → Due
+due_behind version Points = Body Edits
+due_behind version Edits = Body Radii
+due_behind version Radii = if (row version).queries then Body Queries else Nothing
+due_behind version Queries = Nothing
+
+-- ---- what is due
+
+-- where a reading is: what is due, and what was taken
+pub record Reached : Type 0 where
+  pub due : Due
+  pub taken : Content
+
+-- the line is right where this is due, and leads on
+abbrev pub Leads : Limits → Due → Content → List ℕ → Reached → Type 0
+Leads limits Title f line next =
+    (version : Version) × (line ≡ (row version).title) × IsWithinNewest limits version
+    × (next ≡ record { due = Heading; taken = record f { version = version } })
+Leads limits Heading f line next = (line ≡ codes "points") × (next ≡ record { due = Body Points; taken = f })
+Leads limits (Body p) f line next =
+    ((line ≡ word_behind f.version p) × (next ≡ record { due = due_behind f.version p; taken = f }))
+    ⊎ ((g : Content) × (lines_in p f < most_of limits p) × IsTaken p f line g
+    × (next ≡ record { due = Body p; taken = g }))
+Leads limits Nothing f line next = ⊥
+
+-- the same where a reading is
+abbrev pub LeadsOn : Limits → Reached → List ℕ → Reached → Type 0
+LeadsOn limits a line b = Leads limits a.due a.taken line b
+
+-- nothing yet
+abbrev pub no_content : Content
+no_content = record { version = One; points = []; edits = []; radii = []; queries = [] }
+
+-- where a reading begins, and where it ends
+abbrev pub at_title : Reached
+at_title = record { due = Title; taken = no_content }
+
+abbrev pub at_end : Content → Reached
+at_end f = record { due = Nothing; taken = f }
 
 -- the text is that of the file
 abbrev pub IsFile : Limits → List ℕ → Content → Type 0
-IsFile limits bytes file = AreFileLines limits (lines_of bytes) file
+IsFile limits bytes file = AllLead (LeadsOn limits) (lines_of bytes) at_title (at_end file)

@@ -1,82 +1,28 @@
 -- Judging a text line by line, as the reader does. That this decides the grammar and finds its fault is proved.
-use Rattle.std.specs.Prelude.{◌≡◌, ℕ, Bool, List, [], ◌∷◌, ◌++◌, ◌+◌, ◌*◌, ◌-◌, ◌^◌, ◌&&◌, length, codes, min, nat_lt}
-use Rattle.std.specs.Prelude.{nat_le, ◌==◌, if◌then◌else◌, Option, Some, None, Result, Ok, Err}
-use Rattle.std.specs.List.{join_with_byte, slice_split}
-use Rattle.std.specs.Char.{is_ascii_digit}
+use Rattle.std.specs.Prelude.{ℕ, Bool, true, false, List, [], ◌∷◌, ◌++◌, ◌&&◌, codes, nat_lt, nat_le, ◌==◌}
+use Rattle.std.specs.Prelude.{if◌then◌else◌, Option, Some, None, Result, Ok, Err}
+use Rattle.std.specs.List.{join_with_byte}
 use Rattle.std.specs.Str.{bytes_eq}
-use Rattle.std.specs.Str.Parse.{starts_with_minus}
 use Rattle.edit_history.specs.declared.history.Edit.{Edit}
 use Rattle.edit_history.specs.declared.history.Edit.TheVariants.{Add, Take, Move}
-use Rattle.edit_files.specs.declared.fault.Why.{Why}
-use Rattle.edit_files.specs.declared.fault.Why.TheVariants.{Section, Field, Range, TooMany, Truncated}
-use Rattle.edit_files.specs.declared.fault.Fault.{Fault}
-use Rattle.edit_files.specs.declared.fault.ReadRefused.{ReadRefused}
-use Rattle.edit_files.specs.declared.fault.ReadRefused.TheVariants as refusals
-use Rattle.edit_files.specs.declared.reader.LineRefused.{LineRefused}
-use Rattle.edit_files.specs.declared.reader.LineRefused.TheVariants as line_refusals
-use Rattle.edit_files.specs.declared.reader.Place.{Place}
-use Rattle.edit_files.specs.declared.reader.Place.TheVariants as places
+use Rattle.text_readings.specs.declared.fault.Why.{Why}
+use Rattle.text_readings.specs.declared.fault.Why.TheVariants.{Section, Field, Range, TooMany}
+use Rattle.text_readings.specs.Judging.{Judge, then_at, with_one}
+use Rattle.text_readings.specs.PointLines.{three_spaced}
+use Rattle.text_readings.specs.Scanning.{fields_of, number, point}
+use Rattle.edit_files.specs.declared.file.File.{File}
+use Rattle.edit_files.specs.declared.place.Part.{Part}
+use Rattle.edit_files.specs.declared.place.Part.TheVariants.{Points, Edits, Radii, Queries}
+use Rattle.edit_files.specs.declared.place.Due.{Due}
+use Rattle.edit_files.specs.declared.place.Due.TheVariants.{Title, Heading, Body, Nothing}
 use Rattle.edit_files.specs.declared.reader.Reader.{Reader}
-use Rattle.edit_files.specs.Content.{Content, content}
-use Rattle.edit_files.specs.Lines.{lines_of}
-use Rattle.edit_files.specs.Numbers.{after_minus}
-use Rattle.edit_files.specs.Faults.{is_word}
-use Rattle.edit_files.specs.Keys.{coordinate_count, key_of}
-use Rattle.edit_files.specs.Forms.{three_spaced}
-use Rattle.edit_files.specs.Grammar.{Limits, query_limit, radius_limit}
-use Rattle.edit_files.specs.Versions.{row, titled}
 use Rattle.edit_files.specs.declared.version.Version.{Version}
-use Rattle.edit_files.specs.declared.version.Version.TheVariants.{One}
+use Rattle.edit_files.specs.Content.{Content, content}
+use Rattle.edit_files.specs.Faults.{is_word}
+use Rattle.edit_files.specs.Grammar.{Limits, Reached, at_end, due_behind, lines_in, most_of, word_behind}
+use Rattle.edit_files.specs.Versions.{row, titled}
 
--- beyond every range
-abbrev pub far : ℕ
-far = 2 ^ 40
-
--- digits behind others whose value is n: their value, or `far` where it is more; nothing where another byte stands
-unfoldable pub digits_from : ℕ → List ℕ → Option ℕ
-digits_from n [] = Some n
-digits_from n (c ∷ cs) = if is_ascii_digit c then digits_from (min (n * 10 + (c - 48)) far) cs else None
-
--- one digit or more
-unfoldable pub digits : List ℕ → Option ℕ
-digits [] = None
-digits (c ∷ cs) = digits_from 0 (c ∷ cs)
-
--- behind a minus a value above 0 is kept as `far` too
-abbrev pub signed : Bool → Option ℕ → Option ℕ
-signed minus None = None
-signed minus (Some n) = Some (if minus && nat_lt 0 n then far else n)
-
-unfoldable pub number : List ℕ → Option ℕ
-number bs = signed (starts_with_minus bs) (digits (after_minus bs))
-
--- the point with these coordinates
-abbrev pub point_at : ℕ → ℕ → ℕ → Result ℕ Why
-point_at x y z =
-    if nat_lt x coordinate_count && nat_lt y coordinate_count && nat_lt z coordinate_count
-    then Ok (key_of x y z)
-    else Err Range
-
--- a point from its three numbers
-abbrev pub point_from : Option ℕ → Option ℕ → Option ℕ → Result ℕ Why
-point_from None y z = Err Field
-point_from (Some x) None z = Err Field
-point_from (Some x) (Some y) None = Err Field
-point_from (Some x) (Some y) (Some z) = point_at x y z
-
-abbrev pub point_from_fields : List (List ℕ) → Result ℕ Why
-point_from_fields [] = Err Field
-point_from_fields (x ∷ []) = Err Field
-point_from_fields (x ∷ y ∷ []) = Err Field
-point_from_fields (x ∷ y ∷ z ∷ []) = point_from (number x) (number y) (number z)
-point_from_fields (x ∷ y ∷ z ∷ more ∷ rest) = Err Field
-
--- the parts of a line between its spaces
-abbrev pub fields_of : List ℕ → List (List ℕ)
-fields_of line = slice_split (λ b. b == 32) line
-
-unfoldable pub point : List ℕ → Result ℕ Why
-point line = point_from_fields (fields_of line)
+-- ---- lines
 
 abbrev pub edit_from : (ℕ → Edit) → Result ℕ Why → Result Edit Why
 edit_from kind (Ok p) = Ok (kind p)
@@ -127,125 +73,66 @@ radius_from version (Some n) = if nat_lt n (row version).radius_end then Ok n el
 unfoldable pub radius : Version → List ℕ → Result ℕ Why
 radius version line = radius_from version (number line)
 
--- where the reader is, and what it took so far
-pub record State : Type 0 where
-  pub place : Place
-  pub taken : Content
+-- ---- what is taken
 
-abbrev pub state : Reader → State
-state r = record { place = r.place; taken = content r.file }
+-- what a line of a list adds
+abbrev pub taken : Part → Content → List ℕ → Result Content Why
+taken Points f line = with_one (λ p. true) (λ p. record f { points = f.points ++ p ∷ [] }) (point line)
+taken Edits f line = with_one (λ e. true) (λ e. record f { edits = f.edits ++ e ∷ [] }) (edit f.version line)
+taken Radii f line = with_one (λ r. true) (λ r. record f { radii = f.radii ++ r ∷ [] }) (radius f.version line)
+taken Queries f line = with_one (λ q. true) (λ q. record f { queries = f.queries ++ q ∷ [] }) (point line)
 
-abbrev pub move : Place → Content → Result State Why
-move place taken = Ok (record { place = place; taken = taken })
+-- as many lines of a list are taken as there may be
+abbrev pub is_full : Limits → Part → Content → Bool
+is_full limits p f = nat_le (most_of limits p) (lines_in p f)
 
-abbrev pub taking_point : Content → Result ℕ Why → Result State Why
-taking_point taken (Err why) = Err why
-taking_point taken (Ok p) = move places.Points (record taken { points = taken.points ++ p ∷ [] })
+-- ---- one line
 
-abbrev pub with_edit : Content → Result Edit Why → Result State Why
-with_edit taken (Err why) = Err why
-with_edit taken (Ok e) = move places.Edits (record taken { edits = taken.edits ++ e ∷ [] })
-
-abbrev pub with_radius : Content → Result ℕ Why → Result State Why
-with_radius taken (Err why) = Err why
-with_radius taken (Ok r) = move places.Radii (record taken { radii = taken.radii ++ r ∷ [] })
-
-abbrev pub with_query : Content → Result ℕ Why → Result State Why
-with_query taken (Err why) = Err why
-with_query taken (Ok q) = move places.Queries (record taken { queries = taken.queries ++ q ∷ [] })
+abbrev pub now_due : Due → Content → Result Reached Why
+now_due due f = Ok (record { due = due; taken = f })
 
 -- the first line, which tells the version; it is to be none after the newest
-abbrev pub with_title : Version → Content → Option Version → Result State Why
-with_title newest taken None = Err Section
-with_title newest taken (Some version) =
+abbrev pub with_title : Version → Content → Option Version → Result Reached Why
+with_title newest f None = Err Section
+with_title newest f (Some version) =
     if nat_le (row version).number (row newest).number
-    then move places.Heading (record taken { version = version })
+    then now_due Heading (record f { version = version })
     else Err Section
 
--- the word behind the radii, and where it leads
-abbrev pub word_behind : Version → List ℕ
-word_behind version = if (row version).queries then codes "queries" else codes "end"
-
-abbrev pub place_behind : Version → Place
-place_behind version = if (row version).queries then places.Queries else places.End
-
 -- a line of a list: it may be no word, and the list may not be full
-abbrev pub list_line : Version → List ℕ → Bool → Result State Why → Result State Why
+abbrev pub list_line : Version → List ℕ → Bool → Result Reached Why → Result Reached Why
 list_line version line full taken = if is_word version line then Err Section else (if full then Err TooMany else taken)
 
-abbrev pub step_at : Limits → Place → Content → List ℕ → Result State Why
-step_at limits places.Title taken line = with_title limits.newest taken (titled line)
-step_at limits places.Heading taken line =
-    if bytes_eq line (codes "points") then move places.Points taken else Err Section
-step_at limits places.Points taken line =
-    if bytes_eq line (codes "edits") then move places.Edits taken
-    else list_line taken.version line (nat_le limits.lines (length taken.points + length taken.edits))
-    (taking_point taken (point line))
-step_at limits places.Edits taken line =
-    if bytes_eq line (codes "radii") then move places.Radii taken
-    else list_line taken.version line (nat_le limits.lines (length taken.points + length taken.edits))
-    (with_edit taken (edit taken.version line))
-step_at limits places.Radii taken line =
-    if bytes_eq line (word_behind taken.version) then move (place_behind taken.version) taken
-    else list_line taken.version line (nat_le radius_limit (length taken.radii))
-    (with_radius taken (radius taken.version line))
-step_at limits places.Queries taken line =
-    if bytes_eq line (codes "end") then move places.End taken
-    else list_line taken.version line (nat_le query_limit (length taken.queries)) (with_query taken (point line))
-step_at limits places.End taken line = Err Section
+abbrev pub step_at : Limits → Due → Content → List ℕ → Result Reached Why
+step_at limits Title f line = with_title limits.newest f (titled line)
+step_at limits Heading f line = if bytes_eq line (codes "points") then now_due (Body Points) f else Err Section
+step_at limits (Body p) f line =
+    if bytes_eq line (word_behind f.version p) then now_due (due_behind f.version p) f
+    else list_line f.version line (is_full limits p f)
+    (then_at (λ g. record { due = Body p; taken = g }) (taken p f line))
+step_at limits Nothing f line = Err Section
 
-unfoldable pub after_line : Limits → State → List ℕ → Result State Why
-after_line limits s line = step_at limits s.place s.taken line
+unfoldable pub after_line : Limits → Reached → List ℕ → Result Reached Why
+after_line limits a line = step_at limits a.due a.taken line
 
--- the end of the lines; n is the number of the line that is missing
-abbrev pub ended : ℕ → Place → Content → Result Content Fault
-ended n places.Title taken = Err (record { line = n; why = Truncated })
-ended n places.Heading taken = Err (record { line = n; why = Truncated })
-ended n places.Points taken = Err (record { line = n; why = Truncated })
-ended n places.Edits taken = Err (record { line = n; why = Truncated })
-ended n places.Radii taken = Err (record { line = n; why = Truncated })
-ended n places.Queries taken = Err (record { line = n; why = Truncated })
-ended n places.End taken = Ok taken
+-- ---- all lines
 
--- what follows a line: the rest is judged, or the line was bad
-abbrev pub go_on : ℕ → Result State Why → (State → Result Content Fault) → Result Content Fault
-go_on n (Err why) rest = Err (record { line = n; why = why })
-go_on n (Ok s) rest = rest s
+-- nothing more is due
+abbrev pub is_nothing : Due → Bool
+is_nothing Nothing = true
+is_nothing Title = false
+is_nothing Heading = false
+is_nothing (Body p) = false
 
--- the lines from line n on
-unfoldable pub judge : Limits → ℕ → State → List (List ℕ) → Result Content Fault
-judge limits n s [] = ended n s.place s.taken
-judge limits n s (line ∷ lines) = go_on n (after_line limits s line) (λ t. judge limits (n + 1) t lines)
+-- how a text is judged, line by line
+abbrev pub file_judge : Limits → Judge Reached
+file_judge limits = record { step = after_line limits; may_end = λ a. is_nothing a.due }
 
-abbrev pub no_content : Content
-no_content = record { version = One; points = []; edits = []; radii = []; queries = [] }
+-- ---- what the functions see
 
-abbrev pub start : State
-start = record { place = places.Title; taken = no_content }
+abbrev pub reached : Reader → Reached
+reached r = record { due = r.due; taken = content r.file }
 
--- all lines
-abbrev pub judged : Limits → List ℕ → Result Content Fault
-judged limits bytes = judge limits 1 start (lines_of bytes)
-
--- What a function returned, seen by view, is what judging gives, unless memory ran out.
-abbrev pub Fails : {Y : Type 0} → ReadRefused → Result Y Fault → Type 0
-Fails refusals.Memory judged = Unit {0}
-Fails (refusals.Bad fault) judged = judged ≡ Err fault
-
-abbrev pub Gives : {X Y : Type 0} → (X → Y) → Result X ReadRefused → Result Y Fault → Type 0
-Gives view (Ok x) judged = judged ≡ Ok (view x)
-Gives view (Err e) judged = Fails e judged
-
--- the same of one line, whose number is not known yet
-abbrev pub Refuses : {Y : Type 0} → LineRefused → Result Y Why → Type 0
-Refuses line_refusals.Memory judged = Unit {0}
-Refuses (line_refusals.Bad why) judged = judged ≡ Err why
-
-abbrev pub refused_at : ℕ → LineRefused → ReadRefused
-refused_at n line_refusals.Memory = refusals.Memory
-refused_at n (line_refusals.Bad why) = refusals.Bad (record { line = n; why = why })
-
--- what a step left, or why it stopped
-abbrev pub Steps : Result Unit LineRefused → State → Result State Why → Type 0
-Steps (Ok u) now judged = judged ≡ Ok now
-Steps (Err e) now judged = Refuses e judged
+-- a file that was read to its end
+abbrev pub whole : File → Reached
+whole f = at_end (content f)

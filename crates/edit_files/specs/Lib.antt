@@ -1,12 +1,9 @@
 pub mod Versions
 pub mod Content
 pub mod LinesLeft
-pub mod Lines
-pub mod Numbers
 pub mod Forms
 pub mod Grammar
 pub mod Faults
-pub mod Keys
 pub mod Judging
 pub mod Writing
 pub mod Generator

@@ -1,26 +1,27 @@
 -- The text that is written of a file: numbers with no leading zeros, and each line with its line feed.
 use Rattle.std.specs.Prelude.{◌≡◌, ℕ, false, List, [], ◌∷◌, ◌++◌, ◌+◌, ◌≤◌, ◌<◌, length, map, codes, decimal, IsTrue}
+use Rattle.std.specs.Prelude.{if◌then◌else◌}
 use Rattle.std.specs.List.{AllByRecursion}
-use Rattle.point_order.specs.Coordinates.{x_of, y_of, z_of, IsKey}
+use Rattle.point_order.specs.Coordinates.{IsKey}
 use Rattle.edit_history.specs.declared.history.Edit.{Edit}
 use Rattle.edit_history.specs.declared.history.Edit.TheVariants.{Add, Take, Move}
 use Rattle.edit_history.specs.Edits.{HasKeys, is_move}
 use Rattle.edit_files.specs.Content.{Content}
-use Rattle.edit_files.specs.Lines.{text_of}
-use Rattle.edit_files.specs.Forms.{three_spaced}
-use Rattle.edit_files.specs.Grammar.{IsWithinNewest, Limits, query_limit, query_section, radius_limit}
+use Rattle.text_readings.specs.Lines.{text_of}
+use Rattle.text_readings.specs.PointLines.{line_of_point}
+use Rattle.edit_files.specs.Grammar.{IsWithinNewest, Limits, query_limit, radius_limit}
 use Rattle.edit_files.specs.Versions.{row}
 use Rattle.edit_files.specs.declared.version.Version.{Version}
-
--- the point line that is written of a point
-abbrev pub line_of_point : ℕ → List ℕ
-line_of_point p = three_spaced (decimal (x_of p)) (decimal (y_of p)) (decimal (z_of p))
 
 -- the edit line that is written of an edit
 abbrev pub edit_text : Edit → List ℕ
 edit_text (Add p) = codes "+ " ++ line_of_point p
 edit_text (Take p) = codes "- " ++ line_of_point p
 edit_text (Move a b) = codes "= " ++ line_of_point a ++ codes " " ++ line_of_point b
+
+-- the section of queries, where the version has one
+abbrev pub query_section : Version → List (List ℕ) → List (List ℕ)
+query_section version queries = if (row version).queries then codes "queries" ∷ queries else []
 
 -- the lines that are written of a file
 abbrev pub file_lines : Content → List (List ℕ)

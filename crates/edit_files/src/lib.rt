@@ -16,21 +16,18 @@
 //! ```
 #![tactic(auto)]
 
-mod fault;
 mod file;
 mod generator;
 pub mod laws;
 mod line;
+pub mod place;
 mod reader;
-mod scan;
 mod version;
 mod writing;
 
-pub use fault::{Fault, ReadRefused, Why};
 pub use file::{File, Lines};
 pub use generator::generate;
-pub use line::point_of;
 pub use reader::{LINE_LIMIT, QUERY_LIMIT, RADIUS_LIMIT, read_file, read_file_up_to};
-pub use scan::{first_field, first_line, number_of};
+pub use text_readings::{Fault, ReadRefused, Why, first_field, first_line, number_of, point_of};
 pub use version::Version;
 pub use writing::file_text;

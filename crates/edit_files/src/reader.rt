@@ -1,27 +1,29 @@
 //! Reading an edit file, line by line.
 
-ghost use Rattle.std.specs.Prelude.{◌≡◌, ◌+◌, IfOk, MatchResult, Err, Result, ℕ, length, nat_le, if◌then◌else◌};
+ghost use Rattle.std.specs.Prelude.{◌≡◌, IfOk, MatchResult, Err, Result, if◌then◌else◌};
 ghost use Rattle.std.specs.Str.{bytes_eq};
-ghost use Rattle.edit_files.specs.Content.{Content, content};
-ghost use Rattle.edit_files.specs.Grammar.{IsFile, line_limit, up_to};
-ghost use Rattle.edit_files.specs.Faults.{IsFault, is_word};
-ghost use Rattle.edit_files.specs.Judging.{State, state, step_at, move, judged, ended, start, refused_at, Gives, Steps};
-ghost use Rattle.edit_files.specs.Judging.{with_title, word_behind, place_behind, after_line, list_line};
-ghost use Rattle.edit_files.specs.Versions.{titled};
+ghost use Rattle.text_readings.specs.Judging.{Gives, Steps, judge, judged_end};
+ghost use Rattle.text_readings.specs.Lines.{lines_of};
+ghost use Rattle.text_readings.specs.declared.fault.Fault.{Fault};
+ghost use Rattle.text_readings.specs.declared.fault.ReadRefused.TheVariants.{Bad};
+ghost use Rattle.text_readings.specs.declared.fault.Why.{Why};
+ghost use Rattle.text_readings.specs.declared.fault.Why.TheVariants.{Section};
+ghost use Rattle.edit_files.specs.declared.place.Due.TheVariants as places;
 ghost use Rattle.edit_files.specs.declared.version.Version.{Version};
 ghost use Rattle.edit_files.specs.declared.version.Version.TheVariants.{Four};
-ghost use Rattle.edit_files.specs.declared.fault.Fault.{Fault};
-ghost use Rattle.edit_files.specs.declared.fault.Why.{Why};
-ghost use Rattle.edit_files.specs.declared.fault.Why.TheVariants.{Section};
-ghost use Rattle.edit_files.specs.declared.fault.ReadRefused.TheVariants.{Bad};
-ghost use Rattle.edit_files.specs.declared.reader.Place.TheVariants as places;
+ghost use Rattle.edit_files.specs.Content.{content};
+ghost use Rattle.edit_files.specs.Faults.{IsFault, is_word};
+ghost use Rattle.edit_files.specs.Grammar.{IsFile, Reached, at_title, up_to};
+ghost use Rattle.edit_files.specs.Judging.{after_line, file_judge, is_full, list_line, now_due, reached, step_at};
+ghost use Rattle.edit_files.specs.Judging.{taken, whole, with_title};
+ghost use Rattle.edit_files.specs.Versions.{titled};
 
-use crate::fault::{Fault, ReadRefused, Why};
 use crate::file::File;
-use crate::line::{edit_of, point_of, radius_of};
-use crate::scan::first_line;
+use crate::line::{edit_of, radius_of};
+use crate::place::{Due, Part, behind};
 use crate::version::Version;
-use std::alloc::{AllocFailed, Global};
+use std::alloc::Global;
+use text_readings::{Fault, LineRefused, ReadRefused, Why, first_line, point_of, reads};
 
 /// How many point and edit lines a file may have together.
 pub const LINE_LIMIT: u64 = 262_144;
@@ -32,72 +34,11 @@ pub const RADIUS_LIMIT: u64 = 16;
 /// How many query lines a file may have.
 pub const QUERY_LIMIT: u64 = 65_536;
 
-// Where a reader is.
-#[derive(Clone, Copy)]
-enum Place {
-    // before the first line
-    Title,
-    // before the word `points`
-    Heading,
-    Points,
-    Edits,
-    Radii,
-    Queries,
-    // after the word `end`
-    End,
-}
-
-// Why a line was not taken.
-#[derive(Clone, Copy)]
-enum LineRefused {
-    Bad(Why),
-    Memory,
-}
-
-impl LineRefused {
-    // Why the text was not read, where this line has that number.
-    fn of_line(self, line: u64) -> ReadRefused
-        ensures { result ≡ refused_at line self }
-    {
-        match self {
-            LineRefused::Bad(why) => ReadRefused::Bad(Fault { line, why }),
-            LineRefused::Memory => ReadRefused::Memory,
-        }
-    }
-}
-
-impl From<Why> for LineRefused {
-    ghost use Rattle.edit_files.specs.declared.reader.LineRefused.TheVariants as line_refusals;
-
-    ghost from_gives = { λ why e. e ≡ line_refusals.Bad why };
-
-    fn from(why: Why) -> LineRefused {
-        LineRefused::Bad(why)
-    }
-}
-
-impl<T: Drop> From<AllocFailed<T>> for LineRefused {
-    ghost use Rattle.edit_files.specs.declared.reader.LineRefused.TheVariants as line_refusals;
-
-    ghost from_gives = { λ _ e. e ≡ line_refusals.Memory };
-
-    fn from(_e: AllocFailed<T>) -> LineRefused {
-        LineRefused::Memory
-    }
-}
-
-// A reader: where it is, and what it took so far.
+// A reader: what is due, and what it took so far.
 #[derive(Drop)]
 struct Reader {
-    place: Place,
+    due: Due,
     file: File,
-}
-
-// Is the line this word?
-fn reads(line: &[u8], word: &[u8]) -> bool
-    ensures { result ≡ bytes_eq line.now word.now }
-{
-    line == word
 }
 
 // Is the line one of the section words of this version?
@@ -113,7 +54,7 @@ fn is_section_word(line: &[u8], version: Version) -> bool
 
 // A line of a list may be no section word, and the list may not be full.
 fn admit(line: &[u8], version: Version, is_full: bool) -> Result<(), Why>
-    ensures { (r : Result State Why) →
+    ensures { (r : Result Reached Why) →
         MatchResult result (λ _. list_line version line.now is_full r ≡ r)
         (λ why. list_line version line.now is_full r ≡ Err why) }
 {
@@ -126,21 +67,67 @@ fn admit(line: &[u8], version: Version, is_full: bool) -> Result<(), Why>
     Ok(())
 }
 
-// The word behind the radii of a file of this version, and where it leads.
-fn behind_radii(version: Version) -> (&'static [u8], Place)
-    ensures word { result.0.now ≡ word_behind version }
-    ensures place { result.1 ≡ place_behind version }
-{
-    if version.row().queries {
-        (b"queries", Place::Queries)
-    } else {
-        (b"end", Place::End)
+impl File {
+    // Are there as many lines in a list as there may be?
+    fn is_full(&self, part: Part) -> bool
+        ensures { (newest : Version) → result ≡ is_full (up_to newest) part (content self.now) }
+    {
+        match part {
+            Part::Points | Part::Edits => LINE_LIMIT
+                <= self.points.len() as u64 + self.edits.len() as u64,
+            Part::Radii => RADIUS_LIMIT <= self.radii.len() as u64,
+            Part::Queries => QUERY_LIMIT <= self.queries.len() as u64,
+        }
+    }
+
+    // Takes a point.
+    fn take_point(&mut self, line: &[u8]) -> Result<(), LineRefused>
+        ensures { Steps result (content self.new) (taken Part.Points (content self.old) line.now) }
+    {
+        self.points.push(point_of(line)?)?;
+        Ok(())
+    }
+
+    // Takes an edit.
+    fn take_edit(&mut self, line: &[u8]) -> Result<(), LineRefused>
+        ensures { Steps result (content self.new) (taken Part.Edits (content self.old) line.now) }
+    {
+        self.edits.push(edit_of(line, self.version)?)?;
+        Ok(())
+    }
+
+    // Takes a radius.
+    fn take_radius(&mut self, line: &[u8]) -> Result<(), LineRefused>
+        ensures { Steps result (content self.new) (taken Part.Radii (content self.old) line.now) }
+    {
+        self.radii.push(radius_of(line, self.version)?)?;
+        Ok(())
+    }
+
+    // Takes a query.
+    fn take_query(&mut self, line: &[u8]) -> Result<(), LineRefused>
+        ensures { Steps result (content self.new) (taken Part.Queries (content self.old) line.now) }
+    {
+        self.queries.push(point_of(line)?)?;
+        Ok(())
+    }
+
+    // Takes a line of a list.
+    fn take(&mut self, part: Part, line: &[u8]) -> Result<(), LineRefused>
+        ensures { Steps result (content self.new) (taken part (content self.old) line.now) }
+    {
+        match part {
+            Part::Points => self.take_point(line),
+            Part::Edits => self.take_edit(line),
+            Part::Radii => self.take_radius(line),
+            Part::Queries => self.take_query(line),
+        }
     }
 }
 
 impl Reader {
     fn new(alloc: Global) -> Reader
-        ensures { state result ≡ start }
+        ensures { reached result ≡ at_title }
     {
         let file = File {
             version: Version::One,
@@ -150,29 +137,26 @@ impl Reader {
             queries: Vec::new(alloc),
         };
         Reader {
-            place: Place::Title,
+            due: Due::Title,
             file,
         }
     }
 
     // Takes the line that follows.
     fn take_line(&mut self, line: &[u8], newest: Version) -> Result<(), LineRefused>
-        ensures { Steps result (state self.new) (after_line (up_to newest) (state self.old) line.now) }
+        ensures { Steps result (reached self.new) (after_line (up_to newest) (reached self.old) line.now) }
     {
-        match self.place {
-            Place::Title => self.take_title(line, newest),
-            Place::Heading => self.take_word(line, b"points", Place::Points),
-            Place::Points => self.take_point(line),
-            Place::Edits => self.take_edit(line),
-            Place::Radii => self.take_radius(line),
-            Place::Queries => self.take_query(line),
-            Place::End => Err(LineRefused::Bad(Why::Section)),
+        match self.due {
+            Due::Title => self.take_title(line, newest),
+            Due::Heading => self.take_word(line, b"points", Due::Body(Part::Points)),
+            Due::Body(part) => self.take_in_list(part, line),
+            Due::Nothing => Err(LineRefused::Bad(Why::Section)),
         }
     }
 
     // Takes the first line, which tells the version.
     fn take_title(&mut self, line: &[u8], newest: Version) -> Result<(), LineRefused>
-        ensures { Steps result (state self.new) (with_title newest (content self.old.file) (titled line.now)) }
+        ensures { Steps result (reached self.new) (with_title newest (content self.old.file) (titled line.now)) }
     {
         let Some(version) = Version::of_title(line) else {
             return Err(LineRefused::Bad(Why::Section));
@@ -181,101 +165,44 @@ impl Reader {
             return Err(LineRefused::Bad(Why::Section));
         }
         self.file.version = version;
-        self.place = Place::Heading;
+        self.due = Due::Heading;
         Ok(())
     }
 
-    // Takes a line that is to be this word, and goes on to the next place.
-    fn take_word(&mut self, line: &[u8], word: &[u8], next: Place) -> Result<(), LineRefused>
-        ensures { Steps result (state self.new)
-            (if bytes_eq line.now word.now then move next (content self.old.file) else Err Section) }
+    // Takes a line that is to be this word, and goes on to what is due then.
+    fn take_word(&mut self, line: &[u8], word: &[u8], next: Due) -> Result<(), LineRefused>
+        ensures { Steps result (reached self.new)
+            (if bytes_eq line.now word.now then now_due next (content self.old.file) else Err Section) }
     {
         if !reads(line, word) {
             return Err(LineRefused::Bad(Why::Section));
         }
-        self.place = next;
+        self.due = next;
         Ok(())
     }
 
-    // Are there as many point and edit lines as there may be?
-    fn is_full(&self) -> bool
-        ensures { result ≡ nat_le line_limit (length self.now.file.points.items + length self.now.file.edits.items) }
-    {
-        LINE_LIMIT <= self.file.points.len() as u64 + self.file.edits.len() as u64
-    }
-
-    // Takes a line in the points.
-    fn take_point(&mut self, line: &[u8]) -> Result<(), LineRefused>
-        requires { self.old.place ≡ places.Points }
-        ensures { (newest : Version) → Steps result (state self.new)
-            (step_at (up_to newest) places.Points (content self.old.file) line.now) }
-    {
-        if reads(line, b"edits") {
-            self.place = Place::Edits;
-            return Ok(());
-        }
-        admit(line, self.file.version, self.is_full())?;
-        self.file.points.push(point_of(line)?)?;
-        Ok(())
-    }
-
-    // Takes a line in the edits.
-    fn take_edit(&mut self, line: &[u8]) -> Result<(), LineRefused>
-        requires { self.old.place ≡ places.Edits }
-        ensures { (newest : Version) → Steps result (state self.new)
-            (step_at (up_to newest) places.Edits (content self.old.file) line.now) }
-    {
-        if reads(line, b"radii") {
-            self.place = Place::Radii;
-            return Ok(());
-        }
-        admit(line, self.file.version, self.is_full())?;
-        self.file.edits.push(edit_of(line, self.file.version)?)?;
-        Ok(())
-    }
-
-    // Takes a line in the radii.
-    fn take_radius(&mut self, line: &[u8]) -> Result<(), LineRefused>
-        requires { self.old.place ≡ places.Radii }
-        ensures { (newest : Version) → Steps result (state self.new)
-            (step_at (up_to newest) places.Radii (content self.old.file) line.now) }
+    // Takes a line in a list: the word behind it, or a line of its own.
+    fn take_in_list(&mut self, part: Part, line: &[u8]) -> Result<(), LineRefused>
+        requires { self.old.due ≡ places.Body part }
+        ensures { (newest : Version) → Steps result (reached self.new)
+            (step_at (up_to newest) (places.Body part) (content self.old.file) line.now) }
     {
         let version = self.file.version;
-        let (word, place) = behind_radii(version);
+        let (word, next) = behind(version, part);
         if reads(line, word) {
-            self.place = place;
+            self.due = next;
             return Ok(());
         }
-        admit(line, version, RADIUS_LIMIT <= self.file.radii.len() as u64)?;
-        self.file.radii.push(radius_of(line, version)?)?;
-        Ok(())
-    }
-
-    // Takes a line in the queries.
-    fn take_query(&mut self, line: &[u8]) -> Result<(), LineRefused>
-        requires { self.old.place ≡ places.Queries }
-        ensures { (newest : Version) → Steps result (state self.new)
-            (step_at (up_to newest) places.Queries (content self.old.file) line.now) }
-    {
-        if reads(line, b"end") {
-            self.place = Place::End;
-            return Ok(());
-        }
-        admit(
-            line,
-            self.file.version,
-            QUERY_LIMIT <= self.file.queries.len() as u64,
-        )?;
-        self.file.queries.push(point_of(line)?)?;
-        Ok(())
+        admit(line, version, self.file.is_full(part))?;
+        self.file.take(part, line)
     }
 
     // The file, where its end was read; `line` is the number of the line that would follow.
     fn finish(self, line: u64) -> Result<File, ReadRefused>
-        ensures { Gives content result (ended line self.place (content self.file)) }
+        ensures { (newest : Version) → Gives whole result (judged_end (file_judge (up_to newest)) line (reached self)) }
     {
-        match self.place {
-            Place::End => Ok(self.file),
+        match self.due {
+            Due::Nothing => Ok(self.file),
             _ => Err(ReadRefused::Bad(Fault {
                 line,
                 why: Why::Truncated,
@@ -286,7 +213,7 @@ impl Reader {
 
 // Judges a text line by line.
 fn judge(alloc: Global, bytes: &[u8], newest: Version) -> Result<File, ReadRefused>
-    ensures { Gives content result (judged (up_to newest) bytes.now) }
+    ensures { Gives whole result (judge (file_judge (up_to newest)) 1 at_title (lines_of bytes.now)) }
 {
     let mut reader = Reader::new(alloc);
     let mut number = 1;

@@ -5,11 +5,11 @@ use Rattle.std.specs.Prelude.{◌⊎◌, slice_index_or, MatchOption}
 use Rattle.std.proofs.lemmas.Bool.{and_parts, and_from, ltb-true, lt-ltb}
 use Rattle.list_laws.specs.Lists.{IsAscending}
 use Rattle.std.proofs.lemmas.List.Splits.{join_with_byte-slice_split}
-use Rattle.edit_files.specs.declared.fault.Why.{Why}
-use Rattle.edit_files.specs.declared.fault.Why.TheVariants.{Field, Range}
-use Rattle.edit_files.specs.Numbers.{IsNumber}
-use Rattle.edit_files.specs.Judging.{fields_of, number}
-use Rattle.edit_files.proofs.Cited.{Decides, number_of, of_number}
+use Rattle.text_readings.specs.declared.fault.Why.{Why}
+use Rattle.text_readings.specs.declared.fault.Why.TheVariants.{Field, Range}
+use Rattle.text_readings.specs.Numbers.{IsNumber}
+use Rattle.text_readings.specs.Scanning.{fields_of, number}
+use Rattle.text_readings.proofs.Cited.{Decides, number_of, of_number}
 use Rattle.mesh_reader.specs.Grammar.{AreIndices, HasNumbers, IsIndexLine, IsIndexOf, point_limit}
 use Rattle.mesh_reader.specs.Judging.{ascends, corners_from, field_numbers, in_front, in_order, indexed_corners}
 use Rattle.mesh_reader.specs.Judging.{indexed_point, indexed_points}

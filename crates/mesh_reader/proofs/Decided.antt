@@ -1,15 +1,15 @@
 -- Judging a line finds whether it leads on where a reading is, and why it does not.
 use Rattle.std.proofs.Common.{◌≡◌, ℕ, ◌<◌, ◌≤◌, Bool, true, false, cond, eqb, leb, List, [], ◌∷◌, ◌++◌, Option, Some}
-use Rattle.std.proofs.Common.{None, Result, Ok, Err, refl, sym, ap, subst, ◌∙◌, arith, inl, inr, eq-eqb}
+use Rattle.std.proofs.Common.{None, Ok, Err, refl, sym, ap, subst, ◌∙◌, arith, inl, inr, eq-eqb}
 use Rattle.std.specs.Prelude.{◌⊎◌, ◌≢◌, codes, MatchOption}
 use Rattle.std.specs.Borrow.{Bor}
-use Rattle.std.specs.Str.{bytes_eq}
 use Rattle.std.proofs.lemmas.Bool.{eqb-true, leb-true, le-leb, cases_lt, lt-leb}
-use Rattle.std.proofs.lemmas.Slice.Eq.{bytes_eq-Decides}
-use Rattle.edit_files.specs.declared.fault.Why.{Why}
-use Rattle.edit_files.specs.declared.fault.Why.TheVariants.{Section, Field, Range, TooMany, Truncated}
-use Rattle.edit_files.specs.Judging.{far, number}
-use Rattle.edit_files.proofs.Cited.{number_of, number_read, number_some, of_number, reading}
+use Rattle.text_readings.specs.declared.fault.Why.{Why}
+use Rattle.text_readings.specs.declared.fault.Why.TheVariants.{Section, Field, Range, TooMany, Truncated}
+use Rattle.text_readings.specs.Scanning.{far, number}
+use Rattle.text_readings.proofs.Cited.{err_one, number_of, number_read, number_some, of_number, ok_err, ok_one}
+use Rattle.text_readings.proofs.Cited.{off_form, off_range, reading, then_err, then_ok, word_err, word_is, word_not}
+use Rattle.text_readings.proofs.Cited.{word_ok}
 use Rattle.mesh_reader.specs.declared.place.Part.{Part}
 use Rattle.mesh_reader.specs.declared.place.Part.TheVariants.{Replies, Points, Cells, Hull}
 use Rattle.mesh_reader.specs.declared.place.Due.{Due}
@@ -20,7 +20,7 @@ use Rattle.mesh_reader.specs.Faults.{IsMeshReason}
 use Rattle.mesh_reader.specs.Judging.{announced, head_count, headed, stripped, taken, then_due, transition}
 use Rattle.mesh_reader.specs.Judging.{transition_at}
 use Rattle.mesh_reader.proofs.Fields.{not_none, same_value}
-use Rattle.mesh_reader.proofs.Taken.{err_one, ok_err, ok_one, taken_decided, taken_form}
+use Rattle.mesh_reader.proofs.Taken.{taken_decided, taken_form}
 
 -- ---- a word
 
@@ -143,63 +143,11 @@ headed_err p f (Some n) why h = elim (cases_lt (most_of p) n) [
   | inr le ↦ absurd (ok_err (record { due = lines_due p n; taken = f }) why (sym (headed_is p f n le) ∙ h))
 ]
 
--- ---- a word that is due
-
--- a word that was due was that word, and led on
-word_ok : (line word : List ℕ) (next b : Reached) → cond (bytes_eq line word) (Ok next) (Err Section) ≡ Ok b → (line
-    ≡ word) × (b ≡ next)
-word_ok line word next b h = by_test (bytes_eq line word) refl h
-  where
-    -- by the test
-    by_test : (t : Bool) → bytes_eq line word ≡ t → cond t (Ok next) (Err Section) ≡ Ok b → (line ≡ word) × (b ≡ next)
-    by_test true e k = ((bytes_eq-Decides line word).0 e, sym (ok_one next b k))
-    by_test false e k = absurd (ok_err b Section (sym k))
-
--- that word leads on
-word_is : (line word : List ℕ) (next : Reached) → line ≡ word → ◌≡◌ {A = Result Reached Why} (cond
-    (bytes_eq line word) (Ok next) (Err Section)) (Ok next)
-word_is line word next h = let e : bytes_eq line word ≡ true = (bytes_eq-Decides line word).1 h in rw e refl
-
--- what was refused was another line, and is wrong as a section
-word_err : (line word : List ℕ) (next : Reached) (why : Why) → cond (bytes_eq line word) (Ok next) (Err Section)
-    ≡ Err why → (line ≢ word) × (why ≡ Section)
-word_err line word next why h = by_test (bytes_eq line word) refl h
-  where
-    -- by the test
-    by_test : (t : Bool) → bytes_eq line word ≡ t → cond t (Ok next) (Err Section) ≡ Err why → (line ≢ word) × (why
-        ≡ Section)
-    by_test true e k = absurd (ok_err next why k)
-    by_test false e k = (
-      λ same. ok_err next why (sym (word_is line word next same) ∙ h),
-      sym
-          (err_one {A = Reached} Section why k),
-    )
-
--- another line is refused so
-word_not : (line word : List ℕ) (next : Reached) → line ≢ word → ◌≡◌ {A = Result Reached Why} (cond
-    (bytes_eq line word) (Ok next) (Err Section)) (Err Section)
-word_not line word next h = by_test (bytes_eq line word) refl
-  where
-    -- by the test
-    by_test : (t : Bool) → bytes_eq line word ≡ t → ◌≡◌ {A = Result Reached Why} (cond t (Ok next) (Err Section))
-        (Err Section)
-    by_test true e = absurd (h ((bytes_eq-Decides line word).0 e))
-    by_test false e = refl
-
--- ---- a line of a list
-
--- a line of a list that led on was taken
-moved_ok : (due : Due) (r : Result MeshParts Why) (b : Reached) → then_due due r ≡ Ok b → (g : MeshParts) × (r ≡ Ok g) ×
-    (b ≡ record { due = due; taken = g })
-moved_ok due (Err why) b h = absurd (ok_err b why (sym h))
-moved_ok due (Ok g) b h = (g, refl, sym (ok_one (record { due = due; taken = g }) b h))
-
--- and one that was refused was not, for the same reason
-moved_err : (due : Due) (r : Result MeshParts Why) (why : Why) → then_due due r ≡ Err why → r ≡ Err why
-moved_err due (Err w) why h = ap (λ v. Err v) (err_one {A = Reached} w why h)
-moved_err due (Ok g) why h = absurd (ok_err (record { due = due; taken = g }) why h)
-
 -- ---- a line, where this is due
+
+-- where a line of a list leads
+abbrev due_then : Due → MeshParts → Reached
+due_then due g = record { due = due; taken = g }
 
 -- where the reading goes on, the line leads there
 at_sound : (due : Due) (f : MeshParts) (line : List ℕ) (b : Reached) → transition_at due f line ≡ Ok b
@@ -209,7 +157,7 @@ at_sound (Head p) f line b h =
     let k = headed_ok p f (announced p line) b h in
     (k.0, head_read p k.0 line k.1 k.2, k.3)
 at_sound (Body p n) f line b h =
-    let k = moved_ok (lines_due p n) (taken p f line) b h in
+    let k = then_ok (due_then (lines_due p n)) (taken p f line) b h in
     (k.0, (taken_decided p f).sound line k.0 k.1, k.2)
 at_sound Last f line b h = word_ok line (codes "end") (record { due = Nothing; taken = f }) b h
 at_sound Nothing f line b h = absurd (ok_err b Section (sym h))
@@ -266,7 +214,7 @@ at_reason Title f line why h =
     let k = word_err line (codes "mesh3-out 1") (record { due = Head Replies; taken = f }) why h in
     subst (λ (w : Why). IsMeshReason Title f line w) (sym k.1) k.0
 at_reason (Head p) f line why h = head_reason p f line why h
-at_reason (Body p n) f line why h = body_reason p n f line why (moved_err (lines_due p n) (taken p f line) why h)
+at_reason (Body p n) f line why h = body_reason p n f line why (then_err (due_then (lines_due p n)) (taken p f line) why h)
 at_reason Last f line why h =
     let k = word_err line (codes "end") (record { due = Nothing; taken = f }) why h in
     subst (λ (w : Why). IsMeshReason Last f line w) (sym k.1) k.0
@@ -291,24 +239,6 @@ many_head p f line form h =
       | inr le ↦ absurd (h s.0 (head_read p s.0 line s.1 le))
     ]
 
--- a line that is not of its list's form
-off_form : (p : Part) (f : MeshParts) (line : List ℕ) (r : Result MeshParts Why) → taken p f line ≡ r → ¬
-    (HasFormOf p line) → r ≡ Err Field
-off_form p f line (Ok g) e h = absurd (h (taken_form p f line g ((taken_decided p f).sound line g e)))
-off_form p f line (Err why) e h = elim ((taken_decided p f).only line why e) [
-  | inl k ↦ ap (λ (w : Why). Err w) k
-  | inr k ↦ absurd (h ((taken_decided p f).range line (e ∙ ap (λ (w : Why). Err w) k)))
-]
-
--- and one that is, and is not taken
-off_range : (p : Part) (f : MeshParts) (line : List ℕ) (r : Result MeshParts Why) → taken p f line ≡ r
-    → HasFormOf p line → ((g : MeshParts) → ¬ (IsTaken p f line g)) → r ≡ Err Range
-off_range p f line (Ok g) e form h = absurd (h g ((taken_decided p f).sound line g e))
-off_range p f line (Err why) e form h = elim ((taken_decided p f).only line why e) [
-  | inl k ↦ absurd ((taken_decided p f).field line (e ∙ ap (λ (w : Why). Err w) k) form)
-  | inr k ↦ ap (λ (w : Why). Err w) k
-]
-
 -- where a line is wrong, it is refused, and for this reason
 reason_at : (due : Due) (f : MeshParts) (line : List ℕ) (why : Why) → IsMeshReason due f line why
     → transition_at due f line
@@ -325,12 +255,12 @@ reason_at Last f line TooMany h = absurd h
 reason_at Nothing f line TooMany h = absurd h
 reason_at Title f line Field h = absurd h
 reason_at (Head p) f line Field h = absurd h
-reason_at (Body p n) f line Field h = ap (then_due (lines_due p n)) (off_form p f line (taken p f line) refl h)
+reason_at (Body p n) f line Field h = ap (then_due (lines_due p n)) (off_form (taken p f) (IsTaken p f) (HasFormOf p) (taken_decided p f) (taken_form p f) line (taken p f line) refl h)
 reason_at Last f line Field h = absurd h
 reason_at Nothing f line Field h = absurd h
 reason_at Title f line Range h = absurd h
 reason_at (Head p) f line Range h = absurd h
-reason_at (Body p n) f line Range h = ap (then_due (lines_due p n)) (off_range p f line (taken p f line) refl h.0 h.1)
+reason_at (Body p n) f line Range h = ap (then_due (lines_due p n)) (off_range (taken p f) (IsTaken p f) (HasFormOf p) (taken_decided p f) line (taken p f line) refl h.0 h.1)
 reason_at Last f line Range h = absurd h
 reason_at Nothing f line Range h = absurd h
 reason_at due f line Truncated h = absurd h

@@ -5,10 +5,10 @@ use Rattle.std.specs.Prelude.{⊤}
 use Rattle.std.specs.List.{join_with_byte}
 use Rattle.std.proofs.lemmas.List.Splits.{join_with_byte-slice_split}
 use Rattle.list_laws.specs.Lists.{IsIn}
-use Rattle.edit_files.specs.Numbers.{IsNumber}
-use Rattle.edit_files.specs.Judging.{fields_of, number}
-use Rattle.edit_files.proofs.Cited.{fields_front, fields_last, number_no_space, number_read, number_some, reading}
-use Rattle.edit_files.proofs.Cited.{some_field}
+use Rattle.text_readings.specs.Numbers.{IsNumber}
+use Rattle.text_readings.specs.Scanning.{fields_of, number}
+use Rattle.text_readings.proofs.Cited.{fields_front, fields_last, number_no_space, number_read, number_some, reading}
+use Rattle.text_readings.proofs.Cited.{some_field}
 use Rattle.mesh_reader.specs.Grammar.{HasNumbers}
 use Rattle.mesh_reader.specs.Judging.{field_numbers, in_front}
 

@@ -2,7 +2,8 @@
 use Rattle.std.proofs.Common.{◌≡◌, ℕ, zero, suc, List, [], ◌∷◌, ◌++◌, true, Ok, refl, sym, ap, subst, ◌∙◌}
 use Rattle.std.specs.Prelude.{Option, IfSome}
 use Rattle.std.specs.Borrow.{Bor}
-use Rattle.edit_files.specs.Lines.{lines_of}
+use Rattle.text_readings.specs.Lines.{lines_of}
+use Rattle.text_readings.specs.Readings.{AllLead}
 use Rattle.list_laws.specs.Lists.{IsAscending}
 use Rattle.list_laws.proofs.Cited.{ascend_more, if_some}
 use Rattle.mesh_reader.specs.declared.counted.Counted.{Counted}
@@ -12,7 +13,7 @@ use Rattle.mesh_reader.specs.declared.place.Due.{Due}
 use Rattle.mesh_reader.specs.declared.place.Due.TheVariants.{Title, Head, Body, Last, Nothing}
 use Rattle.mesh_reader.specs.declared.pieces.State.{State}
 use Rattle.mesh_reader.specs.declared.pieces.State.TheVariants.{Right}
-use Rattle.mesh_reader.specs.Grammar.{AllLead, IsMeshText, IsTaken, Leads, MeshParts, Reached, at_end, lines_due}
+use Rattle.mesh_reader.specs.Grammar.{IsMeshText, IsTaken, Leads, LeadsOn, MeshParts, Reached, at_end, lines_due}
 use Rattle.mesh_reader.specs.LinesLeft.{HasAllPoints, IsBehindPoints}
 use Rattle.mesh_reader.specs.Judging.{ascends, reached, transition}
 use Rattle.mesh_reader.specs.Pieces.{HasTaken, comes_to}
@@ -57,7 +58,7 @@ lead_points Last f line next a h =
 lead_points Nothing f line next a h = absurd h
 
 -- and so do lines
-all_points : (lines : List (List ℕ)) (a b : Reached) → HasAllPoints a.due → AllLead lines a b
+all_points : (lines : List (List ℕ)) (a b : Reached) → HasAllPoints a.due → AllLead LeadsOn lines a b
     → b.taken.points ≡ a.taken.points
 all_points [] a b d h = ap (λ (r : Reached). r.taken.points) (sym h)
 all_points (line ∷ lines) a b d h =
@@ -116,7 +117,7 @@ those_points state begun bytes counted h s d more mesh t =
     let lines = lines_of (begun ++ more) in
     let here = ap (λ (v : State). comes_to v lines) (sym s) in
     all_points lines (reached counted.reader) (at_end mesh) d
-    (leads_all counted.number (reached counted.reader) lines mesh
+    (leads_all counted.number (reached counted.reader) (at_end mesh) lines
     (here ∙ h.same more ∙ mesh_judged (bytes ++ more) mesh t))
 
 -- and those are given

@@ -3,7 +3,6 @@ pub mod Corners
 pub mod Taken
 pub mod Decided
 pub mod Judged
-pub mod Turns
 pub mod Order
 pub mod Pieced
 pub mod Given

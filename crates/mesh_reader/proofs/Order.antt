@@ -15,10 +15,11 @@ use Rattle.mesh_reader.specs.declared.place.Part.{Part}
 use Rattle.mesh_reader.specs.declared.place.Part.TheVariants.{Replies, Points, Cells, Hull}
 use Rattle.mesh_reader.specs.declared.place.Due.{Due}
 use Rattle.mesh_reader.specs.declared.place.Due.TheVariants.{Title, Head, Body, Last, Nothing}
-use Rattle.edit_files.specs.Lines.{lines_of}
-use Rattle.edit_files.specs.declared.fault.ReadRefused.{ReadRefused}
+use Rattle.text_readings.specs.Lines.{lines_of}
+use Rattle.text_readings.specs.Readings.{AllLead}
+use Rattle.text_readings.specs.declared.fault.ReadRefused.{ReadRefused}
 use Rattle.mesh_reader.specs.declared.mesh_file.PackedMesh.{PackedMesh}
-use Rattle.mesh_reader.specs.Grammar.{AllLead, AreIndices, IsAfter, IsIndexLine, IsLess, IsMeshText, IsTaken, Leads}
+use Rattle.mesh_reader.specs.Grammar.{AreIndices, IsAfter, IsIndexLine, IsLess, IsMeshText, IsTaken, Leads, LeadsOn}
 use Rattle.mesh_reader.specs.Grammar.{MeshParts, Reached, at_end, at_title, no_parts, parts}
 use Rattle.mesh_reader.specs.Order.{AreInOrder, IsInOrder}
 
@@ -115,7 +116,7 @@ leads_order Last f line b h o = subst (λ (r : Reached). IsInOrder r.taken) (sym
 leads_order Nothing f line b h o = absurd h
 
 -- and where lines do
-all_order : (lines : List (List ℕ)) (a b : Reached) → AllLead lines a b → IsInOrder a.taken → IsInOrder b.taken
+all_order : (lines : List (List ℕ)) (a b : Reached) → AllLead LeadsOn lines a b → IsInOrder a.taken → IsInOrder b.taken
 all_order [] a b h o = subst (λ (r : Reached). IsInOrder r.taken) h o
 all_order (line ∷ lines) a b h o = all_order lines h.0 b h.2 (leads_order a.due a.taken line h.0 h.1 o)
 

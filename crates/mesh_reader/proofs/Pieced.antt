@@ -5,27 +5,26 @@ use Rattle.std.specs.List.{onto_first}
 use Rattle.std.specs.Prelude.{Vec}
 use Rattle.std.specs.declared.alloc.Global.{Global}
 use Rattle.std.proofs.lemmas.Bool.{eqb-false, eqb-true}
-use Rattle.edit_files.specs.declared.fault.Fault.{Fault}
-use Rattle.edit_files.specs.declared.fault.ReadRefused.{ReadRefused}
-use Rattle.edit_files.specs.declared.fault.ReadRefused.TheVariants as refusals
-use Rattle.edit_files.specs.Lines.{lines_of}
-use Rattle.edit_files.proofs.Cited.{line_first, without_append}
+use Rattle.text_readings.specs.declared.fault.Fault.{Fault}
+use Rattle.text_readings.specs.declared.fault.ReadRefused.{ReadRefused}
+use Rattle.text_readings.specs.declared.fault.ReadRefused.TheVariants as refusals
+use Rattle.text_readings.specs.Lines.{lines_of}
+use Rattle.text_readings.proofs.Cited.{judge_bad, line_first, without_append}
 use Rattle.mesh_reader.specs.declared.counted.Counted.{Counted}
 use Rattle.mesh_reader.specs.declared.mesh_file.PackedMesh.{PackedMesh}
 use Rattle.mesh_reader.specs.declared.place.Part.{Part}
 use Rattle.mesh_reader.specs.declared.place.Part.TheVariants.{Replies, Points, Cells, Hull}
 use Rattle.mesh_reader.specs.declared.place.Due.{Due}
 use Rattle.mesh_reader.specs.declared.place.Due.TheVariants.{Title, Head, Body, Last, Nothing}
-use Rattle.mesh_reader.specs.declared.reader.LineRefused.{LineRefused}
-use Rattle.mesh_reader.specs.declared.reader.LineRefused.TheVariants as line_refusals
+use Rattle.text_readings.specs.declared.fault.LineRefused.{LineRefused}
+use Rattle.text_readings.specs.declared.fault.LineRefused.TheVariants as line_refusals
 use Rattle.mesh_reader.specs.declared.pieces.State.{State}
-use Rattle.mesh_reader.specs.Grammar.{Leads, MeshParts, Reached, at_title, behind, lines_due, most_of, parts}
-use Rattle.edit_files.specs.Judging.{Gives}
-use Rattle.mesh_reader.specs.Judging.{IsRefusal, judge_mesh, refusal_at, transition}
+use Rattle.mesh_reader.specs.Grammar.{Leads, MeshParts, Reached, at_title, behind, lines_due, most_of}
+use Rattle.text_readings.specs.Judging.{Gives, Refuses, judge, refused_at}
+use Rattle.mesh_reader.specs.Judging.{mesh_judge, transition, whole}
 use Rattle.mesh_reader.specs.LinesLeft.{most_behind, most_left}
 use Rattle.mesh_reader.specs.Pieces.{HasNoFeed, HasTaken, LeavesOf, comes_to}
 use Rattle.mesh_reader.proofs.Decided.{step_sound}
-use Rattle.mesh_reader.proofs.Turns.{judge_bad}
 
 -- ---- how many lines may follow
 
@@ -71,12 +70,12 @@ bad_one e fault h = cc
 
 -- then its fault is that of the text, whatever follows
 pub wrong_line : (e : LineRefused) (n : ℕ) (a : Reached) (line : List ℕ) (fault : Fault)
-    → IsRefusal e (transition a line)
-    → refusal_at n e ≡ refusals.Bad fault → (lines : List (List ℕ)) → judge_mesh n a (line ∷ lines) ≡ Err fault
+    → Refuses e (transition a line)
+    → refused_at n e ≡ refusals.Bad fault → (lines : List (List ℕ)) → judge mesh_judge n a (line ∷ lines) ≡ Err fault
 wrong_line line_refusals.Memory n a line fault h e lines = absurd (cc)
 wrong_line (line_refusals.Bad why) n a line fault h e lines =
     let same : ◌≡◌ {A = Fault} (record { line = n; why = why }) fault = cc in
-    judge_bad n a why (line ∷ lines) line lines refl h ∙ ap (λ (f : Fault). Err f) same
+    judge_bad mesh_judge n a why (line ∷ lines) line lines refl h ∙ ap (λ (f : Fault). Err f) same
 
 -- ---- lines of bytes
 
@@ -111,19 +110,19 @@ line_taken before state next all rest line behind h t p more =
 
 module _ (state : State) (begun bytes : List ℕ) (h : HasTaken state begun bytes) where
   -- it makes of the line that is begun what is to be made of the text
-  taken_all : comes_to state (lines_of begun) ≡ judge_mesh 1 at_title (lines_of bytes)
+  taken_all : comes_to state (lines_of begun) ≡ judge mesh_judge 1 at_title (lines_of bytes)
   taken_all =
       ap (λ (l : List ℕ). comes_to state (lines_of l)) (sym (append-nil begun)) ∙ h.same []
-      ∙ ap (λ (l : List ℕ). judge_mesh 1 at_title (lines_of l)) (append-nil bytes)
+      ∙ ap (λ (l : List ℕ). judge mesh_judge 1 at_title (lines_of l)) (append-nil bytes)
 
   -- no line is begun
-  none_begun : begun ≡ [] → comes_to state [] ≡ judge_mesh 1 at_title (lines_of bytes)
+  none_begun : begun ≡ [] → comes_to state [] ≡ judge mesh_judge 1 at_title (lines_of bytes)
   none_begun e = ap (λ (l : List ℕ). comes_to state (lines_of l)) (sym e) ∙ taken_all
 
   -- the line that is begun is the last
   last_taken : (next : State) → 0 < length begun
       → ((lines : List (List ℕ)) → comes_to next lines ≡ comes_to state (begun ∷ lines))
-      → comes_to next [] ≡ judge_mesh 1 at_title (lines_of bytes)
+      → comes_to next [] ≡ judge mesh_judge 1 at_title (lines_of bytes)
   last_taken next l t = t [] ∙ ap (comes_to state) (sym (last_line begun h.begun l)) ∙ taken_all
 
   -- a piece that ends a line
@@ -137,7 +136,7 @@ module _ (state : State) (begun bytes : List ℕ) (h : HasTaken state begun byte
         ap (λ (v : List ℕ). comes_to now (lines_of (v ++ more))) b ∙ l more ∙ t (lines_of (behind ++ more))
         ∙ ap (comes_to state) (sym (line_cut begun line behind piece more h.begun p.1 p.0))
         ∙ h.same (piece ++ more)
-        ∙ ap (λ (v : List ℕ). judge_mesh 1 at_title (lines_of v)) (sym (append_assoc bytes piece more));
+        ∙ ap (λ (v : List ℕ). judge mesh_judge 1 at_title (lines_of v)) (sym (append_assoc bytes piece more));
   }
 
 -- the line that is taken is the one that was begun
@@ -152,11 +151,11 @@ line_begun state next line whole e t =
 module _ (state : State) (begun : Vec ℕ Global) (bytes : List ℕ) (h : HasTaken state begun.items bytes) where
   -- an end of a text that begins no line
   pub none_given : (vec_len begun == 0) ≡ true → (given : Result PackedMesh ReadRefused)
-      → Gives parts given (comes_to state []) → Gives parts given (judge_mesh 1 at_title (lines_of bytes))
+      → Gives whole given (comes_to state []) → Gives whole given (judge mesh_judge 1 at_title (lines_of bytes))
   none_given z given g =
       let k : vec_len begun ≡ 0 = eqb-true (vec_len begun) 0 z in
       let none : length begun.items ≡ 0 = omega (arith, k, begun.ok.0) in
-      subst (λ (v : Result MeshParts Fault). Gives parts given v)
+      subst (λ (v : Result Reached Fault). Gives whole given v)
       (none_begun state begun.items bytes h (empty_list begun.items none)) g
     where
       empty_list : (l : List ℕ) → length l ≡ 0 → l ≡ []
@@ -166,10 +165,10 @@ module _ (state : State) (begun : Vec ℕ Global) (bytes : List ℕ) (h : HasTak
   -- and of one whose last line ends without a line feed
   pub last_given : (vec_len begun == 0) ≡ false → (line : List ℕ) → line ≡ begun.items → (next : State)
       → ((lines : List (List ℕ)) → comes_to next lines ≡ comes_to state (line ∷ lines))
-      → (given : Result PackedMesh ReadRefused) → Gives parts given (comes_to next [])
-      → Gives parts given (judge_mesh 1 at_title (lines_of bytes))
+      → (given : Result PackedMesh ReadRefused) → Gives whole given (comes_to next [])
+      → Gives whole given (judge mesh_judge 1 at_title (lines_of bytes))
   last_given z line e next t given g =
       let k = eqb-false (vec_len begun) 0 z in
       let some : 0 < length begun.items = omega (arith, k, begun.ok.0) in
-      subst (λ (v : Result MeshParts Fault). Gives parts given v)
+      subst (λ (v : Result Reached Fault). Gives whole given v)
       (last_taken state begun.items bytes h next some (line_begun state next line begun.items e t)) g

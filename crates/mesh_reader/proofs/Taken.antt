@@ -1,6 +1,6 @@
 -- What is taken of a line of a list, and why it is not.
-use Rattle.std.proofs.Common.{◌≡◌, ℕ, ◌<◌, Bool, true, false, cond, ltb, List, [], ◌∷◌, ◌++◌, Result, Ok, Err, refl}
-use Rattle.std.proofs.Common.{sym, ap, ◌∙◌, arith, inl, inr}
+use Rattle.std.proofs.Common.{◌≡◌, ℕ, ◌<◌, Bool, true, false, cond, ltb, List, [], ◌∷◌, ◌++◌, Ok, Err, refl, sym, ap}
+use Rattle.std.proofs.Common.{◌∙◌, arith, inl, inr}
 use Rattle.std.specs.Prelude.{◌⊎◌, nat_lt}
 use Rattle.std.specs.Str.{bytes_eq}
 use Rattle.std.specs.Cmp.Lexicographic.{slice_cmp}
@@ -13,30 +13,18 @@ use Rattle.std.proofs.lemmas.Slice.Eq.{bytes_eq-Decides}
 use Rattle.edit_history.specs.declared.history.Reply.{Reply}
 use Rattle.edit_history.specs.declared.history.Reply.TheVariants.{Inserted, Duplicate, Removed, Missing, Flat, Moved}
 use Rattle.edit_history.specs.declared.history.Reply.TheVariants.{Occupied}
-use Rattle.edit_files.specs.declared.fault.Why.{Why}
-use Rattle.edit_files.specs.declared.fault.Why.TheVariants.{Field, Range}
-use Rattle.edit_files.specs.Forms.{HasPointForm, IsPointLine}
-use Rattle.edit_files.specs.Judging.{point}
-use Rattle.edit_files.proofs.Cited.{Decides, points_decided}
+use Rattle.text_readings.specs.declared.fault.Why.{Why}
+use Rattle.text_readings.specs.declared.fault.Why.TheVariants.{Field, Range}
+use Rattle.text_readings.specs.PointLines.{HasPointForm, IsPointLine}
+use Rattle.text_readings.specs.Scanning.{point}
+use Rattle.text_readings.proofs.Cited.{Adds, Decides, adds, err_one, ok_err, ok_one, point_form, points_decided}
 use Rattle.mesh_reader.specs.declared.place.Part.{Part}
 use Rattle.mesh_reader.specs.declared.place.Part.TheVariants.{Replies, Points, Cells, Hull}
 use Rattle.mesh_reader.specs.Grammar.{HasFormOf, HasNumbers, IsAfter, IsIndexLine, IsLess, IsTaken, MeshParts}
 use Rattle.mesh_reader.specs.Grammar.{reply_word}
-use Rattle.mesh_reader.specs.Judging.{indexed_corners, is_after_last, is_less, reply_among, reply_of, taken, with_one}
+use Rattle.mesh_reader.specs.Judging.{indexed_corners, is_after_last, is_less, reply_among, reply_of, taken}
 use Rattle.mesh_reader.proofs.Corners.{corners_decided, index_form}
 use Rattle.list_laws.proofs.Cited.{is_less as less_from}
-
--- an answer is not a refusal
-pub ok_err : {A E : Type 0} (a : A) (e : E) → ◌≡◌ {A = Result A E} (Ok a) (Err e) → ⊥
-ok_err a e h = cc
-
--- an answer has one value
-pub ok_one : {A E : Type 0} (a b : A) → ◌≡◌ {A = Result A E} (Ok a) (Ok b) → a ≡ b
-ok_one a b h = cc
-
--- and a refusal one reason
-pub err_one : {A E : Type 0} (a b : E) → ◌≡◌ {A = Result A E} (Err a) (Err b) → a ≡ b
-err_one a b h = cc
 
 -- the form is not the range
 field_not_range : Field ≡ Range → ⊥
@@ -130,74 +118,6 @@ replies_decided = record {
 }
 
 -- ---- one line of a list
-
--- what is added of a line that was read, and why not
-record Adds {A : Type 0} (read : List ℕ → Result A Why) (may : A → Bool) (add : A → MeshParts) (Says : List ℕ → A
-    → Type 0) (Form : List ℕ → Type 0) : Type 0 where
-  sound : (line : List ℕ) (g : MeshParts) → with_one may add (read line) ≡ Ok g → (a : A) × Says line a × (may a
-      ≡ true) × (g ≡ add a)
-  complete : (line : List ℕ) (a : A) → Says line a → may a ≡ true → with_one may add (read line) ≡ Ok (add a)
-  field : (line : List ℕ) → with_one may add (read line) ≡ Err Field → Form line → ⊥
-  range : (line : List ℕ) → with_one may add (read line) ≡ Err Range → Form line
-  only : (line : List ℕ) (why : Why) → with_one may add (read line) ≡ Err why → (why ≡ Field) ⊎ (why ≡ Range)
-
--- what was added
-added_ok : {A : Type 0} (may : A → Bool) (add : A → MeshParts) (r : Result A Why) (g : MeshParts) → with_one may add r
-    ≡ Ok g → (a : A) × (r ≡ Ok a) × (may a ≡ true) × (g ≡ add a)
-added_ok may add (Err why) g h = absurd (ok_err g why (sym h))
-added_ok {A} may add (Ok a) g h = by_test (may a) refl h
-  where
-    -- by the test
-    by_test : (t : Bool) → may a ≡ t → cond t (Ok (add a)) (Err Range) ≡ Ok g → (b : A) × (◌≡◌ {A = Result A Why}
-        (Ok a) (Ok b)) × (may b ≡ true) × (g ≡ add b)
-    by_test true e k = (a, refl, e, sym (ok_one (add a) g k))
-    by_test false e k = absurd (ok_err g Range (sym k))
-
--- why nothing was
-added_err : {A : Type 0} (may : A → Bool) (add : A → MeshParts) (r : Result A Why) (why : Why) → with_one may add r
-    ≡ Err why → (r ≡ Err why) ⊎ ((a : A) × (r ≡ Ok a) × (why ≡ Range))
-added_err may add (Err w) why h = inl (ap (λ v. Err v) (err_one w why h))
-added_err {A} may add (Ok a) why h = inr (a, refl, by_test (may a) h)
-  where
-    -- by the test
-    by_test : (t : Bool) → cond t (Ok (add a)) (Err Range) ≡ Err why → why ≡ Range
-    by_test true k = absurd (ok_err (add a) why k)
-    by_test false k = sym (err_one Range why k)
-
--- where reading decides what a line says, adding decides what is taken
-adds : {A : Type 0} (read : List ℕ → Result A Why) (may : A → Bool) (add : A → MeshParts) (Says : List ℕ → A → Type 0)
-    (Form : List ℕ → Type 0) → Decides read Says Form → ((line : List ℕ) (a : A) → Says line a → Form line)
-    → Adds read may add Says Form
-adds {A} read may add Says Form d form = record {
-  sound = λ line g h. let k = added_ok may add (read line) g h in (k.0, d.sound line k.0 k.1, k.2, k.3);
-  complete = λ line a says fits. ap (with_one may add) (d.complete line a says) ∙ ap (λ (t : Bool). cond t (Ok
-      (add a)) (Err Range)) fits;
-  field = λ line h has. elim (added_err may add (read line) Field h) [
-    | inl k ↦ d.field line k has
-    | inr k ↦ field_not_range k.2
-  ];
-  range = λ line h. elim (added_err may add (read line) Range h) [
-    | inl k ↦ d.range line k
-    | inr k ↦ form line k.0 (d.sound line k.0 k.1)
-  ];
-  only = λ line why h. elim (added_err may add (read line) why h) [
-    | inl k ↦ d.only line why k
-    | inr k ↦ inr k.2
-  ];
-}
-
--- a point line has its form
-point_form : (line : List ℕ) (p : ℕ) → IsPointLine line p → HasPointForm line
-point_form line p s = record {
-  x = s.x;
-  y = s.y;
-  z = s.z;
-  fields = s.fields;
-  x_number = s.x_value.number;
-  y_number =
-      s.y_value.number;
-  z_number = s.z_value.number;
-}
 
 -- so it is with replies
 reply_adds : (f : MeshParts) → Adds reply_of (λ r. true) (λ r. record f { replies = f.replies ++ r ∷ [] }) IsReplyLine

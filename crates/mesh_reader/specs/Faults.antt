@@ -1,12 +1,13 @@
 -- The one fault of a text that is of no mesh.
-use Rattle.std.specs.Prelude.{◌≡◌, ◌≢◌, ◌⊎◌, ℕ, ◌+◌, List, ◌∷◌, ◌++◌, ⊤, length, codes}
-use Rattle.edit_files.specs.declared.fault.Why.{Why}
-use Rattle.edit_files.specs.declared.fault.Why.TheVariants.{Section, Field, Range, TooMany, Truncated}
-use Rattle.edit_files.specs.declared.fault.Fault.{Fault}
-use Rattle.edit_files.specs.Lines.{lines_of}
+use Rattle.std.specs.Prelude.{◌≡◌, ◌≢◌, ℕ, List, ⊤, codes}
+use Rattle.text_readings.specs.declared.fault.Why.{Why}
+use Rattle.text_readings.specs.declared.fault.Why.TheVariants.{Section, Field, Range, TooMany, Truncated}
+use Rattle.text_readings.specs.declared.fault.Fault.{Fault}
+use Rattle.text_readings.specs.Lines.{lines_of}
+use Rattle.text_readings.specs.Readings.{IsFaultOf, Reading}
 use Rattle.mesh_reader.specs.declared.place.Due.{Due}
 use Rattle.mesh_reader.specs.declared.place.Due.TheVariants.{Title, Head, Body, Last, Nothing}
-use Rattle.mesh_reader.specs.Grammar.{AllLead, HasFormOf, HasHeadForm, IsHead, IsTaken, MeshParts, Reached, at_title}
+use Rattle.mesh_reader.specs.Grammar.{HasFormOf, HasHeadForm, IsHead, IsTaken, LeadsOn, MeshParts, Reached, at_title}
 
 -- another word is due, or no line at all
 abbrev pub IsWrongWord : Due → List ℕ → Type 0
@@ -39,25 +40,15 @@ IsMeshReason due f line Field = IsOfNoForm due line
 IsMeshReason due f line Range = IsOutOfRange due f line
 IsMeshReason due f line Truncated = ⊥
 
--- the first wrong line: its number, from 1, and why it is wrong
-pub record IsWrongLine (lines : List (List ℕ)) (fault : Fault) : Type 0 where
-  pub front : List (List ℕ)
-  pub line : List ℕ
-  pub rest : List (List ℕ)
-  pub place : lines ≡ front ++ line ∷ rest
-  pub at : Reached
-  pub right_so_far : AllLead front at_title at
-  pub number : fault.line ≡ length front + 1
-  pub reason : IsMeshReason at.due at.taken line fault.why
-
--- all lines are right, and more are due
-pub record IsCutOff (lines : List (List ℕ)) (fault : Fault) : Type 0 where
-  pub at : Reached
-  pub right : AllLead lines at_title at
-  pub more : at.due ≢ Nothing
-  pub number : fault.line ≡ length lines + 1
-  pub truncated : fault.why ≡ Truncated
+-- how the text of a mesh is read, up to where nothing is due
+abbrev pub mesh_reading : Reading Reached
+mesh_reading =
+    record {
+      Leads = LeadsOn;
+      IsReason = λ a line why. IsMeshReason a.due a.taken line why;
+      IsEnd = λ a. a.due ≡ Nothing;
+    }
 
 -- the text is of no mesh, and this is its fault
 abbrev pub IsMeshFault : List ℕ → Fault → Type 0
-IsMeshFault bytes fault = IsWrongLine (lines_of bytes) fault ⊎ IsCutOff (lines_of bytes) fault
+IsMeshFault bytes fault = IsFaultOf mesh_reading at_title (lines_of bytes) fault

@@ -9,9 +9,10 @@ use Rattle.list_laws.specs.Lists.{IsIn, IsAscending}
 use Rattle.edit_history.specs.declared.history.Reply.{Reply}
 use Rattle.edit_history.specs.declared.history.Reply.TheVariants.{Inserted, Duplicate, Removed, Missing, Flat, Moved}
 use Rattle.edit_history.specs.declared.history.Reply.TheVariants.{Occupied}
-use Rattle.edit_files.specs.Lines.{lines_of}
-use Rattle.edit_files.specs.Numbers.{IsNumber, IsNumberOf}
-use Rattle.edit_files.specs.Forms.{HasPointForm, IsPointLine}
+use Rattle.text_readings.specs.Lines.{lines_of}
+use Rattle.text_readings.specs.Readings.{AllLead}
+use Rattle.text_readings.specs.Numbers.{IsNumber, IsNumberOf}
+use Rattle.text_readings.specs.PointLines.{HasPointForm, IsPointLine}
 use Rattle.mesh_reader.specs.declared.mesh_file.MeshFile.{MeshFile}
 use Rattle.mesh_reader.specs.declared.mesh_file.PackedMesh.{PackedMesh}
 use Rattle.mesh_reader.specs.declared.place.Part.{Part}
@@ -173,10 +174,9 @@ Leads (Body p n) f line next =
 Leads Last f line next = (line ≡ codes "end") × (next ≡ record { due = Nothing; taken = f })
 Leads Nothing f line next = ⊥
 
--- the lines are right, one after another
-abbrev pub AllLead : List (List ℕ) → Reached → Reached → Type 0
-AllLead [] a b = a ≡ b
-AllLead (line ∷ lines) a b = (m : Reached) × Leads a.due a.taken line m × AllLead lines m b
+-- the same where a reading is
+abbrev pub LeadsOn : Reached → List ℕ → Reached → Type 0
+LeadsOn a line b = Leads a.due a.taken line b
 
 -- where a reading begins, and where it ends
 abbrev pub at_title : Reached
@@ -187,4 +187,4 @@ at_end f = record { due = Nothing; taken = f }
 
 -- the text is that of the mesh
 abbrev pub IsMeshText : List ℕ → MeshParts → Type 0
-IsMeshText bytes f = AllLead (lines_of bytes) at_title (at_end f)
+IsMeshText bytes f = AllLead LeadsOn (lines_of bytes) at_title (at_end f)

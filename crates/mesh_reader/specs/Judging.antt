@@ -1,26 +1,24 @@
 -- Judging a text line by line, as the reader does. That this decides the grammar and finds its fault is proved.
-use Rattle.std.specs.Prelude.{◌≡◌, ℕ, zero, suc, Bool, true, List, [], ◌∷◌, ◌++◌, ◌+◌, ◌&&◌, length, codes}
-use Rattle.std.specs.Prelude.{slice_index_or, nat_lt, nat_le, ◌==◌, if◌then◌else◌, Option, Some, None, Result, Ok, Err}
+use Rattle.std.specs.Prelude.{ℕ, zero, suc, Bool, true, false, List, [], ◌∷◌, ◌++◌, ◌&&◌, length, codes, slice_index_or}
+use Rattle.std.specs.Prelude.{nat_lt, nat_le, ◌==◌, if◌then◌else◌, Option, Some, None, Result, Ok, Err}
 use Rattle.std.specs.Str.{bytes_eq}
 use Rattle.std.specs.Cmp.Lexicographic.{slice_cmp}
 use Rattle.std.specs.Ordering.{nat_cmp, is_lt}
 use Rattle.edit_history.specs.declared.history.Reply.{Reply}
 use Rattle.edit_history.specs.declared.history.Reply.TheVariants.{Inserted, Duplicate, Removed, Missing, Flat, Moved}
 use Rattle.edit_history.specs.declared.history.Reply.TheVariants.{Occupied}
-use Rattle.edit_files.specs.declared.fault.Why.{Why}
-use Rattle.edit_files.specs.declared.fault.Why.TheVariants.{Section, Field, Range, TooMany, Truncated}
-use Rattle.edit_files.specs.declared.fault.Fault.{Fault}
-use Rattle.edit_files.specs.declared.fault.ReadRefused.{ReadRefused}
-use Rattle.edit_files.specs.declared.fault.ReadRefused.TheVariants as refusals
-use Rattle.edit_files.specs.Judging.{fields_of, number, point}
+use Rattle.text_readings.specs.declared.fault.Why.{Why}
+use Rattle.text_readings.specs.declared.fault.Why.TheVariants.{Section, Field, Range, TooMany}
+use Rattle.text_readings.specs.Judging.{Judge, then_at, with_one}
+use Rattle.text_readings.specs.Scanning.{fields_of, number, point}
 use Rattle.mesh_reader.specs.declared.place.Part.{Part}
 use Rattle.mesh_reader.specs.declared.place.Part.TheVariants.{Replies, Points, Cells, Hull}
 use Rattle.mesh_reader.specs.declared.place.Due.{Due}
 use Rattle.mesh_reader.specs.declared.place.Due.TheVariants.{Title, Head, Body, Last, Nothing}
-use Rattle.mesh_reader.specs.declared.reader.LineRefused.{LineRefused}
-use Rattle.mesh_reader.specs.declared.reader.LineRefused.TheVariants as line_refusals
+use Rattle.mesh_reader.specs.declared.mesh_file.PackedMesh.{PackedMesh}
 use Rattle.mesh_reader.specs.declared.reader.Reader.{Reader}
-use Rattle.mesh_reader.specs.Grammar.{MeshParts, Reached, lines_due, most_of, parts, point_limit, reply_word, head_word}
+use Rattle.mesh_reader.specs.Grammar.{MeshParts, Reached, at_end, head_word, lines_due, most_of, parts, point_limit}
+use Rattle.mesh_reader.specs.Grammar.{reply_word}
 
 -- ---- lines
 
@@ -100,11 +98,6 @@ is_less r q = is_lt (slice_cmp nat_cmp r q)
 
 -- ---- what is taken
 
--- what a line says is added, where it may stand there
-abbrev pub with_one : {A : Type 0} → (A → Bool) → (A → MeshParts) → Result A Why → Result MeshParts Why
-with_one may add (Err why) = Err why
-with_one may add (Ok a) = if may a then Ok (add a) else Err Range
-
 -- what a line of a list adds
 abbrev pub taken : Part → MeshParts → List ℕ → Result MeshParts Why
 taken Replies f line =
@@ -124,8 +117,7 @@ abbrev pub now_due : Due → MeshParts → Result Reached Why
 now_due due f = Ok (record { due = due; taken = f })
 
 abbrev pub then_due : Due → Result MeshParts Why → Result Reached Why
-then_due due (Err why) = Err why
-then_due due (Ok f) = now_due due f
+then_due due r = then_at (λ g. record { due = due; taken = g }) r
 
 abbrev pub headed : Part → MeshParts → Option ℕ → Result Reached Why
 headed p f None = Err Section
@@ -143,38 +135,23 @@ transition a line = transition_at a.due a.taken line
 
 -- ---- all lines
 
--- the end of the lines; n is the number of the line that is missing
-abbrev pub judged_end : ℕ → Due → MeshParts → Result MeshParts Fault
-judged_end n Nothing f = Ok f
-judged_end n Title f = Err (record { line = n; why = Truncated })
-judged_end n (Head p) f = Err (record { line = n; why = Truncated })
-judged_end n (Body p m) f = Err (record { line = n; why = Truncated })
-judged_end n Last f = Err (record { line = n; why = Truncated })
+-- nothing more is due
+abbrev pub is_nothing : Due → Bool
+is_nothing Nothing = true
+is_nothing Title = false
+is_nothing (Head p) = false
+is_nothing (Body p n) = false
+is_nothing Last = false
 
--- what follows a line: the rest is judged, or the line was wrong
-abbrev pub judged_on : ℕ → Result Reached Why → (Reached → Result MeshParts Fault) → Result MeshParts Fault
-judged_on n (Err why) rest = Err (record { line = n; why = why })
-judged_on n (Ok a) rest = rest a
+-- how a text is judged, line by line
+abbrev pub mesh_judge : Judge Reached
+mesh_judge = record { step = transition; may_end = λ a. is_nothing a.due }
 
--- the lines from line n on
-unfoldable pub judge_mesh : ℕ → Reached → List (List ℕ) → Result MeshParts Fault
-judge_mesh n a [] = judged_end n a.due a.taken
-judge_mesh n a (line ∷ lines) = judged_on n (transition a line) (λ b. judge_mesh (n + 1) b lines)
-
--- ---- what the functions return
+-- ---- what the functions see
 
 abbrev pub reached : Reader → Reached
 reached r = record { due = r.due; taken = parts r.file }
 
--- what a step left, or why it stopped
-abbrev pub IsRefusal : {Y : Type 0} → LineRefused → Result Y Why → Type 0
-IsRefusal line_refusals.Memory judged = Unit {0}
-IsRefusal (line_refusals.Bad why) judged = judged ≡ Err why
-
-abbrev pub IsTransition : {Y : Type 0} → Result Unit LineRefused → Y → Result Y Why → Type 0
-IsTransition (Ok u) now judged = judged ≡ Ok now
-IsTransition (Err e) now judged = IsRefusal e judged
-
-abbrev pub refusal_at : ℕ → LineRefused → ReadRefused
-refusal_at n line_refusals.Memory = refusals.Memory
-refusal_at n (line_refusals.Bad why) = refusals.Bad (record { line = n; why = why })
+-- a mesh that was read to its end
+abbrev pub whole : PackedMesh → Reached
+whole f = at_end (parts f)

@@ -1,20 +1,21 @@
 -- A text that is read piece by piece, as far as its pieces came.
 use Rattle.std.specs.Prelude.{◌≡◌, ℕ, ◌==◌, false, List, ◌++◌, Result, Err}
 use Rattle.std.specs.List.{AllByRecursion}
-use Rattle.edit_files.specs.declared.fault.Fault.{Fault}
-use Rattle.edit_files.specs.Lines.{lines_of}
+use Rattle.text_readings.specs.declared.fault.Fault.{Fault}
+use Rattle.text_readings.specs.Judging.{judge}
+use Rattle.text_readings.specs.Lines.{lines_of}
 use Rattle.mesh_reader.specs.declared.pieces.State.{State}
 use Rattle.mesh_reader.specs.declared.pieces.State.TheVariants.{Right, Wrong}
-use Rattle.mesh_reader.specs.Grammar.{MeshParts, at_title}
-use Rattle.mesh_reader.specs.Judging.{judge_mesh, reached}
+use Rattle.mesh_reader.specs.Grammar.{Reached, at_title}
+use Rattle.mesh_reader.specs.Judging.{mesh_judge, reached}
 
 -- no line feed (10) is among the bytes
 abbrev pub HasNoFeed : List ℕ → Type 0
 HasNoFeed bytes = AllByRecursion (λ b. (b == 10) ≡ false) bytes
 
 -- what is made of the lines that follow
-abbrev pub comes_to : State → List (List ℕ) → Result MeshParts Fault
-comes_to (Right counted) lines = judge_mesh counted.number (reached counted.reader) lines
+abbrev pub comes_to : State → List (List ℕ) → Result Reached Fault
+comes_to (Right counted) lines = judge mesh_judge counted.number (reached counted.reader) lines
 comes_to (Wrong fault) lines = Err fault
 
 -- the same is made of what is left, whatever follows it, as of all of it
@@ -27,4 +28,4 @@ LeavesOf before all now left =
 pub record HasTaken (state : State) (line bytes : List ℕ) : Type 0 where
   pub begun : HasNoFeed line
   pub same : (more : List ℕ) → comes_to state (lines_of (line ++ more))
-      ≡ judge_mesh 1 at_title (lines_of (bytes ++ more))
+      ≡ judge mesh_judge 1 at_title (lines_of (bytes ++ more))

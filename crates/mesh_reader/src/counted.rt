@@ -1,17 +1,17 @@
 //! A reader that counts its lines.
 
 ghost use Rattle.std.specs.Prelude.{◌≡◌, ◌+◌, ◌≤◌, ◌∷◌, [], List, ℕ, IfOk, Err, true};
-ghost use Rattle.edit_files.specs.declared.fault.Fault.{Fault as FaultParts};
-ghost use Rattle.edit_files.specs.declared.fault.ReadRefused.TheVariants.{Bad};
-ghost use Rattle.mesh_reader.specs.Grammar.{at_title, parts};
-ghost use Rattle.edit_files.specs.Judging.{Gives};
-ghost use Rattle.mesh_reader.specs.Judging.{ascends, judge_mesh, reached};
+ghost use Rattle.text_readings.specs.declared.fault.Fault.{Fault as FaultParts};
+ghost use Rattle.text_readings.specs.declared.fault.ReadRefused.TheVariants.{Bad};
+ghost use Rattle.mesh_reader.specs.Grammar.{at_title};
+ghost use Rattle.text_readings.specs.Judging.{Gives, judge};
+ghost use Rattle.mesh_reader.specs.Judging.{ascends, mesh_judge, reached, whole};
 ghost use Rattle.mesh_reader.specs.LinesLeft.{line_bound, most_left};
 
 use crate::mesh_file::PackedMesh;
 use crate::reader::Reader;
-use edit_files::ReadRefused;
 use std::alloc::Global;
+use text_readings::ReadRefused;
 
 /// A reader whose lines were right so far.
 #[derive(Drop)]
@@ -37,10 +37,10 @@ impl Counted {
     // Takes the line that is due.
     pub(crate) fn take_line(self, line: &[u8]) -> Result<Counted, ReadRefused>
         ensures right { IfOk result (λ next. (lines : List (List ℕ)) →
-            judge_mesh next.number (reached next.reader) lines
-            ≡ judge_mesh self.number (reached self.reader) (line.now ∷ lines)) }
+            judge mesh_judge next.number (reached next.reader) lines
+            ≡ judge mesh_judge self.number (reached self.reader) (line.now ∷ lines)) }
         ensures wrong { (fault : FaultParts) → result ≡ Err (Bad fault) → (lines : List (List ℕ)) →
-            judge_mesh self.number (reached self.reader) (line.now ∷ lines) ≡ Err fault }
+            judge mesh_judge self.number (reached self.reader) (line.now ∷ lines) ≡ Err fault }
     {
         let Counted { mut reader, number } = self;
         match reader.take_line(line) {
@@ -54,7 +54,7 @@ impl Counted {
 
     // The mesh, where its end was read.
     pub(crate) fn finish(self) -> Result<PackedMesh, ReadRefused>
-        ensures { Gives parts result (judge_mesh self.number (reached self.reader) []) }
+        ensures { Gives whole result (judge mesh_judge self.number (reached self.reader) []) }
     {
         let Counted { reader, number } = self;
         reader.finish(number)

@@ -1,7 +1,7 @@
 //! Laws of the text of a mesh. They take part in no run: each is the contract of a function with nothing in it.
 
 ghost use Rattle.std.specs.Prelude.{◌≡◌, ◌⊎◌, ℕ, List};
-ghost use Rattle.edit_files.specs.declared.fault.Fault.{Fault};
+ghost use Rattle.text_readings.specs.declared.fault.Fault.{Fault};
 ghost use Rattle.mesh_reader.specs.Grammar.{IsMeshText, MeshParts};
 ghost use Rattle.mesh_reader.specs.Faults.{IsMeshFault};
 ghost use Rattle.mesh_reader.specs.Order.{IsInOrder};

@@ -2,9 +2,8 @@
 
 ghost use Rattle.std.specs.Prelude.{◌≡◌, ◌<◌, [], ◌∷◌, ◌&&◌, nat_lt, true, false, Some, None, Ok, Err, MatchOption};
 ghost use Rattle.std.specs.Prelude.{slice_index_or, length, if◌then◌else◌};
-ghost use Rattle.std.specs.Str.{bytes_eq};
-ghost use Rattle.edit_files.specs.Judging.{fields_of};
-ghost use Rattle.edit_files.specs.declared.fault.Why.TheVariants.{Range};
+ghost use Rattle.text_readings.specs.Scanning.{fields_of};
+ghost use Rattle.text_readings.specs.declared.fault.Why.TheVariants.{Range};
 ghost use Rattle.mesh_reader.specs.Grammar.{point_limit};
 ghost use Rattle.mesh_reader.specs.Judging.{announced as announced_by, ascends, field_numbers, in_order};
 ghost use Rattle.mesh_reader.specs.Judging.{indexed_corners, indexed_point as point_at_index, indexed_points};
@@ -12,10 +11,10 @@ ghost use Rattle.mesh_reader.specs.Judging.{reply_of as reply_in, stripped};
 
 use crate::place::{POINT_LIMIT, Part, word_of};
 use cell_lists::Places;
-use edit_files::{Why, first_field, number_of};
 use edit_history::Reply;
 use point_order::{Cell, Point, Quad, Tri};
 use std::marker::Model;
+use text_readings::{Why, first_field, number_of, reads};
 
 // A cell, and where its points stand. Contracts see it as the cell.
 #[derive(Drop)]
@@ -44,13 +43,6 @@ impl Placed {
     pub(crate) fn places(&self) -> Places {
         self.places
     }
-}
-
-// Is the line this word?
-pub(crate) fn reads(line: &[u8], word: &[u8]) -> bool
-    ensures { result ≡ bytes_eq line.now word.now }
-{
-    line == word
 }
 
 // What follows the word, where the line begins with it.

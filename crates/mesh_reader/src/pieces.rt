@@ -1,23 +1,24 @@
 //! Reading the text of a mesh that comes in pieces.
 
 ghost use Rattle.std.specs.Prelude.{◌≡◌, ◌++◌, ◌∷◌, [], List, ℕ, MatchOption, IfSome, IfOk, Err, true};
-ghost use Rattle.edit_files.specs.declared.fault.Fault.{Fault as FaultParts};
-ghost use Rattle.edit_files.specs.declared.fault.ReadRefused.TheVariants.{Bad};
-ghost use Rattle.edit_files.specs.Lines.{lines_of};
+ghost use Rattle.text_readings.specs.declared.fault.Fault.{Fault as FaultParts};
+ghost use Rattle.text_readings.specs.declared.fault.ReadRefused.TheVariants.{Bad};
+ghost use Rattle.text_readings.specs.Lines.{lines_of};
 ghost use Rattle.list_laws.specs.Lists.{IsAscending};
 ghost use Rattle.mesh_reader.specs.Faults.{IsMeshFault};
 ghost use Rattle.mesh_reader.specs.Grammar.{IsMeshText, MeshParts, file_parts, parts};
-ghost use Rattle.edit_files.specs.Judging.{Gives};
+ghost use Rattle.text_readings.specs.Judging.{Gives};
+ghost use Rattle.mesh_reader.specs.Judging.{whole};
 ghost use Rattle.mesh_reader.specs.Order.{IsInOrder};
 ghost use Rattle.mesh_reader.specs.Pieces.{HasNoFeed, LeavesOf, comes_to};
 
 use crate::counted::Counted;
 use crate::mesh_file::{MeshFile, PackedMesh};
 use crate::taken_bytes::TakenBytes;
-use edit_files::{Fault, ReadRefused};
 use point_order::Point;
 use std::alloc::{AllocError, Global};
 use std::marker::Model;
+use text_readings::{Fault, ReadRefused};
 
 // The bytes up to the first line feed, and those behind it, where there is one.
 fn whole_line(bytes: &[u8]) -> Option<(&[u8], &[u8])>
@@ -83,7 +84,7 @@ impl State {
 
     // The mesh, where its end was read.
     fn finish(self) -> Result<PackedMesh, ReadRefused>
-        ensures { Gives parts result (comes_to self []) }
+        ensures { Gives whole result (comes_to self []) }
     {
         match self {
             State::Right(counted) => counted.finish(),

@@ -2,71 +2,22 @@
 
 ghost use Rattle.std.specs.Prelude.{◌≡◌, IfSome, Err, nat_lt, if◌then◌else◌};
 ghost use Rattle.std.specs.Str.{bytes_eq};
-ghost use Rattle.edit_files.specs.Judging.{Gives};
-ghost use Rattle.edit_files.specs.declared.fault.Why.TheVariants.{Section};
+ghost use Rattle.text_readings.specs.Judging.{Gives, Steps, judged_end};
+ghost use Rattle.text_readings.specs.declared.fault.Why.TheVariants.{Section};
 ghost use Rattle.mesh_reader.specs.declared.place.Part.TheVariants as lists;
 ghost use Rattle.mesh_reader.specs.Grammar.{at_title, parts};
-ghost use Rattle.mesh_reader.specs.Judging.{IsTransition, announced as announced_by, headed, is_after_last, is_less};
-ghost use Rattle.mesh_reader.specs.Judging.{judged_end, now_due, reached, refusal_at, taken, transition};
+ghost use Rattle.mesh_reader.specs.Judging.{announced as announced_by, headed, is_after_last, is_less, mesh_judge};
+ghost use Rattle.mesh_reader.specs.Judging.{now_due, reached, taken, transition, whole};
 ghost use Rattle.mesh_reader.specs.LinesLeft.{HasAllPoints};
 
-use crate::line::{announced, quad_of, reads, reply_of, tri_of};
+use crate::line::{announced, quad_of, reply_of, tri_of};
 use crate::mesh_file::PackedMesh;
 use crate::place::{Due, Part, limit_of, lines_due};
 use cell_lists::QuadList;
-use edit_files::{Fault, ReadRefused, Why, point_of};
 use point_order::{Cell, Point, Quad, Tri};
-use std::alloc::{AllocError, AllocFailed, Global};
+use std::alloc::Global;
 use std::cmp::Ordering;
-
-// Why a line was not taken.
-#[derive(Clone, Copy)]
-pub(crate) enum LineRefused {
-    Bad(Why),
-    Memory,
-}
-
-impl LineRefused {
-    // Why the text was not read, where this line has that number.
-    pub(crate) fn of_line(self, line: u64) -> ReadRefused
-        ensures { result ≡ refusal_at line self }
-    {
-        match self {
-            LineRefused::Bad(why) => ReadRefused::Bad(Fault { line, why }),
-            LineRefused::Memory => ReadRefused::Memory,
-        }
-    }
-}
-
-impl From<Why> for LineRefused {
-    ghost use Rattle.mesh_reader.specs.declared.reader.LineRefused.TheVariants as line_refusals;
-
-    ghost from_gives = { λ why e. e ≡ line_refusals.Bad why };
-
-    fn from(why: Why) -> LineRefused {
-        LineRefused::Bad(why)
-    }
-}
-
-impl<T: Drop> From<AllocFailed<T>> for LineRefused {
-    ghost use Rattle.mesh_reader.specs.declared.reader.LineRefused.TheVariants as line_refusals;
-
-    ghost from_gives = { λ _ e. e ≡ line_refusals.Memory };
-
-    fn from(_e: AllocFailed<T>) -> LineRefused {
-        LineRefused::Memory
-    }
-}
-
-impl From<AllocError> for LineRefused {
-    ghost use Rattle.mesh_reader.specs.declared.reader.LineRefused.TheVariants as line_refusals;
-
-    ghost from_gives = { λ _ e. e ≡ line_refusals.Memory };
-
-    fn from(_e: AllocError) -> LineRefused {
-        LineRefused::Memory
-    }
-}
+use text_readings::{Fault, LineRefused, ReadRefused, Why, point_of, reads};
 
 // A reader: what is due, and what it took so far.
 #[derive(Drop)]
@@ -114,7 +65,7 @@ fn is_after_triples(triples: &[Tri], tri: Tri) -> bool
 impl PackedMesh {
     // Takes a reply.
     fn take_reply(&mut self, line: &[u8]) -> Result<(), LineRefused>
-        ensures { IsTransition result (parts self.new) (taken lists.Replies (parts self.old) line.now) }
+        ensures { Steps result (parts self.new) (taken lists.Replies (parts self.old) line.now) }
     {
         self.replies.push(reply_of(line)?)?;
         Ok(())
@@ -122,7 +73,7 @@ impl PackedMesh {
 
     // Takes a point.
     fn take_point(&mut self, line: &[u8]) -> Result<(), LineRefused>
-        ensures { IsTransition result (parts self.new) (taken lists.Points (parts self.old) line.now) }
+        ensures { Steps result (parts self.new) (taken lists.Points (parts self.old) line.now) }
     {
         let point = point_of(line)?;
         if !is_after_points(&self.points, point) {
@@ -135,7 +86,7 @@ impl PackedMesh {
 
     // Takes a cell.
     fn take_cell(&mut self, line: &[u8]) -> Result<(), LineRefused>
-        ensures { IsTransition result (parts self.new) (taken lists.Cells (parts self.old) line.now) }
+        ensures { Steps result (parts self.new) (taken lists.Cells (parts self.old) line.now) }
     {
         let placed = quad_of(&self.points, line)?;
         if !is_after_cells(&self.cells, placed.quad()) {
@@ -147,7 +98,7 @@ impl PackedMesh {
 
     // Takes a triple.
     fn take_triple(&mut self, line: &[u8]) -> Result<(), LineRefused>
-        ensures { IsTransition result (parts self.new) (taken lists.Hull (parts self.old) line.now) }
+        ensures { Steps result (parts self.new) (taken lists.Hull (parts self.old) line.now) }
     {
         let tri = tri_of(&self.points, line)?;
         if !is_after_triples(&self.hull, tri) {
@@ -159,7 +110,7 @@ impl PackedMesh {
 
     // Takes a line of a list.
     fn take(&mut self, part: Part, line: &[u8]) -> Result<(), LineRefused>
-        ensures { IsTransition result (parts self.new) (taken part (parts self.old) line.now) }
+        ensures { Steps result (parts self.new) (taken part (parts self.old) line.now) }
     {
         match part {
             Part::Replies => self.take_reply(line),
@@ -199,7 +150,7 @@ impl Reader {
 
     // Takes the line that follows.
     pub(crate) fn take_line(&mut self, line: &[u8]) -> Result<(), LineRefused>
-        ensures { IsTransition result (reached self.new) (transition (reached self.old) line.now) }
+        ensures { Steps result (reached self.new) (transition (reached self.old) line.now) }
     {
         match self.due {
             Due::Title => self.take_word(line, b"mesh3-out 1", Due::Head(Part::Replies)),
@@ -216,7 +167,7 @@ impl Reader {
 
     // Takes a line that is to be this word, and goes on to what is due then.
     fn take_word(&mut self, line: &[u8], word: &[u8], next: Due) -> Result<(), LineRefused>
-        ensures { IsTransition result (reached self.new)
+        ensures { Steps result (reached self.new)
             (if bytes_eq line.now word.now then now_due next (parts self.old.file) else Err Section) }
     {
         if !reads(line, word) {
@@ -228,7 +179,7 @@ impl Reader {
 
     // Takes the head of a list.
     fn take_head(&mut self, part: Part, line: &[u8]) -> Result<(), LineRefused>
-        ensures { IsTransition result (reached self.new)
+        ensures { Steps result (reached self.new)
             (headed part (parts self.old.file) (announced_by part line.now)) }
     {
         let Some(count) = announced(part, line) else {
@@ -243,7 +194,7 @@ impl Reader {
 
     // The mesh, where its end was read; `line` is the number of the line that would follow.
     pub(crate) fn finish(self, line: u64) -> Result<PackedMesh, ReadRefused>
-        ensures { Gives parts result (judged_end line self.due (parts self.file)) }
+        ensures { Gives whole result (judged_end mesh_judge line (reached self)) }
     {
         match self.due {
             Due::Nothing => Ok(self.file),

@@ -1,7 +1,7 @@
 use Rattle.std.proofs.Common.{◌≡◌, arith}
 use Rattle.std.proofs.lemmas.Int.{ints}
 use Rattle.point_order.specs.Coordinates.{x_of, y_of, z_of}
-use Rattle.edit_files.proofs.Points.{packed_is}
+use Rattle.text_readings.proofs.Cited.{packed_is}
 use Rattle.edit_files.proofs.generator.point_at.Goals as goal
 
 pub returns : goal.returns

@@ -3,8 +3,9 @@ use Rattle.std.proofs.lemmas.List.{take_rest}
 use Rattle.std.proofs.lemmas.Grind.{common_steps}
 use Rattle.edit_history.specs.declared.history.Edit.TheVariants.{Add, Take}
 use Rattle.edit_files.specs.Versions.{row}
-use Rattle.edit_files.specs.Judging.{edit, edit_at, edit_from, halves, move_of, point}
-use Rattle.edit_files.proofs.Points.{at_equals, at_equals_unmoved, at_other, edit_is, edit_short, edit_other}
+use Rattle.edit_files.specs.Judging.{edit, edit_at, edit_from, halves, move_of}
+use Rattle.text_readings.specs.Scanning.{point}
+use Rattle.edit_files.proofs.Signs.{at_equals, at_equals_unmoved, at_other, edit_is, edit_short, edit_other}
 use Rattle.edit_files.proofs.line.edit_of.Goals as goal
 use Rattle.edit_files.proofs.line.edit_of.Goals.{then-line-lt2-via-then-line-lt2}
 use Rattle.edit_files.proofs.line.edit_of.Goals.{then-line-lt2-via-else-line-lt2+then-line-ne32}

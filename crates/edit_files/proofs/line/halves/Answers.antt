@@ -1,4 +1,4 @@
-use Rattle.std.proofs.Common.{◌≡◌, sym, ◌∙◌, arith}
+use Rattle.std.proofs.Common.{arith}
 use Rattle.edit_files.proofs.Pairs.{halves_one, halves_two, halves_three, halves_at}
 use Rattle.edit_files.proofs.line.halves.Goals as goal
 

@@ -2,11 +2,11 @@ use Rattle.std.proofs.Common.{◌≡◌, ap, sym, ◌∙◌, ℕ, List, ◌++◌
 use Rattle.std.specs.Prelude.{decimal, map}
 use Rattle.edit_history.specs.declared.history.Edit.{Edit}
 use Rattle.edit_files.specs.Content.{Content, content}
-use Rattle.edit_files.specs.Lines.{text_of}
+use Rattle.text_readings.specs.Lines.{text_of}
 use Rattle.edit_files.specs.Versions.{row}
-use Rattle.edit_files.specs.Writing.{edit_text, line_of_point}
-use Rattle.edit_files.proofs.Fronts.{to_radii}
-use Rattle.edit_files.proofs.Written.{ended_put, queries_put, title_put, to_radii_put}
+use Rattle.edit_files.specs.Writing.{edit_text}
+use Rattle.text_readings.specs.PointLines.{line_of_point}
+use Rattle.edit_files.proofs.Written.{ended_put, queries_put, title_put, to_radii, to_radii_put}
 use Rattle.edit_files.proofs.writing.file_text.Goals as goal
 use Rattle.edit_files.proofs.writing.file_text.Goals.{then-row+in_ok-extend_from_slice-4+in_ok-put_points-2, else-row}
 

@@ -1,4 +1,4 @@
-use Rattle.edit_files.specs.Writing.{line_of_point}
+use Rattle.text_readings.specs.PointLines.{line_of_point}
 use Rattle.edit_files.proofs.Written.{line_put, lines_put}
 use Rattle.edit_files.proofs.writing.put_points.Goals as goal
 

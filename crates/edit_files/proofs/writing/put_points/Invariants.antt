@@ -1,8 +1,8 @@
 -- what is put so far and the lines that are left are all of them
 use Rattle.std.proofs.Common.{◌≡◌, ◌++◌, drop}
 use Rattle.std.specs.Prelude.{map}
-use Rattle.edit_files.specs.Lines.{text_of}
-use Rattle.edit_files.specs.Writing.{line_of_point}
+use Rattle.text_readings.specs.Lines.{text_of}
+use Rattle.text_readings.specs.PointLines.{line_of_point}
 use Rattle.edit_files.proofs.writing.put_points.Given as goal
 
 abbrev pub invariant-loop-point : goal.invariant-loop-point

@@ -1,6 +1,6 @@
 use Rattle.std.proofs.Common.{sym, Ok, Err}
 use Rattle.std.specs.Prelude.{[], ◌∷◌}
-use Rattle.edit_files.specs.declared.fault.Why.TheVariants.{Range}
+use Rattle.text_readings.specs.declared.fault.Why.TheVariants.{Range}
 use Rattle.mesh_reader.proofs.Corners.{corners_none, corners_some}
 use Rattle.mesh_reader.proofs.line.quad_of.Goals as goal
 

@@ -1,6 +1,6 @@
 use Rattle.std.proofs.Common.{sym, ◌∙◌, ap, ℕ, Option, Some, []}
-use Rattle.edit_files.specs.Judging.{number}
-use Rattle.edit_files.proofs.Cited.{third_last, third_more}
+use Rattle.text_readings.specs.Scanning.{number}
+use Rattle.text_readings.proofs.Cited.{third_last, third_more}
 use Rattle.mesh_reader.specs.Judging.{in_front}
 use Rattle.mesh_reader.proofs.Fields.{more_fields, one_alone, two_fields}
 use Rattle.mesh_reader.proofs.line.two_of.Goals as goal

@@ -1,8 +1,8 @@
 use Rattle.std.proofs.Common.{◌∷◌, arith, refl, sym, ◌∙◌}
-use Rattle.mesh_reader.specs.Judging.{reached}
+use Rattle.mesh_reader.specs.Judging.{mesh_judge, reached}
 use Rattle.mesh_reader.proofs.Given.{step_ascends}
 use Rattle.mesh_reader.proofs.Pieced.{bad_one, fewer_left, wrong_line}
-use Rattle.mesh_reader.proofs.Turns.{judge_on}
+use Rattle.text_readings.proofs.Cited.{judge_on}
 use Rattle.mesh_reader.proofs.counted.Counted.take_line.Goals as goal
 
 pub invariant_of-result : goal.invariant_of-result
@@ -16,7 +16,7 @@ invariant_of-result c =
     }
 
 pub returns-in-Ok-clause-right : goal.returns-in-Ok-clause-right
-returns-in-Ok-clause-right c = λ lines. sym (judge_on c.args.self.number (reached c.args.self.reader)
+returns-in-Ok-clause-right c = λ lines. sym (judge_on mesh_judge c.args.self.number (reached c.args.self.reader)
     (reached c.take_line.new.self) (c.args.line.now ∷ lines) c.args.line.now lines refl c.in-Ok.ensures)
 
 pub returns-in-Err-clause-wrong : goal.returns-in-Err-clause-wrong

@@ -1,0 +1,12 @@
+pub mod Cuts
+pub mod Numerals
+pub mod Points
+pub mod Values
+pub mod Decided
+pub mod Texts
+pub mod Written
+pub mod Results
+pub mod Turns
+pub mod Judged
+pub mod Steps
+pub mod Cited
