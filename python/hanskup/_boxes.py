@@ -11,7 +11,7 @@ import numpy as np
 
 from ._errors import GREATEST
 from ._grid import cross, dot, keys
-from ._kinds import Bools, Ints, Numbers, Rows
+from ._kinds import Bools, Floats, Ints, Numbers, Rows
 
 _PIECE = 1 << 14  # cells at a time, whose numbers then stay in the processor's cache
 _CORNERS = np.array([[i, k, m] for i in (0, 1) for k in (0, 1) for m in (0, 1)])
@@ -45,19 +45,19 @@ def _coordinates(numbers: Ints) -> Ints:
     return np.stack([numbers >> 28, (numbers >> 14) & GREATEST, numbers & GREATEST])
 
 
-def _cross(u: Ints, v: Ints) -> Ints:
+def _cross(u: Numbers, v: Numbers) -> Numbers:
     # Of vectors by rows of coordinates, whose numbers lie side by side.
     return np.stack([u[1] * v[2] - u[2] * v[1], u[2] * v[0] - u[0] * v[2], u[0] * v[1] - u[1] * v[0]])
 
 
-def _dot(u: Ints, v: Ints) -> Ints:
-    product: Ints = u[0] * v[0] + u[1] * v[1] + u[2] * v[2]
+def _dot(u: Numbers, v: Numbers) -> Numbers:
+    product: Numbers = u[0] * v[0] + u[1] * v[1] + u[2] * v[2]
     return product
 
 
-def _are_inside(places: Ints, cells: Rows, low: Ints, high: Ints) -> Bools:
-    # Places as one number each, so that one look fetches it.
-    a, *others = (_coordinates(places.take(cells[:, k])) for k in range(4))
+def _are_inside(numbers: Ints, cells: Rows, low: Ints, high: Ints) -> Bools:
+    # In whole numbers alone; of places as one number each, so that one look fetches it.
+    a, *others = (_coordinates(numbers.take(cells[:, k])) for k in range(4))
     u, v, w = (point - a for point in others)
     vw = _cross(v, w)
     o = _dot(u, vw)
@@ -77,18 +77,63 @@ def _are_inside(places: Ints, cells: Rows, low: Ints, high: Ints) -> Bools:
     return answer
 
 
-def spheres_inside(places: Ints, cells: Rows, low: Ints, high: Ints) -> Bools:
-    """Of each cell, by numbers of places, whether its circumscribing sphere lies strictly inside a box: away from all
-    points outside it. The box has the points from the corner low to the corner high, both its own, and is open to 0 and
-    to 16383, as no point lies beyond.
+class Spheres:
+    """The circumscribing spheres of cells of places of the grid, in either orientation, made once to be tested in
+    several boxes. The tests are exact: in floating point, and where that leaves a doubt in whole numbers.
 
-    Exact for cells of places of the grid, in either orientation.
+    Attributes:
+        turned: (c,) whether the cell is turned negatively.
     """
-    answer, numbers = np.empty(len(cells), bool), keys(places)
-    for start in range(0, len(cells), _PIECE):
-        piece = slice(start, start + _PIECE)
-        answer[piece] = _are_inside(numbers, cells[piece], low, high)
-    return answer
+
+    def __init__(self, places: Ints, cells: Rows) -> None:
+        self._numbers, self._cells, count = keys(places), cells, len(cells)
+        self._centres, self.turned = np.empty((3, count)), np.empty(count, bool)
+        self._least, self._most = np.empty((2, count))  # between which the radii are, and what centres are off
+        columns = np.ascontiguousarray(places.T, float)
+        for start in range(0, count, _PIECE):
+            piece = slice(start, start + _PIECE)
+            corners = columns.take(np.ascontiguousarray(cells[piece].T, np.intp), axis=1)
+            a, u, v, w = (corners[:, k] for k in range(4))
+            u, v, w = u - a, v - a, w - a
+            squares, vw = (_dot(u, u), _dot(v, v), _dot(w, w)), _cross(v, w)
+            o = _dot(u, vw)  # exact, as all before
+            with np.errstate(divide='ignore', invalid='ignore'):  # of what is flat, and lies in no box
+                half = 0.5 / o
+                away = (squares[0] * vw + squares[1] * _cross(w, u) + squares[2] * _cross(u, v)) * half
+                radii = np.sqrt(_dot(away, away))
+                # The sum of the three products is below a third of this one's square, and is rounded some three times.
+                sizes = squares[0] + squares[1] + squares[2]
+                off = (radii + 2.0 ** 15) * 2.0 ** -48 + sizes * sizes * np.abs(half) * 2.0 ** -49
+            self._centres[:, piece], self.turned[piece] = a + away, o < 0
+            self._least[piece], self._most[piece] = radii - off, radii + off
+
+    def inside(self, low: Ints, high: Ints, chosen: Ints) -> Ints:
+        """Those of chosen cells, by their numbers, whose spheres lie strictly inside a box: away from all points
+        outside it. The box has the points from the corner low to the corner high, both its own, and is open to 0 and
+        to 16383, as no point lies beyond."""
+        sure = np.ones(len(chosen), bool)
+        for axis in np.argsort(high - low, kind='stable'):
+            if low[axis] <= 0 and high[axis] >= GREATEST:
+                continue
+            gap = self._gaps(axis, int(low[axis]), int(high[axis]), chosen)
+            there = np.flatnonzero(gap > self._least.take(chosen))
+            chosen = chosen.take(there)
+            sure = sure.take(there) & (gap.take(there) > self._most.take(chosen))
+        doubtful = np.flatnonzero(~sure)
+        for start in range(0, len(doubtful), _PIECE):
+            piece = doubtful[start:start + _PIECE]
+            sure[piece] = _are_inside(self._numbers, self._cells[chosen[piece]], low, high)
+        return chosen[sure]
+
+    def _gaps(self, axis: int, low: int, high: int, chosen: Ints) -> Floats:
+        # How far their centres are from the planes behind the nearer end of the box, where it has an end.
+        centres = self._centres[axis].take(chosen)
+        gap = np.full(len(chosen), np.inf)
+        if low > 0:
+            gap = centres - (low - 1)
+        if high < GREATEST:
+            gap = np.minimum(gap, (high + 1) - centres)
+        return gap
 
 
 def corners_of(boxes: Ints) -> Ints:

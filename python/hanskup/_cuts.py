@@ -6,13 +6,16 @@ import os
 from typing import Any, NamedTuple
 
 import numpy as np
+import numpy.typing as npt
 
 from ._errors import GREATEST, Flat, OutOfRange
 from ._grid import Placing, numbers_of, placed
-from ._kinds import ArrayLike, Ints, Numbers
+from ._kinds import ArrayLike, Bools, Ints, Numbers
 
 _PIECE = 1 << 20  # points at a time
 _SAMPLE = 200_000  # points by which the cuts are laid
+
+Columns = list[npt.NDArray[np.int16]]  # of points the coordinates along each axis
 
 
 class Plan(NamedTuple):
@@ -70,6 +73,23 @@ def _on_grid(points: Numbers, placing: Placing | None) -> Ints:
     return placing.to_grid(points.astype(float)) if placing else points.astype(np.int64)
 
 
+def _columns(points: Numbers, placing: Placing | None) -> Columns:
+    # The coordinates of points on the grid, those of an axis side by side.
+    placed_points = placing.to_grid(points.astype(float)) if placing else points
+    return [placed_points[:, axis].astype(np.int16) for axis in range(3)]
+
+
+def _within(columns: Columns, low: Ints, high: Ints) -> Bools:
+    """Of each point whether a box has it."""
+    chosen = np.ones(len(columns[0]), bool)
+    for column, least, most in zip(columns, low.tolist(), high.tolist()):
+        if least > 0:
+            chosen &= column >= least
+        if most < GREATEST:
+            chosen &= column <= most
+    return chosen
+
+
 def _split(core: Ints, sample: Ints, count: int) -> list[Ints]:
     """A box in so many parts with about as many points of the sample each, cut across the longest side of these."""
     if count == 1:
@@ -80,8 +100,8 @@ def _split(core: Ints, sample: Ints, count: int) -> list[Ints]:
     if low[axis] == high[axis]:
         raise ValueError('there are more tiles than places')
     share = count // 2
-    line = np.sort(sample[:, axis])
-    wanted = int(line[len(line) * share // count]) if len(line) else int(low[axis] + high[axis] + 1) // 2
+    line, place = sample[:, axis], len(sample) * share // count
+    wanted = int(np.partition(line, place)[place]) if len(line) else int(low[axis] + high[axis] + 1) // 2
     first = min(max(wanted, int(low[axis]) + 1), int(high[axis]))  # the first place of the second part
     below, above = core.copy(), core.copy()
     below[1, axis], above[0, axis] = first - 1, first
@@ -101,34 +121,36 @@ def _widened(core: Ints, sample: Ints, share: float, halo: float) -> Ints:
 class _Files:
     """The files of the points of each tile, and the least boxes of those in the cores."""
 
-    def __init__(self, folder: str, cores: Ints, boxes: Ints, kind: Any) -> None:
-        self.folder, self.cores, self.boxes, self.kind = folder, cores, boxes, kind
+    def __init__(self, folder: str, cores: Ints, boxes: Ints) -> None:
+        self.folder, self.cores, self.boxes = folder, cores, boxes
         self.held = np.stack([np.full_like(cores[:, 0], GREATEST + 1), np.full_like(cores[:, 1], -1)], axis=1)
         for tile in range(len(cores)):
             for path in paths_of(folder, tile):
                 open(path, 'wb').close()
 
-    def put(self, places: Ints, numbers: Ints, first: int, last: int) -> None:
+    def put(self, columns: Columns, numbers: Numbers, first: int, last: int) -> None:
         """Points, each to the tiles first to last - 1 whose boxes have it."""
         low, high = self.boxes[first:last, 0].min(axis=0), self.boxes[first:last, 1].max(axis=0)
-        chosen = ((places >= low) & (places <= high)).all(axis=1)
-        places, numbers = places[chosen], numbers[chosen]
+        if low.any() or (high < GREATEST).any():
+            chosen = np.flatnonzero(_within(columns, low, high))
+            columns, numbers = [column.take(chosen) for column in columns], numbers.take(chosen)
         if last - first > 1:
             middle = first + (last - first) // 2
-            self.put(places, numbers, first, middle)
-            self.put(places, numbers, middle, last)
-        elif len(places):
-            self._append(places, numbers, first)
+            self.put(columns, numbers, first, middle)
+            self.put(columns, numbers, middle, last)
+        elif len(numbers):
+            self._append(columns, numbers, first)
 
-    def _append(self, places: Ints, numbers: Ints, tile: int) -> None:
-        for path, rows in zip(paths_of(self.folder, tile), (places.astype(np.int16), numbers.astype(self.kind))):
+    def _append(self, columns: Columns, numbers: Numbers, tile: int) -> None:
+        for path, rows in zip(paths_of(self.folder, tile), (np.stack(columns, axis=1), numbers)):
             with open(path, 'ab') as file:
                 rows.tofile(file)
-        core = self.cores[tile]
-        own = places[((places >= core[0]) & (places <= core[1])).all(axis=1)]
+        own = np.flatnonzero(_within(columns, *self.cores[tile]))
         if len(own):
-            self.held[tile, 0] = np.minimum(self.held[tile, 0], own.min(axis=0))
-            self.held[tile, 1] = np.maximum(self.held[tile, 1], own.max(axis=0))
+            for axis, column in enumerate(columns):
+                there = column.take(own)
+                self.held[tile, 0, axis] = min(self.held[tile, 0, axis], there.min())
+                self.held[tile, 1, axis] = max(self.held[tile, 1, axis], there.max())
 
 
 def paths_of(folder: str, tile: int) -> tuple[str, str]:
@@ -170,10 +192,10 @@ def cut(points: ArrayLike, folder: str, count: int = 8, halo: float = 1.0, unit:
     cores = np.array(_split(np.array([[0] * 3, [GREATEST] * 3]), sample, count))
     boxes = np.array([_widened(core, sample, len(sample) / len(array), halo) for core in cores])
     plan = Plan(len(array), placing, cores, boxes, cores)
-    files = _Files(folder, cores, boxes, plan.kind)
+    files = _Files(folder, cores, boxes)
     for start in range(0, len(array), _PIECE):
-        places = _on_grid(array[start:start + _PIECE], placing)
-        files.put(places, np.arange(start, start + len(places)), 0, count)
+        columns = _columns(array[start:start + _PIECE], placing)
+        files.put(columns, np.arange(start, start + len(columns[0]), dtype=plan.kind), 0, count)
     plan = plan._replace(held=files.held)
     plan.save(folder)
     return plan

@@ -2,10 +2,12 @@
 what it is called with; it can be done again, so that one whose worker is lost is done by another."""
 from __future__ import annotations
 
+import contextlib
 import os
 import pickle
 import subprocess
 import sys
+import weakref
 from concurrent.futures import ThreadPoolExecutor, as_completed
 from typing import Any, Callable, Iterator, Protocol, Sequence
 
@@ -30,22 +32,57 @@ class LostWorkers(HanskupError):
 
 
 class Processes:
-    """Processes of this machine, so many side by side, a new one for each task.
+    """Processes of this machine, so many side by side, each of which does one task after another.
 
     They are commands of their own: so nothing is asked of the caller's program, and a process that is killed takes no
-    other with it.
+    other with it; another is begun for its task. They begin when they are wanted, or by `begin`, and end with this.
     """
 
     def __init__(self, workers: int | None = None) -> None:
         self.workers = workers or os.cpu_count() or 1
+        self._idle: list[_Process] = []  # those that wait for a task
+        self._end = weakref.finalize(self, _end_all, self._idle)
+
+    def begin(self, count: int) -> None:
+        """Begins processes for so many tasks, so that they are ready when the first task comes."""
+        self._idle.extend(_Process() for _ in range(min(count, self.workers) - len(self._idle)))
+
+    def close(self) -> None:
+        """Ends the processes, which do nothing by now."""
+        _end_all(self._idle)
 
     def each(self, task: Task, asked: Asked) -> Iterator[Any]:
         pool = ThreadPoolExecutor(self.workers)
         try:
-            for future in as_completed([pool.submit(_by_process, task, words) for words in asked]):
+            for future in as_completed([pool.submit(self._done, task, words) for words in asked]):
                 yield future.result()
         finally:
             pool.shutdown(cancel_futures=True)
+
+    def _done(self, task: Task, words: tuple[Any, ...]) -> Any:
+        status = 0
+        for _ in range(TRIES):
+            process = self._one()
+            told = process.does(task, words)
+            if told is None:
+                status = process.end()
+                continue
+            self._idle.append(process)
+            done, answer = told
+            if not done:
+                raise answer
+            return answer
+        raise LostWorkers(f'{task.__name__}{words}: {TRIES} processes ended, the last with status {status}')
+
+    def _one(self) -> _Process:
+        # A process that waits, but for those that were killed as they did; or a new one.
+        with contextlib.suppress(IndexError):
+            while True:
+                process = self._idle.pop()
+                if process.is_there():
+                    return process
+                process.end()
+        return _Process()
 
 
 class Dask:
@@ -72,32 +109,61 @@ def engine_of(given: Any) -> Engine:
     return made
 
 
-# ---- a task in a process
+# ---- tasks in a process
 
 _CHILD = 'import sys; sys.path.insert(0, sys.argv[1]); from hanskup import _engines; _engines.answer()'
 _HOME = os.path.dirname(os.path.dirname(os.path.abspath(__file__)))
 
 
-def _by_process(task: Task, words: tuple[Any, ...]) -> Any:
-    for _ in range(TRIES):
-        ran = subprocess.run([sys.executable, '-c', _CHILD, _HOME], input=pickle.dumps((task, words)),
-                             stdout=subprocess.PIPE, check=False)
-        if ran.returncode == 0:
-            done, answer = pickle.loads(ran.stdout)
-            if not done:
-                raise answer
-            return answer
-    raise LostWorkers(f'{task.__name__}{words}: {TRIES} processes ended, the last with status {ran.returncode}')
+class _Process:
+    """A process that does tasks, one after another, until it is ended."""
+
+    def __init__(self) -> None:
+        # It stays beyond this call, until `end`.
+        self._process = subprocess.Popen(  # pylint: disable=consider-using-with
+            [sys.executable, '-c', _CHILD, _HOME], stdin=subprocess.PIPE, stdout=subprocess.PIPE)
+
+    def is_there(self) -> bool:
+        """Whether it has not ended."""
+        return self._process.poll() is None
+
+    def does(self, task: Task, words: tuple[Any, ...]) -> tuple[bool, Any] | None:
+        """Whether a task was done, and its answer or what it raised; or None where the process ended."""
+        to, out = self._process.stdin, self._process.stdout
+        assert to and out
+        try:
+            to.write(pickle.dumps((task, words)))
+            to.flush()
+            told: tuple[bool, Any] = pickle.load(out)
+        except (OSError, EOFError, pickle.UnpicklingError):
+            return None
+        return told
+
+    def end(self) -> int:
+        """Lets it end, which it does when nothing more is asked; its status."""
+        to, out = self._process.stdin, self._process.stdout
+        assert to and out
+        with contextlib.suppress(OSError):
+            to.close()
+        out.close()
+        return self._process.wait()
+
+
+def _end_all(processes: list[_Process]) -> None:
+    while processes:
+        processes.pop().end()
 
 
 def answer() -> None:
-    """In a process of its own: does the task on standard input, and writes its answer, or what it raised."""
+    """In a process of its own: does the tasks on standard input, and writes of each its answer, or what it raised."""
     out = os.fdopen(os.dup(1), 'wb')
     os.dup2(2, 1)  # what a task prints is no part of the answer
-    task, words = pickle.load(sys.stdin.buffer)
-    try:
-        told = (True, task(*words))
-    except Exception as raised:  # pylint: disable=broad-except
-        told = (False, raised)
-    with out:
-        out.write(pickle.dumps(told))
+    with out, contextlib.suppress(EOFError):
+        while True:
+            task, words = pickle.load(sys.stdin.buffer)
+            try:
+                told = (True, task(*words))
+            except Exception as raised:  # pylint: disable=broad-except
+                told = (False, raised)
+            out.write(pickle.dumps(told))
+            out.flush()

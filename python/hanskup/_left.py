@@ -7,10 +7,10 @@ from typing import Sequence
 import numpy as np
 
 from ._cuts import Plan
-from ._grid import OTHERS, cross, dot, outwards
+from ._grid import OTHERS, cross, dot, outwards, volumes
 from ._kinds import Bools, Ints, Rows
 from ._library import NONE, MeshRows, mesh_rows
-from ._tile import Left, found_path, kept_at, left_path, turned_cells
+from ._tile import Left, found_path, kept_at, left_path, read_at, turned_cells
 
 
 def cells_path(folder: str) -> str:
@@ -25,10 +25,7 @@ def hull_path(folder: str) -> str:
 
 def _told(folder: str, tiles: int) -> Left:
     # What all tiles tell, one behind the other.
-    told = []
-    for tile in range(tiles):
-        with np.load(left_path(folder, tile)) as file:
-            told.append([file[name] for name in file.files])
+    told = [read_at(left_path(folder, tile), len(Left._fields)) for tile in range(tiles)]
     return Left(*(np.concatenate(rows) for rows in zip(*told)))
 
 
@@ -49,7 +46,8 @@ def lone_facets(told: Left) -> Ints:
     That is so where each tile that found the cell tells the facet, and none tells it of a cell on its other side.
     """
     a, b, c = np.sort(told.facets, axis=1).T
-    order, starts = _groups((told.apexes, c, b, a))
+    few = max(c.max(initial=0), told.apexes.max(initial=0)) < 1 << 31  # so that two numbers are one of 62 bits
+    order, starts = _groups((c << 31 | told.apexes, a << 31 | b) if few else (told.apexes, c, b, a))
     reports = np.diff(np.append(starts, len(order)))
     rows = order[starts]  # one for each facet and apex
     by_all = reports == told.times[rows]
@@ -64,7 +62,9 @@ def lone_facets(told: Left) -> Ints:
 
 def _ranks(rows: Ints, count: int) -> Ints:
     """A number for each row of three ascending numbers below a count, the same for the same rows."""
-    _, pairs = np.unique(rows[:, 0] * count + rows[:, 1], return_inverse=True)
+    pairs = rows[:, 0] * count + rows[:, 1]
+    if count >= 1 << 21:  # so that no number leaves 63 bits
+        pairs = np.unique(pairs, return_inverse=True)[1].reshape(-1)
     ranks: Ints = pairs * count + rows[:, 2]
     return ranks
 
@@ -130,5 +130,6 @@ def complete(folder: str) -> tuple[int, int, int]:
     hull = np.concatenate([told.hull, numbers[open_facets], numbers[sides]])
     _, once = np.unique(np.sort(hull, axis=1), axis=0, return_index=True)
     kept_at(hull_path(folder), hull[once].astype(plan.kind))
-    kept_at(cells_path(folder), turned_cells(places, numbers, mesh.cells[taken], plan.kind))
+    cells = mesh.cells[taken]
+    kept_at(cells_path(folder), turned_cells(numbers, cells, volumes(places, cells) < 0, plan.kind))
     return len(places), int(taken.sum()), len(once)

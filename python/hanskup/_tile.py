@@ -1,15 +1,16 @@
 """What a tile finds: cells of its own points that are cells of the whole cloud, and what is left of it."""
 from __future__ import annotations
 
+import contextlib
 import os
 from typing import Any, NamedTuple
 
 import numpy as np
 
-from ._boxes import corners_of, lie_behind, spheres_inside
+from ._boxes import Spheres, corners_of, lie_behind
 from ._cuts import Plan, paths_of, points_of
 from ._errors import Flat
-from ._grid import OTHERS, outwards, volumes
+from ._grid import OTHERS, outwards
 from ._kinds import Bools, Ints, Rows
 from ._library import NONE, MeshRows, mesh_rows
 
@@ -29,11 +30,15 @@ def kept_at(path: str, *rows: Any) -> None:
     """Writes arrays into a file, at once: another worker that does the same task puts the same file there."""
     made = f'{path}.{os.getpid()}'
     with open(made, 'wb') as file:
-        if len(rows) == 1:
-            np.save(file, rows[0])
-        else:
-            np.savez(file, *rows)
+        for one in rows:
+            np.save(file, one)
     os.replace(made, path)
+
+
+def read_at(path: str, count: int) -> list[Any]:
+    """So many arrays of a file that `kept_at` wrote. Raises FileNotFoundError where it is not there."""
+    with open(path, 'rb') as file:
+        return [np.load(file) for _ in range(count)]
 
 
 def found_path(folder: str, tile: int) -> str:
@@ -43,7 +48,22 @@ def found_path(folder: str, tile: int) -> str:
 
 def left_path(folder: str, tile: int) -> str:
     """The file of what a tile leaves to the last step."""
-    return os.path.join(folder, f'{tile:05}.left.npz')
+    return os.path.join(folder, f'{tile:05}.left')
+
+
+def _mesh_of(folder: str, tile: int, places: Ints) -> MeshRows:
+    """The mesh of a tile's places: as a worker left it that made it and was lost then, or made, and put there until
+    the tile is done."""
+    path = _mesh_path(folder, tile)
+    with contextlib.suppress(FileNotFoundError):
+        return MeshRows(places, *read_at(path, 3))
+    rows = mesh_rows(places)
+    kept_at(path, *rows[1:])
+    return rows
+
+
+def _mesh_path(folder: str, tile: int) -> str:
+    return os.path.join(folder, f'{tile:05}.mesh')
 
 
 def seen(folder: str, plan: Plan) -> int:
@@ -51,20 +71,19 @@ def seen(folder: str, plan: Plan) -> int:
     return sum(os.path.getsize(paths_of(folder, tile)[0]) for tile in range(len(plan.boxes))) // 6
 
 
-def _also(places: Ints, cells: Rows, found: Bools, plan: Plan, tile: int) -> tuple[Bools, Ints]:
-    """Of each found cell whether no earlier tile finds it, and how many tiles do: those whose boxes have its sphere."""
-    first, times = found.copy(), found.astype(np.int64)
+def _also(spheres: Spheres, found: Ints, plan: Plan, tile: int) -> tuple[Bools, Ints]:
+    """Of each cell whether a tile finds it, and none before, and how many do that find it: those whose boxes have its
+    sphere. The numbers are those of the cells that this tile finds."""
+    first, times = np.zeros(len(spheres.turned), bool), np.zeros(len(spheres.turned), np.int64)
+    first[found], times[found] = True, 1
     own = plan.boxes[tile]
     for other, (low, high) in enumerate(plan.boxes):
         if other == tile or (low > own[1]).any() or (high < own[0]).any():
             continue
-        within = ((places >= low) & (places <= high)).all(axis=1)
-        chosen = np.flatnonzero(found & within[cells[:, 0]])
-        chosen = chosen[within[cells[chosen]].all(axis=1)]
-        chosen = chosen[spheres_inside(places, cells[chosen], low, high)]
-        times[chosen] += 1
+        also = spheres.inside(low, high, found)
+        times[also] += 1
         if other < tile:
-            first[chosen] = False
+            first[also] = False
     return first, times
 
 
@@ -87,32 +106,36 @@ def find(folder: str, tile: int) -> None:
     core = plan.cores[tile]
     own = ((places >= core[0]) & (places <= core[1])).all(axis=1)
     try:
-        rows = mesh_rows(places)
+        rows = _mesh_of(folder, tile, places)
     except Flat:
         nothing = np.empty((0, 3), np.int64)
         kept_at(left_path(folder, tile), nothing, nothing[:, 0], nothing[:, 0], nothing, numbers[own], places[own],
                 numbers[own])
         kept_at(found_path(folder, tile), np.empty((0, 4), plan.kind))
         return
-    found = spheres_inside(places, rows.cells, *plan.boxes[tile])
-    first, times = _also(places, rows.cells, found, plan, tile)
+    spheres = Spheres(places, rows.cells)
+    found = spheres.inside(*plan.boxes[tile], np.arange(len(rows.cells)))
+    first, times = _also(spheres, found, plan, tile)
     kept_at(left_path(folder, tile), *_left(places, numbers, rows, found, times, own, plan, tile))
-    kept_at(found_path(folder, tile), turned_cells(places, numbers, rows.cells[first], plan.kind))
+    kept_at(found_path(folder, tile), turned_cells(numbers, rows.cells[first], spheres.turned[first], plan.kind))
+    with contextlib.suppress(FileNotFoundError):
+        os.remove(_mesh_path(folder, tile))
 
 
-def turned_cells(places: Ints, numbers: Ints, cells: Rows, kind: Any) -> Rows:
-    """Cells by the indices of their points, turned positively."""
-    turned = cells.copy()
-    back = volumes(places, cells) < 0
-    turned[back] = cells[back][:, [1, 0, 2, 3]]
-    return numbers.astype(kind)[turned]
+def turned_cells(numbers: Ints, cells: Rows, turned: Bools, kind: Any) -> Rows:
+    """Cells by the indices of their points, turned positively; some are not so."""
+    made: Rows = numbers.astype(kind)[cells]
+    made[turned, :2] = made[turned, 1::-1]
+    return made
 
 
-def _left(places: Ints, numbers: Ints, rows: MeshRows, found: Bools, times: Ints, own: Bools, plan: Plan,
+def _left(places: Ints, numbers: Ints, rows: MeshRows, found: Ints, times: Ints, own: Bools, plan: Plan,
           tile: int) -> Left:
     # A cell beside which there is none in the tile has the place behind all others, where nothing is found.
-    beside = np.append(found, False)[np.minimum(rows.neighbours, len(found))]
-    cells, corners = np.nonzero(found[:, None] & ~beside)
+    are = np.zeros(len(rows.cells) + 1, bool)
+    are[found] = True
+    at, corners = np.nonzero(~are.take(rows.neighbours[found], mode='clip'))
+    cells = found[at]
     ends = rows.neighbours[cells, corners] == NONE
     turned = np.empty((len(cells), 3), np.int64)
     turned[~ends] = outwards(places, rows.cells[cells[~ends, None], OTHERS[corners[~ends]]].astype(np.int64),
@@ -123,7 +146,7 @@ def _left(places: Ints, numbers: Ints, rows: MeshRows, found: Bools, times: Ints
     covered = np.zeros(len(places), bool)
     covered[rows.cells[found]] = True
     always = own & ~covered
-    always[rows.cells[np.flatnonzero(found)[:1]]] = True  # so that what is left is never flat
+    always[rows.cells[found[:1]]] = True  # so that what is left is never flat
     told = always.copy()
     told[turned[~whole]] = True
     return Left(numbers[turned[~whole]], numbers[rows.cells[cells[~whole], corners[~whole]]], times[cells[~whole]],

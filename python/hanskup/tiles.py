@@ -126,8 +126,11 @@ def _is_done(folder: str, tile: int) -> bool:
 def delaunay(points: ArrayLike, folder: str, count: int = 8, halo: float = 1.0, unit: float | None = None,
              engine: Engine | int | Any = None, progress: bool = True) -> Tiles:
     """The Delaunay triangulation of a cloud in tiles: `cut`, then `finish`. Its arguments and errors are theirs."""
+    doers = engine_of(engine)
+    if isinstance(doers, Processes):
+        doers.begin(count)  # so that they are ready once the points are cut
     cut(points, folder, count, halo, unit)
-    return finish(folder, engine, progress)
+    return finish(folder, doers, progress)
 
 
 def main(words: list[str] | None = None) -> None:
@@ -147,9 +150,11 @@ def main(words: list[str] | None = None) -> None:
     if given.scheduler:
         engine = module('distributed').Client(given.scheduler)
         print(f'progress: {engine.dashboard_link}', file=sys.stderr)
-    if given.points != '-':
-        cut(np.load(given.points, mmap_mode='r'), given.folder, given.count, given.halo, given.unit)
-    made = finish(given.folder, engine)
+    if given.points == '-':
+        made = finish(given.folder, engine)
+    else:
+        points = np.load(given.points, mmap_mode='r')
+        made = delaunay(points, given.folder, given.count, given.halo, given.unit, engine)
     if given.parquet:
         made.to_parquet(given.folder)
     counts: Any = made.counts

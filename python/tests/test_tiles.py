@@ -17,8 +17,8 @@ from unittest import mock
 import numpy as np
 
 import hanskup
-from hanskup import tiles
-from hanskup._boxes import spheres_inside
+from hanskup import _tile, tiles
+from hanskup._boxes import Spheres
 from hanskup._left import lone_facets
 from hanskup._tile import Left
 
@@ -78,9 +78,10 @@ def is_inside(corners, low, high):
                and (m == 16383 or (x < m + 1 and (m + 1 - x) ** 2 > square)) for x, k, m in zip(centre, low, high))
 
 
-class Spheres(unittest.TestCase):
+class InBoxes(unittest.TestCase):
     def judge(self, corners, low, high):
-        told = spheres_inside(np.array(corners), np.arange(4)[None], np.array(low), np.array(high))[0]
+        spheres = Spheres(np.array(corners), np.arange(4)[None])
+        told = len(spheres.inside(np.array(low), np.array(high), np.arange(1))) == 1
         self.assertEqual(told, is_inside(corners, low, high), (corners, low, high))
         return told
 
@@ -205,6 +206,27 @@ class Whole(Tiled):
             list(tiles.Processes(1).each(int, [('x',)]))
         with self.assertRaises(tiles.LostWorkers):
             list(tiles.Processes(1).each(os._exit, [(1,)]))
+
+    def test_processes_that_wait_are_killed(self):
+        engine = tiles.Processes(2)
+        engine.begin(2)
+        children = Lost.children(self)
+        self.assertEqual(len(children), 2)
+        for process in children:
+            os.kill(process, signal.SIGKILL)
+        self.assertEqual(sorted(engine.each(len, [('a',), ('ab',), ('abc',)])), [1, 2, 3])
+        engine.close()
+        self.assertEqual(Lost.children(self), [])
+
+    def test_complex_of_a_lost_worker(self):
+        points = drawn(2000, seed=5)
+        tiles.cut(points, self.folder, 2)
+        with mock.patch.object(_tile, 'Spheres', side_effect=MemoryError), self.assertRaises(MemoryError):
+            _tile.find(self.folder, 0)
+        with mock.patch.object(_tile, 'mesh_rows', side_effect=AssertionError):
+            _tile.find(self.folder, 0)  # its complex stands
+        self.judge(points, tiles.finish(self.folder, Here()))
+        self.assertEqual(glob.glob(os.path.join(self.folder, '*.mesh')), [])
 
     def test_parquet(self):
         made, kept = self.run_of(drawn(500, seed=2), 2), {}
