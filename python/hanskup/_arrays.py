@@ -16,6 +16,7 @@ from ._shape import Filtration, Shape
 from ._walk import Walk
 
 _SMALL = 1 << 31  # numbers below this are int32
+_PIECE = 1 << 16  # rows at a time that are written anew where they stand
 
 
 def _signed(rows: npt.NDArray[np.uint32], count: int) -> Rows:
@@ -23,6 +24,28 @@ def _signed(rows: npt.NDArray[np.uint32], count: int) -> Rows:
     if count < _SMALL:
         return rows.view(np.int32)
     return np.where(rows == NONE, -1, rows.astype(np.int64))
+
+
+def _indices_of(rows: npt.NDArray[np.uint32], given: Rows) -> Rows:
+    """The points of rows of numbers of the grid, in the room of these where they fit."""
+    if given.dtype != np.int32:
+        return sealed(given[rows])
+    numbers = rows.view(np.int32)
+    for start in range(0, len(rows), _PIECE):
+        piece = slice(start, start + _PIECE)
+        numbers[piece] = given[numbers[piece]]
+    return sealed(numbers)
+
+
+def _in_unit(alphas: npt.NDArray[np.uint64], square: float) -> Floats:
+    """Alphas of the library by a square in a unit, in the room of these; infinity where there is none."""
+    numbers, made = alphas.view(np.int64), alphas.view(np.float64)
+    for start in range(0, len(alphas), _PIECE):
+        piece = numbers[start:start + _PIECE]
+        told = piece * square
+        told[piece >= BEYOND] = np.inf
+        made[start:start + _PIECE] = told
+    return sealed(made)
 
 
 class Arrays:
@@ -240,6 +263,7 @@ class Arrays:
 
     @kept
     def _faces(self) -> _library.FaceRows:
+        # As the library has them; the filtration takes their room.
         with waiting('filtration'):
             return _library.face_rows(self.grid, len(self._rows.cells), len(self._rows.hull))
 
@@ -247,23 +271,25 @@ class Arrays:
     def _square(self) -> float:
         return (self.placing.unit if self.placing else 1.0) ** 2 / 16
 
-    def _user(self, alphas: npt.NDArray[np.uint64]) -> Floats:
-        made: Floats = alphas.view(np.int64) * self._square
-        made[alphas >= BEYOND] = np.inf
-        return made
+    @kept
+    def _filtration(self) -> Filtration:
+        faces, given, square = self._faces, self._given, self._square
+        self.__dict__.pop('_faces')
+        edges, sides = (_indices_of(rows, given) for rows in (faces.edges, faces.triangles))
+        of_points, of_edges, of_sides, of_cells = (_in_unit(alphas, square) for alphas in (
+            faces.point_alphas, faces.edge_alphas, faces.triangle_alphas, faces.cell_alphas))
+        return Filtration(given, of_points, edges, of_edges, sides, of_sides, sealed(given[self.cells]), of_cells)
 
     def filtration(self) -> Filtration:
-        """All faces with their least alphas, as GUDHI's AlphaComplex has them.
+        """All faces with their least alphas, as GUDHI's AlphaComplex has them. The arrays are read-only, and the same
+        ones until the mesh is edited.
 
         On the grid alphas are whole sixteenths: that of a face is its squared radius, rounded up to one.
 
         Raises:
             WantOfMemory: there was no memory for the faces.
         """
-        faces = self._faces
-        return Filtration(self._given, self._user(faces.point_alphas), self._given[faces.edges],
-                          self._user(faces.edge_alphas), self._given[faces.triangles],
-                          self._user(faces.triangle_alphas), self._given[self.cells], self._user(faces.cell_alphas))
+        return self._filtration
 
     def alpha(self, radius: float) -> Shape:
         """The alpha complex at a radius, in the unit of the points.

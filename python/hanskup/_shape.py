@@ -5,7 +5,6 @@ import math
 from typing import TYPE_CHECKING, Any, NamedTuple
 
 import numpy as np
-import numpy.typing as npt
 
 from . import _adapters
 from ._graphs import joined
@@ -66,12 +65,14 @@ class Shape:
     def __init__(self, mesh: Arrays, sixteenths: int) -> None:
         self.mesh, self.sixteenths = mesh, sixteenths
         # What it was made of: an edit of the mesh later on changes none of it.
-        self._faces, self._given, self._all = mesh._faces, mesh._given, mesh.cells
+        self._faces, self._given, self._all = mesh.filtration(), mesh._given, mesh.cells
         self._grid, self._across = mesh.grid, mesh.across
         self._unit = mesh.placing.unit if mesh.placing else 1.0
         self._points: Numbers = mesh.points
         faces = self._faces
-        self._within: Bools = faces.cell_alphas <= sixteenths
+        # In the unit of the points, as alphas are: by one factor for all, so that none changes its place among them.
+        self._level = sixteenths * mesh._square
+        self._within: Bools = faces.tetrahedron_alphas <= self._level
         self.points, self.point_kinds = self._given, self._kinds(faces.point_alphas)
         self.edges, self.edge_kinds = self._of(faces.edges, faces.edge_alphas)
         self.triangles, self.triangle_kinds = self._of(faces.triangles, faces.triangle_alphas)
@@ -82,14 +83,14 @@ class Shape:
         return (f'<hanskup.Shape: radius {radius:.3g}, {len(self.edges)} edges, {len(self.triangles)} triangles, '
                 f'{len(self.tetrahedra)} tetrahedra>')
 
-    def _kinds(self, alphas: npt.NDArray[np.uint64]) -> Ints:
+    def _kinds(self, alphas: Floats) -> Ints:
         # An interior face is regular too.
-        interior = alphas[:, 2] <= self.sixteenths
-        return np.where(interior, 2, (alphas[:, 1] <= self.sixteenths).astype(np.int64))
+        interior = alphas[:, 2] <= self._level
+        return np.where(interior, 2, (alphas[:, 1] <= self._level).astype(np.int64))
 
-    def _of(self, faces: npt.NDArray[np.uint32], alphas: npt.NDArray[np.uint64]) -> tuple[Rows, Ints]:
-        admitted = alphas[:, 0] <= self.sixteenths
-        return self._given[faces[admitted]], self._kinds(alphas[admitted])
+    def _of(self, faces: Rows, alphas: Floats) -> tuple[Rows, Ints]:
+        admitted = alphas[:, 0] <= self._level
+        return faces[admitted], self._kinds(alphas[admitted])
 
     def _sides(self) -> Rows:
         # The triangles of the boundary by numbers of points, turned outwards.
@@ -131,9 +132,9 @@ class Shape:
         i, k = np.nonzero((self._across < 0) | (self._across > np.arange(len(cells))[:, None]))
         order = np.lexsort(cells[i[:, None], OTHERS[k]].T[::-1])
         passed = np.zeros((len(cells), 4), bool)
-        passed[i[order], k[order]] = faces.triangle_alphas[:, 0] > self.sixteenths
+        passed[i[order], k[order]] = faces.triangle_alphas[:, 0] > self._level
         group = self._joined(passed)
-        held = (faces.cell_alphas > self.sixteenths) & (group[:-1] != group[-1])
+        held = (faces.tetrahedron_alphas > self._level) & (group[:-1] != group[-1])
         return Voids(self._given[cells[held]], _numbers(group[:-1][held]))
 
     def to_meshio(self) -> Any:
