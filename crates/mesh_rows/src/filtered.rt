@@ -33,7 +33,8 @@ pub fn filtered_of(alloc: Global, given: &[Place]) -> Result<Filtered, Stop>
     ensures refused { IfErr result (λ stop. IsStopCause given.now stop) }
 {
     let cloud = cloud_of(alloc, given)?;
-    let mesh = rows_of(alloc, &cloud.points, &cloud.cells)?;
+    // The faces first, beside which much more is made for the time being than beside the mesh.
     let faces = face_rows(alloc, &cloud.points, &cloud.cells)?;
+    let mesh = rows_of(alloc, &cloud.points, &cloud.cells)?;
     Ok(Filtered { mesh, faces })
 }

@@ -93,7 +93,15 @@ fn alphas_of_triples(alloc: Global, known: &Alphas) -> Result<Vec<FaceAlphas>, A
     Ok(alphas)
 }
 
-// Those of a set and its cells.
+// The numbers of the cells, of which the others are let go.
+fn alphas_of_cells(known: Alphas) -> Vec<u64>
+    ensures { result ≡ known.entry.cells }
+{
+    let Alphas { cells, .. } = known;
+    cells
+}
+
+// Those of a set and its cells. The numbers come first, since most is held beside them.
 pub(crate) fn face_rows(alloc: Global, set: &[Point], all: &[Cell]) -> Result<Levels, AllocError>
     requires { IsCloud set.now all.now }
     ensures rows { IfOk result (λ l. AreFaceRows set.now l.point_alphas.items l.edges.items l.edge_alphas.items
@@ -102,20 +110,21 @@ pub(crate) fn face_rows(alloc: Global, set: &[Point], all: &[Cell]) -> Result<Le
     ensures triangle_count { IfOk result (λ l. length l.triangle_alphas.items ≡ length l.triangles.items) }
 {
     let faces = few_faces(alloc, all)?;
-    let pairs = edges(alloc, set, faces.pairs())?;
-    let triples = triangles(alloc, set, faces.triples())?;
-    let mut known = alphas_alone(alloc, &faces)?;
+    let known = alphas_alone(alloc, &faces)?;
     let point_alphas = alphas_of_points(alloc, &known)?;
     let edge_alphas = alphas_of_pairs(alloc, &known)?;
     let triangle_alphas = alphas_of_triples(alloc, &known)?;
-    known.cells.truncate(full_count(all));
+    let mut cell_alphas = alphas_of_cells(known);
+    cell_alphas.truncate(full_count(all));
+    let pairs = edges(alloc, set, faces.pairs())?;
+    let triples = triangles(alloc, set, faces.triples())?;
     Ok(Levels {
         point_alphas,
         edges: pairs,
         edge_alphas,
         triangles: triples,
         triangle_alphas,
-        cell_alphas: known.cells,
+        cell_alphas,
     })
 }
 

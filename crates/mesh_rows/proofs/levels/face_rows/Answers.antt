@@ -27,6 +27,7 @@ returns-clause-rows c =
     c.in_ok-faces.ensures.pairs c.in_ok-faces.ensures.triples in
     let k = subst (λ (v : FaceLists). AreFacesOf s v) (sym c.in_ok-known.ensures.faces) f in
     let t = c.in_ok-known.ensures.told s f in
+    let same = c.alphas_of_cells-cell_alphas.ensures in
     let many = c.full_count.ensures ∙ ap (λ (l : List Cell). length (full_cells l)) c.requires.cells_are in
     record {
       of_points = c.in_ok-point_alphas.ensures s k;
@@ -36,8 +37,9 @@ returns-clause-rows c =
           c.in_ok-triples.ensures ∙ ap (map (triangle_row s)) (c.triples.ensures ∙ parts_mapped 3 s _ f.triples);
       of_triangles = c.in_ok-triangle_alphas.ensures s k;
       of_cells = subst (AreCellAlphas s) (sym c.truncate.ensures.items)
-          (subst (λ (k : ℕ). AreCellAlphas s (take k c.in_ok-known.known.cells.items)) (sym many)
-          (full_alphas s c.requires.set c.in_ok-known.known.cells.items t.cells));
+          (subst (λ (k : ℕ). AreCellAlphas s (take k c.alphas_of_cells-cell_alphas.result.items)) (sym many)
+          (subst (λ v. AreCellAlphas s (take (length (full_cells (complex s))) v.items)) (sym same)
+          (full_alphas s c.requires.set c.in_ok-known.known.cells.items t.cells)));
     }
 
 pub returns-clause-edge_count : goal.returns-clause-edge_count
