@@ -9,12 +9,12 @@ ghost use Rattle.cloud_cells.specs.declared.groups.Group.{Group as GroupOf};
 ghost use Rattle.cloud_cells.specs.declared.reach.Reach.TheVariants.{Part, Whole};
 
 use crate::choice::Choice;
-use crate::edges::Edges;
+use crate::deal::Deal;
+use crate::desk::Desk;
 use crate::grow::put_points;
 use crate::net::Net;
 use crate::pages::Page;
 use crate::reach::Reach;
-use crate::tree::Deal;
 use crate::turns::Turn;
 use rayon::prelude::*;
 use std::alloc::{AllocError, Global};
@@ -26,7 +26,7 @@ use std::thread::Threads;
 pub(crate) struct Group {
     net: Net,
     waiting: Vec<Turn>,
-    edges: Edges,
+    desk: Desk,
     most: usize,
     has_failed: bool,
 }
@@ -43,7 +43,7 @@ impl Group {
         Ok(Group {
             net: part,
             waiting: Vec::new(alloc),
-            edges: Edges::new(alloc),
+            desk: Desk::new(alloc),
             most: deal.most(),
             has_failed: false,
         })
@@ -77,7 +77,7 @@ impl Group {
         let left = put_points(
             alloc,
             &mut self.net,
-            &mut self.edges,
+            &mut self.desk,
             &self.waiting,
             Choice::Before(self.most),
             Reach::Part,

@@ -1,10 +1,13 @@
 //! Which pages of a net belong together, and which of their slots are free. No contract speaks of it.
 
+use crate::deal::Deal;
 use crate::pages::{NONE, PAGE};
 use crate::slots::short;
-use crate::tree::Deal;
 use std::alloc::{AllocError, Global};
 use std::mem;
+
+// Blocks are near one another where their numbers differ in so many last bits: they come of one cut.
+const NEAR: usize = 2;
 
 // The blocks of a net, a power of two of them: each has the pages whose numbers end in its own. Of each block the free
 // slots as links name them, how many pages it has, and where the last of them stands. New cells come to one of them.
@@ -63,6 +66,11 @@ impl Homes {
     // The block of a page.
     pub(crate) fn block_of(&self, number: u32) -> usize {
         number as usize & self.free.len().wrapping_sub(1)
+    }
+
+    // Whether a page belongs to the block where cells come to, or to one near it.
+    pub(crate) fn is_near(&self, number: u32) -> bool {
+        self.block_of(number) >> NEAR == self.home >> NEAR
     }
 
     // The number of the next page of the block where cells come to.

@@ -7,8 +7,9 @@ ghost use Rattle.cloud_cells.specs.Nets.{AreMoved, cells_of_slots, slot_at};
 ghost use Rattle.cloud_cells.specs.Pages.{slots_of};
 
 use crate::corners::Corners;
+use crate::edges::Door;
 use crate::packed::Packed;
-use crate::pages::{NONE, PAGE, Page, set_in, set_link_in, slot_in};
+use crate::pages::{NONE, PAGE, Page, link_in, set_in, slot_in};
 use crate::slots::Slot;
 use std::alloc::{AllocError, Global};
 use std::marker::Model;
@@ -90,6 +91,7 @@ impl Slots {
     }
 
     // The slot at a place.
+    #[inline(always)]
     pub(crate) fn at(&self, place: usize) -> Option<&Slot>
         ensures { MatchOption result (length self.now ≤ place)
             (λ slot. (place < length self.now) × (slot_at self.now place ≡ slot.now)) }
@@ -149,6 +151,7 @@ impl Slots {
     }
 
     // The place that a link names. Of a page that is elsewhere it is past the end.
+    #[inline(always)]
     pub(crate) fn place_named(&self, name: usize) -> usize {
         if name < self.list.len() {
             return name;
@@ -163,6 +166,17 @@ impl Slots {
         usize::MAX
     }
 
+    // The number of the page of a place, if it has one.
+    #[inline(always)]
+    pub(crate) fn number_at(&self, place: usize) -> u32 {
+        let seat = place / PAGE;
+        if seat < self.pages.len() {
+            self.pages[seat].number()
+        } else {
+            NONE
+        }
+    }
+
     // How links name a place.
     pub(crate) fn name_of(&self, place: usize) -> usize {
         if place < self.list.len() {
@@ -170,10 +184,7 @@ impl Slots {
         }
         let seat = place / PAGE;
         if seat < self.pages.len() {
-            let number = self.pages[seat].number();
-            return (number as usize)
-                .wrapping_mul(PAGE)
-                .wrapping_add(place % PAGE);
+            return self.pages[seat].name_of(place % PAGE);
         }
         usize::MAX
     }
@@ -194,15 +205,30 @@ impl Slots {
         }
     }
 
-    // Notes where the cell across facet k of that in a slot is likely to stand.
-    pub(crate) fn set_link(&mut self, place: usize, k: usize, to: usize)
+    // Where the cells across the facets of that in a slot are likely to stand.
+    #[inline(always)]
+    pub(crate) fn links(&self, place: usize) -> [usize; 4] {
+        match self.at(place) {
+            Some(slot) => [
+                self.place_named(slot.link(0)),
+                self.place_named(slot.link(1)),
+                self.place_named(slot.link(2)),
+                self.place_named(slot.link(3)),
+            ],
+            None => [usize::MAX; 4],
+        }
+    }
+
+    // Notes that two facets are the same. Both are in the list, or in pages.
+    pub(crate) fn link_two(&mut self, one: Door, other: Door)
         ensures { self.new ≡ self.old }
     {
-        let name = self.name_of(to);
-        if place < self.list.len() {
-            self.list[place].set_link(k, name);
-        } else {
-            set_link_in(&mut self.pages, place - self.list.len(), k, name);
+        let count = self.list.len();
+        if one.place < count && other.place < count {
+            self.list[one.place].set_link(one.number, other.place);
+            self.list[other.place].set_link(other.number, one.place);
+        } else if count == 0 {
+            link_in(&mut self.pages, one, other);
         }
     }
 

@@ -4,6 +4,7 @@ ghost use Rattle.std.specs.Prelude.{◌≡◌, ◌<◌, ◌≤◌, ◌++◌, ◌
 ghost use Rattle.cloud_cells.specs.Nets.{cells_of_slots, slot_at};
 ghost use Rattle.cloud_cells.specs.Pages.{AreWhole, slots_of};
 
+use crate::edges::Door;
 use crate::packed::Packed;
 use crate::slots::Slot;
 use std::alloc::{AllocError, Global};
@@ -59,6 +60,12 @@ impl Page {
         self.number
     }
 
+    // How links name a slot of it.
+    #[inline(always)]
+    pub(crate) fn name_of(&self, at: usize) -> usize {
+        (self.number as usize).wrapping_mul(PAGE).wrapping_add(at)
+    }
+
     // Gives it a number, if it has none.
     pub(crate) fn set_number(&mut self, number: u32)
         ensures { self.new ≡ self.old }
@@ -69,6 +76,7 @@ impl Page {
     }
 
     // The slot at a place in it.
+    #[inline(always)]
     fn at(&self, at: usize) -> Option<&Slot>
         ensures { MatchOption result (length self.now ≤ at)
             (λ slot. (at < length self.now) × (slot_at self.now at ≡ slot.now)) }
@@ -88,6 +96,7 @@ impl Page {
     }
 
     // Notes where the cell across facet k of that of a slot is likely to stand.
+    #[inline(always)]
     fn set_link(&mut self, at: usize, k: usize, to: usize)
         ensures { self.new ≡ self.old }
     {
@@ -116,6 +125,7 @@ impl Page {
 }
 
 // The slot at a place of pages.
+#[inline(always)]
 pub(crate) fn slot_in(pages: &[Page], place: usize) -> Option<&Slot>
     requires { AreWhole pages.now }
     ensures { MatchOption result (length (slots_of pages.now) ≤ place)
@@ -139,12 +149,15 @@ pub(crate) fn set_in(pages: &mut [Page], place: usize, packed: Packed)
     pages[place / PAGE].set(place % PAGE, packed);
 }
 
-// Notes where the cell across facet k of that of a slot is likely to stand.
-pub(crate) fn set_link_in(pages: &mut [Page], place: usize, k: usize, to: usize)
+// Notes that two facets are the same.
+pub(crate) fn link_in(pages: &mut [Page], one: Door, other: Door)
     ensures { pages.new ≡ pages.old }
 {
-    let page = place / PAGE;
-    if page < pages.len() {
-        pages[page].set_link(place % PAGE, k, to);
+    let (page, other_page) = (one.place / PAGE, other.place / PAGE);
+    if page < pages.len() && other_page < pages.len() {
+        let name = pages[page].name_of(one.place % PAGE);
+        let other_name = pages[other_page].name_of(other.place % PAGE);
+        pages[page].set_link(one.place % PAGE, one.number, other_name);
+        pages[other_page].set_link(other.place % PAGE, other.number, name);
     }
 }

@@ -7,7 +7,9 @@ ghost use Rattle.cloud_cells.specs.Nets.{cells_of_slots};
 use crate::net::Net;
 use crate::packed::Packed;
 use point_order::Cell;
+use rayon::slice::par_sort_unstable_by_key;
 use std::alloc::{AllocError, Global};
+use std::thread::Threads;
 
 // Puts a cell that is packed, if there is one, behind the cells.
 fn push_packed(cells: &mut Vec<Cell>, slot: &Packed) -> Result<(), AllocError>
@@ -39,6 +41,20 @@ pub(crate) fn ranked(alloc: Global, net: Net) -> Result<Vec<Cell>, AllocError>
 {
     let mut packed = net.packed(alloc)?;
     packed.sort_unstable_by_key(|slot| slot.rank());
+    let cells = cells_of_packed(alloc, &packed)?;
+    Ok(cells)
+}
+
+// The same, sorted by threads.
+pub(crate) fn ranked_by_threads<R: Threads + Sync>(
+    rt: &R,
+    alloc: Global,
+    net: Net,
+) -> Result<Vec<Cell>, AllocError>
+    ensures { IfOk result (λ cells. AreSameCells (cells_of_slots net) cells.items) }
+{
+    let mut packed = net.packed(alloc)?;
+    par_sort_unstable_by_key(rt, &mut packed, |slot: &Packed| slot.rank());
     let cells = cells_of_packed(alloc, &packed)?;
     Ok(cells)
 }

@@ -7,7 +7,6 @@ ghost use Rattle.cloud_cells.specs.Stars.{HaveRoom};
 use crate::corners::{Corners, Face};
 use crate::dig::Side;
 use crate::edges::{Door, Edges, whole_facet};
-use crate::grow::link_two;
 use crate::net::Net;
 use point_order::Cell;
 use std::alloc::AllocError;
@@ -30,7 +29,7 @@ fn join(net: &mut Net, edges: &mut Edges, facet: &Face, door: Door)
 {
     let edge = whole_facet(facet, door.number);
     if let Some(other) = edges.meet(&edge, door.place) {
-        link_two(net, door, other);
+        net.link_two(door, other);
     }
 }
 

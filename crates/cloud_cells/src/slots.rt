@@ -96,6 +96,16 @@ impl Slot {
         self.packed.number()
     }
 
+    // Whether it has no cell.
+    fn is_empty(&self) -> bool
+        ensures { IsTrue result ↔ (self.now ≡ None) }
+    {
+        match self.corners() {
+            Some(_) => false,
+            None => true,
+        }
+    }
+
     // What stands in it, without the rest.
     pub(crate) fn packed(self) -> Packed
         ensures { result ≡ self }
@@ -296,12 +306,24 @@ pub(crate) fn push_cell(cells: &mut Vec<Cell>, cell: Option<Corners>) -> Result<
 // How many cells are packed before the room of their slots is given back.
 const TOGETHER: usize = 16_384;
 
-// Puts what stands in a slot behind others, and gives the room of some slots back.
+// Puts what stands in a slot behind others, if it has a cell.
+fn push_filled(packed: &mut Vec<Packed>, slot: Slot) -> Result<(), AllocError>
+    ensures { OnOk result (cells_of_slots packed.new.items ≡ cells_of_slots (packed.old.items ++ slot ∷ [])) }
+{
+    if slot.is_empty() {
+        return Ok(());
+    }
+    packed.push(slot.packed())?;
+    Ok(())
+}
+
+// The same, and gives the room of some slots back.
 fn move_slot(slots: &mut Vec<Slot>, packed: &mut Vec<Packed>, slot: Slot) -> Result<(), AllocError>
     ensures slots { slots.new.items ≡ slots.old.items }
-    ensures packed { OnOk result (packed.new.items ≡ packed.old.items ++ slot ∷ []) }
+    ensures packed { OnOk result (cells_of_slots packed.new.items
+        ≡ cells_of_slots (packed.old.items ++ slot ∷ [])) }
 {
-    packed.push(slot.packed())?;
+    push_filled(packed, slot)?;
     if slots.len() % TOGETHER == 0 {
         slots.shrink_to_fit();
     }

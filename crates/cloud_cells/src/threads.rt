@@ -10,18 +10,24 @@ ghost use Rattle.cloud_cells.specs.Parts.{ArePut, HaveRoomFor};
 ghost use Rattle.cloud_cells.specs.declared.reach.Reach.TheVariants.{Whole};
 
 use crate::choice::Choice;
-use crate::edges::Edges;
+use crate::deal::Deal;
+use crate::desk::Desk;
 use crate::groups::{gather_cells, pass};
-use crate::grow::put_points;
+use crate::grow::{complex_of_points, put_points};
 use crate::net::Net;
 use crate::opening::{cells_of_four, four_of};
-use crate::ranked::ranked;
+use crate::ranked::ranked_by_threads;
 use crate::reach::Reach;
-use crate::tree::{Deal, Tree};
+use crate::tree::Tree;
 use crate::turns::{Turn, turns_of};
 use point_order::{Cell, Point, cells_in_order};
 use std::alloc::{AllocError, Global};
 use std::thread::Threads;
+
+// From so many points on threads pay, and for so many there is one at the most.
+const FEWEST: usize = 100_000;
+
+const SHARE: usize = 12_500;
 
 // So many slots a net has before threads are begun.
 const LEAST: usize = 6_000;
@@ -140,7 +146,7 @@ fn weights_of(alloc: Global, waiting: &[Turn], blocks: usize) -> Result<Vec<usiz
 fn put_some(
     alloc: Global,
     net: &mut Net,
-    edges: &mut Edges,
+    desk: &mut Desk,
     waiting: &mut Vec<Turn>,
     choice: Choice,
 ) -> Result<(), AllocError>
@@ -148,7 +154,7 @@ fn put_some(
     ensures { OnOk result (ArePut waiting.old.items waiting.new.items (cells_of_slots net.old)
         (cells_of_slots net.new)) }
 {
-    let left = put_points(alloc, net, edges, waiting, choice, Reach::Whole)?;
+    let left = put_points(alloc, net, desk, waiting, choice, Reach::Whole)?;
     *waiting = left;
     Ok(())
 }
@@ -158,7 +164,7 @@ fn pass_on<R: Threads + Sync>(
     rt: &R,
     alloc: Global,
     net: &mut Net,
-    edges: &mut Edges,
+    desk: &mut Desk,
     waiting: &mut Vec<Turn>,
     pace: &mut Pace,
     tree: &Tree,
@@ -172,7 +178,7 @@ fn pass_on<R: Threads + Sync>(
     let deal = Deal::of(alloc, tree, &weights, pace.threads, pace.turn, most)?;
     pace.go_on();
     pass(rt, alloc, net, waiting, &deal)?;
-    put_some(alloc, net, edges, waiting, Choice::Sown)?;
+    put_some(alloc, net, desk, waiting, Choice::Sown)?;
     Ok(())
 }
 
@@ -181,7 +187,7 @@ fn pass_if<R: Threads + Sync>(
     rt: &R,
     alloc: Global,
     net: &mut Net,
-    edges: &mut Edges,
+    desk: &mut Desk,
     waiting: &mut Vec<Turn>,
     pace: &mut Pace,
     tree: &Tree,
@@ -193,7 +199,7 @@ fn pass_if<R: Threads + Sync>(
     if pace.is_enough(waiting.len()) {
         return Ok(());
     }
-    pass_on(rt, alloc, net, edges, waiting, pace, tree)
+    pass_on(rt, alloc, net, desk, waiting, pace, tree)
 }
 
 // Puts the points that wait into the net in passes. Those that are left wait on.
@@ -201,7 +207,7 @@ fn put_waiting<R: Threads + Sync>(
     rt: &R,
     alloc: Global,
     net: &mut Net,
-    edges: &mut Edges,
+    desk: &mut Desk,
     waiting: &mut Vec<Turn>,
     pace: &mut Pace,
     tree: &Tree,
@@ -211,10 +217,10 @@ fn put_waiting<R: Threads + Sync>(
         (cells_of_slots net.new)) }
 {
     if net.len() < LEAST || pace.threads < 2 {
-        return put_some(alloc, net, edges, waiting, Choice::All);
+        return put_some(alloc, net, desk, waiting, Choice::All);
     }
     for _ in 0..pace.passes() {
-        pass_if(rt, alloc, net, edges, waiting, pace, tree)?;
+        pass_if(rt, alloc, net, desk, waiting, pace, tree)?;
     }
     Ok(())
 }
@@ -224,7 +230,7 @@ fn wait<R: Threads + Sync>(
     rt: &R,
     alloc: Global,
     net: &mut Net,
-    edges: &mut Edges,
+    desk: &mut Desk,
     waiting: &mut Vec<Turn>,
     turn: &Turn,
     pace: &mut Pace,
@@ -239,7 +245,7 @@ fn wait<R: Threads + Sync>(
     if !is_time {
         return Ok(());
     }
-    put_waiting(rt, alloc, net, edges, waiting, pace, tree)
+    put_waiting(rt, alloc, net, desk, waiting, pace, tree)
 }
 
 // Puts points into the net, by several threads.
@@ -254,7 +260,7 @@ fn put_by_threads<R: Threads + Sync>(
     requires { HaveRoomFor Whole turns.now (cells_of_slots net.old) }
     ensures { OnOk result (ArePut turns.now [] (cells_of_slots net.old) (cells_of_slots net.new)) }
 {
-    let mut edges = Edges::new(alloc);
+    let mut desk = Desk::new(alloc);
     let mut waiting = Vec::new(alloc);
     let mut pace = Pace::of(alloc, turns, threads)?;
     for turn in turns {
@@ -262,14 +268,14 @@ fn put_by_threads<R: Threads + Sync>(
             rt,
             alloc,
             net,
-            &mut edges,
+            &mut desk,
             &mut waiting,
             turn,
             &mut pace,
             tree,
         )?;
     }
-    put_points(alloc, net, &mut edges, &waiting, Choice::All, Reach::Whole)?;
+    put_points(alloc, net, &mut desk, &waiting, Choice::All, Reach::Whole)?;
     Ok(())
 }
 
@@ -296,7 +302,7 @@ fn net_by_threads<R: Threads + Sync>(
 }
 
 /// The cells of the complex of the points, which are ascending and solid, as `complex_of_points` gives them, made by so
-/// many threads.
+/// many threads, where there are points enough that it pays, and else by one.
 ///
 /// # Errors
 /// Want of memory.
@@ -310,7 +316,10 @@ pub fn complex_by_threads<R: Threads + Sync>(
     requires solid { is_solid points.now ≡ true }
     ensures { IfOk result (λ cells. cells.items ≡ complex points.now) }
 {
-    let net = net_by_threads(rt, alloc, points, threads)?;
-    let cells = ranked(alloc, net)?;
+    if threads < 2 || points.len() < FEWEST {
+        return complex_of_points(alloc, points);
+    }
+    let net = net_by_threads(rt, alloc, points, threads.min(points.len() / SHARE))?;
+    let cells = ranked_by_threads(rt, alloc, net)?;
     Ok(cells_in_order(cells))
 }

@@ -1,4 +1,4 @@
-//! Which block a point belongs to, and to which group a block is dealt. Any dealing is right: no contract speaks of it.
+//! Which block a point belongs to. Any choice is right: no contract speaks of it.
 
 use crate::curve::{level_of, place_of, turn_of};
 use point_order::Point;
@@ -189,7 +189,7 @@ impl Tree {
     }
 
     // Where a block lies along a direction.
-    fn along(&self, block: usize, way: usize) -> i64 {
+    pub(crate) fn along(&self, block: usize, way: usize) -> i64 {
         if block >= self.middles.len() {
             return 0;
         }
@@ -227,7 +227,12 @@ impl Tree {
     }
 
     // A direction along which the blocks lie wide, another one each turn.
-    fn way_of(&self, alloc: Global, blocks: &[usize], turn: usize) -> Result<usize, AllocError> {
+    pub(crate) fn way_of(
+        &self,
+        alloc: Global,
+        blocks: &[usize],
+        turn: usize,
+    ) -> Result<usize, AllocError> {
         let mut widths = Vec::new(alloc);
         let mut most = 0i64;
         for way in 0..13 {
@@ -246,159 +251,4 @@ impl Tree {
         }
         Ok(wide[turn % wide.len()])
     }
-}
-
-// Some blocks that are to be dealt to so many groups, and how often they were parted.
-#[derive(Drop)]
-struct Part {
-    blocks: Vec<usize>,
-    groups: usize,
-    level: usize,
-}
-
-// The group of each block, and how much each group does at the most.
-#[derive(Drop)]
-pub(crate) struct Deal {
-    groups: usize,
-    of: Vec<usize>,
-    most: usize,
-}
-
-impl Deal {
-    // The blocks are cut across directions that change with the turn, into parts of about equal weight.
-    pub(crate) fn of(
-        alloc: Global,
-        tree: &Tree,
-        weights: &[usize],
-        groups: usize,
-        turn: usize,
-        most: usize,
-    ) -> Result<Deal, AllocError> {
-        let mut deal = Deal {
-            groups,
-            of: Vec::new(alloc),
-            most,
-        };
-        let mut blocks = Vec::new(alloc);
-        for block in 0..tree.len() {
-            deal.of.push(0usize)?;
-            blocks.push(block)?;
-        }
-        let mut parts = Vec::new(alloc);
-        parts.push(Part {
-            blocks,
-            groups,
-            level: 0,
-        })?;
-        let mut next: usize = 0;
-        for _ in 0..groups.saturating_mul(2) {
-            if let Some(part) = parts.pop() {
-                if part.groups < 2 {
-                    deal.note(&part.blocks, next);
-                    next = next.wrapping_add(1);
-                } else {
-                    let (one, other) = parted(alloc, tree, weights, part, turn)?;
-                    parts.push(one)?;
-                    parts.push(other)?;
-                }
-            }
-        }
-        Ok(deal)
-    }
-
-    fn note(&mut self, blocks: &[usize], group: usize) {
-        for block in blocks {
-            if *block < self.of.len() {
-                self.of[*block] = group;
-            }
-        }
-    }
-
-    // The number of the last group.
-    pub(crate) fn last(&self) -> usize {
-        self.groups.saturating_sub(1)
-    }
-
-    // How much each group does at the most.
-    pub(crate) fn most(&self) -> usize {
-        self.most
-    }
-
-    // The group of a block.
-    pub(crate) fn group_of(&self, block: usize) -> usize {
-        if block < self.of.len() {
-            self.of[block].min(self.groups.wrapping_sub(1))
-        } else {
-            0
-        }
-    }
-}
-
-fn weight_of(weights: &[usize], block: usize) -> usize {
-    if block < weights.len() {
-        weights[block]
-    } else {
-        0
-    }
-}
-
-fn parted(
-    alloc: Global,
-    tree: &Tree,
-    weights: &[usize],
-    part: Part,
-    turn: usize,
-) -> Result<(Part, Part), AllocError> {
-    let Part {
-        blocks,
-        groups,
-        level,
-    } = part;
-    let way = tree.way_of(
-        alloc,
-        &blocks,
-        turn.wrapping_mul(2)
-            .wrapping_add(level.wrapping_mul(5))
-            .wrapping_add(turn / 3),
-    )?;
-    let mut blocks = blocks;
-    blocks.sort_unstable_by_key(|block| tree.along(*block, way));
-    let first = if groups == 2 {
-        1
-    } else {
-        match turn % 3 {
-            0 => groups / 2,
-            1 => 1,
-            _ => groups.wrapping_sub(1),
-        }
-    };
-    let mut total: usize = 0;
-    for block in &blocks {
-        total = total.wrapping_add(weight_of(weights, *block));
-    }
-    let want = total.wrapping_mul(first) / groups.max(1);
-    let mut sum: usize = 0;
-    let mut one = Vec::new(alloc);
-    let mut other = Vec::new(alloc);
-    for block in &blocks {
-        if sum < want {
-            one.push(*block)?;
-        } else {
-            other.push(*block)?;
-        }
-        sum = sum.wrapping_add(weight_of(weights, *block));
-    }
-    let level = level.wrapping_add(1);
-    Ok((
-        Part {
-            blocks: one,
-            groups: first,
-            level,
-        },
-        Part {
-            blocks: other,
-            groups: groups.wrapping_sub(first),
-            level,
-        },
-    ))
 }
