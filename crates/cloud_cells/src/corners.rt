@@ -1,6 +1,6 @@
 //! Cells and facets as the keys of their points.
 
-ghost use Rattle.std.specs.Prelude.{◌≡◌, ◌↔◌, ◌<◌, ◌≤◌, List, MatchOption, IsTrue, ℕ};
+ghost use Rattle.std.specs.Prelude.{◌≡◌, ◌↔◌, ◌<◌, ◌≤◌, ◌⊎◌, List, MatchOption, IsTrue, Some, ℕ};
 ghost use Rattle.point_order.specs.Conflicts.{CanJudge, is_in_conflict};
 ghost use Rattle.point_order.specs.Coordinates.{IsKey};
 ghost use Rattle.point_order.specs.Facets.{facets_of, points_of, points_on};
@@ -9,6 +9,7 @@ ghost use Rattle.point_order.specs.declared.cell.Cell.TheVariants.{Full, Open};
 ghost use Rattle.hole_laws.specs.Digs.{IsFacetApart};
 ghost use Rattle.hole_laws.specs.Lists.{cell_over};
 ghost use Rattle.cloud_cells.specs.Corners.{AreFaceKeys, facet_of};
+ghost use Rattle.cloud_cells.specs.Nets.{IsOtherOn};
 
 use point_order::{Cell, Facet, Point, Tri};
 use sphere_ties::{conflict, outside};
@@ -248,6 +249,35 @@ impl Corners {
         } else {
             4
         }
+    }
+
+    // Whether it is another cell on a facet of a cell.
+    pub(crate) fn is_across(&self, cell: &Corners, facet: &Face) -> bool
+        ensures { IsTrue result ↔ IsOtherOn cell.now facet.now self.now }
+    {
+        self.number_of(facet) < 4 && !self.is_same(cell)
+    }
+
+    // The point across from one of its facets; none where that is the infinite vertex.
+    pub(crate) fn point_beyond(&self, face: &Face) -> Option<Point>
+        requires { IsIn face.now (facets_of self.now) }
+        ensures { (x : ℕ) → IsIn x (points_of self.now) → IsIn x (points_on face.now) ⊎ (result ≡ Some x) }
+    {
+        if self.d != face.z {
+            return if self.d == INFINITE {
+                None
+            } else {
+                Some(point_of(self.d))
+            };
+        }
+        let key = if self.c != face.y {
+            self.c
+        } else if self.b != face.x {
+            self.b
+        } else {
+            self.a
+        };
+        Some(point_of(key))
     }
 
     // Whether the point is in conflict with the cell. The mate of a Full cell is not looked at.

@@ -1,23 +1,24 @@
 //! Looks at linked cells, by walks. None of them takes memory.
 
-ghost use Rattle.std.specs.Prelude.{◌↔◌, IfSome, IsTrue, List, ℕ};
+ghost use Rattle.std.specs.Prelude.{◌≡◌, false, IfSome, List, ℕ};
 ghost use Rattle.point_order.specs.Sets.{IsIn};
-ghost use Rattle.point_order.specs.declared.cell.Cell.{Cell as CellOf};
+ghost use Rattle.del_laws.specs.Nearest.{comes_before};
 ghost use Rattle.hole_laws.specs.Edits.{GoesFrom, IsNew};
-ghost use Rattle.hole_laws.specs.Stars.{IsCellAt};
-ghost use Rattle.cloud_cells.specs.Clouds.{AreCellsOf};
-ghost use Rattle.cloud_cells.specs.Linked.{AreCellsLacking, AreCellsWith};
+ghost use Rattle.cloud_cells.specs.Clouds.{AreCellsOf, AreCellsOfSome};
+ghost use Rattle.cloud_cells.specs.Linked.{AreCellsLacking};
 ghost use Rattle.cloud_cells.specs.Nets.{cells_of_slots};
 
-use crate::around::{Around, look_from};
-use crate::corners::{Corners, point_of};
+use crate::aim::Aim;
+use crate::around::{Around, Halt, look};
 use crate::judge::first_in_conflict;
-use crate::linked::with_point;
 use crate::net::Net;
 use crate::owned::LinkedCells;
 use crate::reach::Reach;
-use crate::walk::{walked_from, walked_near, walked_to};
-use point_order::{Cell, Point, Step};
+use crate::walk::walked_from;
+use point_order::{Cell, Point};
+
+// How many stars a walk comes by at the most.
+const STARS: u64 = 1 << 20;
 
 // A cell that the new point takes away, by a walk from a slot.
 fn conflict_from(net: &Net, p: Point, start: usize) -> Cell
@@ -31,53 +32,25 @@ fn conflict_from(net: &Net, p: Point, start: usize) -> Cell
     }
 }
 
-// The square of the distance of a place from the point of a key.
-fn square_to(key: u64, p: Point) -> i64 {
-    Step::between(p, point_of(key)).square()
-}
-
-// The same from the nearest point of a cell.
-fn square_from(cell: &Corners, p: Point) -> i64 {
-    let least = square_to(cell.a, p)
-        .min(square_to(cell.b, p))
-        .min(square_to(cell.c, p));
-    if cell.is_open() {
-        least
-    } else {
-        least.min(square_to(cell.d, p))
-    }
-}
-
-// And from that in a slot; where there is none, more than from any.
-fn square_at(net: &Net, place: usize, p: Point) -> i64 {
-    match net.spot_in(place) {
-        Some(spot) => square_from(spot.cell(), p),
-        None => i64::MAX,
-    }
-}
-
-// Of the slot at the end of a walk towards a place, and those across from it, the one whose cell has the nearest point.
-fn slot_near(net: &Net, p: Point, start: usize) -> usize {
-    let end = walked_near(net, p, start);
-    let mut near = end;
-    let mut least = square_at(net, end, p);
-    for k in 0..4 {
-        let next = net.link(end, k);
-        let square = square_at(net, next, p);
-        if square < least {
-            least = square;
-            near = next;
+// The nearest point to a place, by a walk from star to star that begins with the cell of a slot, if it comes to an end.
+fn nearest_from(net: &Net, q: Point, start: usize) -> Option<Point>
+    requires { AreCellsOfSome (cells_of_slots net.now) }
+    ensures among { IfSome result (λ n. (s : List ℕ) → AreCellsOf s (cells_of_slots net.now) → IsIn n s) }
+    ensures first { IfSome result (λ n. (s : List ℕ) → AreCellsOf s (cells_of_slots net.now) → (y : ℕ) → IsIn y s →
+        comes_before q y n ≡ false) }
+{
+    let mut around = Around::new();
+    let mut slot = start;
+    for _ in 0..STARS {
+        let first = net.spot_in(slot)?;
+        let aim = Aim::at(q, first.cell());
+        match look(net, &aim, first, &mut around) {
+            Ok(()) => return Some(aim.point),
+            Err(Halt::Nearer(next)) => slot = next,
+            Err(Halt::Lost) => return None,
         }
     }
-    near
-}
-
-// The cell at the end of a walk towards a place, or one beside it.
-fn cell_towards(net: &Net, p: Point, start: usize) -> Option<Cell>
-    ensures { IfSome result (λ c. IsIn c (cells_of_slots net.now)) }
-{
-    let spot = net.spot_in(slot_near(net, p, start))?;
-    Some(spot.cell().to_cell())
+    None
 }
 
 impl LinkedCells {
@@ -90,24 +63,15 @@ impl LinkedCells {
         conflict_from(&self.net, p, start)
     }
 
-    /// A cell that is likely to lie near a place, if one is found. It takes no memory.
-    pub fn cell_near(&self, p: Point) -> Option<Cell>
-        ensures { IfSome result (λ c. IsIn c self.now.cells) }
+    /// The nearest point to a place, among those as near the one with the least key, by a walk from star to star, if it
+    /// comes to an end: it does where no star on its way has more than 128 cells. It takes no memory.
+    pub fn nearest(&self, q: Point) -> Option<Point>
+        requires { AreCellsOfSome self.now.cells }
+        ensures among { IfSome result (λ n. (s : List ℕ) → AreCellsOf s self.now.cells → IsIn n s) }
+        ensures first { IfSome result (λ n. (s : List ℕ) → AreCellsOf s self.now.cells → (y : ℕ) → IsIn y s →
+            comes_before q y n ≡ false) }
     {
-        let start = self.hints.start(&self.net, p);
-        cell_towards(&self.net, p, start)
-    }
-
-    /// Looks at the cells at a point of the set, and answers whether there are not too many for that. It takes no
-    /// memory.
-    pub fn look_around(&self, v: Point, around: &mut Around) -> bool
-        requires { AreCellsWith v self.now.cells }
-        ensures { IsTrue result → (s : List ℕ) → AreCellsOf s self.now.cells → (q : CellOf) →
-            IsIn q around.new ↔ IsCellAt s v q }
-    {
-        let start = self.hints.start(&self.net, v);
-        let hint = walked_to(&self.net, v, start);
-        let first = with_point(&self.net, v, hint);
-        look_from(&self.net, v, first, around)
+        let start = self.hints.start(&self.net, q);
+        nearest_from(&self.net, q, start)
     }
 }

@@ -18,33 +18,6 @@ use Rattle.cloud_cells.specs.Clouds.{AreCellsOf}
 use Rattle.near_vertex.specs.Points.{IsFirstOf, IsNearest}
 use Rattle.near_vertex.proofs.Cited.{before_self}
 
--- the points of the cells of a set are its points
-pub point_of_cell : (s : List ℕ) (cells : List Cell) → AreCellsOf s cells → (c : Cell) → IsIn c cells → (x : ℕ) →
-    IsIn x (points_of c) → IsIn x s
-point_of_cell s cells k c i x m =
-    listed_inside s c (listed_is_cell s c k.solid.set.ascending ((k.members c).0 i)) x m
-
-module _ (s : List ℕ) (cells star : List Cell) (p : ℕ) (k : AreCellsOf s cells) (m : IsIn p s)
-    (all : (c : Cell) → IsIn c star ↔ IsCellAt s p c) where
-  -- the first around a point is one of the set
-  pub around_in : (q x : ℕ) → IsFirstOf q (p ∷ flat_map points_of star) x → IsIn x s
-  around_in q x f = elim f.among [
-    | inl e ↦ subst (λ v. IsIn v s) e m
-    | inr i ↦ (let r = flat_from points_of star x i in listed_inside s r.0
-        (listed_is_cell s r.0 k.solid.set.ascending ((all r.0).0 r.1).listed) x r.2)
-  ]
-
-  -- where it is the point itself, that is the nearest
-  pub around_nearest : (q : ℕ) → IsFirstOf q (p ∷ flat_map points_of star) p → IsNearest s q p
-  around_nearest q f = record {
-    among = m;
-    first = λ e i. false_if (comes_before q e p) (λ t. (
-        let h = nearest_by_cells s q p e k.solid.set.ascending k.solid.set.keys k.solid.solid m i t in
-        not_both (comes_before q h.other p) h.nearer (f.first h.other
-        (inr (in_flat points_of star h.cell h.other ((all h.cell).1 (record { listed = h.listed; has = h.has }))
-        h.shares)))));
-  }
-
 -- ---- the first of a list, and where a place lies
 
 -- the first of a list is one of it
@@ -79,13 +52,6 @@ first_alone q p = record {
     | inr none ↦ absurd none
   ];
 }
-
--- the points of one cell more
-pub points_further : (star : List Cell) (i : ℕ) (c : Cell) → i < length star → c ≡ slice_index_or star i c →
-    flat_map points_of (take (i + 1) star) ≡ flat_map points_of (take i star) ++ points_of c
-points_further star i c h e =
-    ap (flat_map points_of) (take_next star i c h e) ∙ flat_map-append points_of (take i star) (c ∷ [])
-    ∙ ap (λ l. flat_map points_of (take i star) ++ l) (append-nil (points_of c))
 
 -- no solid list is empty
 pub none_solid : (l : List ℕ) → is_solid l ≡ true → ¬ (0 < length l) → ⊥

@@ -11,7 +11,7 @@ ghost use Rattle.hole_laws.specs.Edits.{GoesFrom};
 ghost use Rattle.cloud_cells.specs.Clouds.{AreCellsOf};
 ghost use Rattle.near_vertex.specs.Points.{IsNearest};
 
-use crate::near::{nearest_by_walk, nearest_of_all};
+use crate::near::nearest_of_all;
 use crate::shift::move_point;
 use crate::take::take_point;
 use cloud_cells::LinkedCells;
@@ -186,7 +186,7 @@ impl LinkedSet {
     pub fn nearest(&self, q: Point) -> Point
         ensures { IsNearest self.now q result }
     {
-        match nearest_by_walk(&self.linked, q) {
+        match self.linked.nearest(q) {
             Some(near) => near,
             None => nearest_of_all(&self.points, q),
         }

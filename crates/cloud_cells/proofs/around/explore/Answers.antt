@@ -13,35 +13,29 @@ pub cross-requires-clause-among : goal.cross-requires-clause-among
 cross-requires-clause-among c =
     let i = c.loop-facet.invariant.0 in
     subst (λ (l : List Cell). IsIn c.args.spot.now l) (sym i.1)
-    (in_left c.args.spot.now c.args.found.now.items i.0 c.requires.among)
+    (in_left c.args.spot.now c.args.around.now i.0 c.requires.among)
 
 -- one facet more is crossed
 pub loop-facet-preserved : goal.loop-facet-preserved
 loop-facet-preserved c =
     let i = c.loop-facet.invariant in
-    let e = c.cross.ensures in
-    let new = c.cross.new.found.items in (
-      more_twice c.args.found.now.items c.loop-facet.found.items new i.0 e.more,
-      e.listed,
+    let e = c.in_ok-cross.ensures in
+    let new = c.cross.new.around in (
+      more_twice c.args.around.now c.loop-facet.around new i.0 e.more,
+      e.looked,
       λ s k crossed t. (
           let now = crossed ++ take c.loop-facet.facet-index c.facets-facets.result in
-          let w = e.crossed c.if-not-cross.false s k now (i.2 s k crossed t) in
-          subst (λ (l : List Facet). AreCrossedAround s c.args.v l new)
+          let w = e.crossed s k now (i.2 s k crossed t) in
+          subst (λ (l : List Facet). AreCrossedAround s c.args.aim.now.point l new)
           (one_more crossed c.facets-facets.result c.loop-facet.facet-index c.facet-item.result
           (omega (arith, c.type_inv.facet-items)) c.facet-item.is)
-          (subst (λ (f : Facet). AreCrossedAround s c.args.v (now ++ f ∷ []) new) (sym c.facet-item.is) w)),
+          (subst (λ (f : Facet). AreCrossedAround s c.args.aim.now.point (now ++ f ∷ []) new) (sym c.facet-item.is) w)),
       ap (λ n. n + 1) i.3,
     )
 
--- some more were found, and it is not known whether all
-pub returns-then-not-cross-clause-more : goal.returns-then-not-cross-clause-more
-returns-then-not-cross-clause-more c =
-    more_twice c.args.found.now.items c.loop-facet.found.items c.cross.new.found.items c.loop-facet.invariant.0
-    c.cross.ensures.more
-
 pub returns-clause-explored : goal.returns-clause-explored
-returns-clause-explored c u s k crossed t =
-    subst (λ (l : List Facet). AreCrossedAround s c.args.v (crossed ++ l) c.loop-facet.found.items)
+returns-clause-explored c s k crossed t =
+    subst (λ (l : List Facet). AreCrossedAround s c.args.aim.now.point (crossed ++ l) c.loop-facet.around)
     (take_all c.loop-facet.facet-index c.facets-facets.result (omega
     (arith, ap length (c.facets-facets.ensures ∙ ap facets_of c.cell.ensures), facets_few c.args.spot.now)) ∙
     (c.facets-facets.ensures ∙ ap facets_of c.cell.ensures)) (c.loop-facet.invariant.2 s k crossed t)

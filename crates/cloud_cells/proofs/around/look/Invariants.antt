@@ -3,17 +3,17 @@ use Rattle.point_order.specs.declared.cell.Cell.{Cell}
 use Rattle.point_order.specs.Sets.{IsIn}
 use Rattle.hole_laws.specs.Digs.{facets_of_first}
 use Rattle.cloud_cells.specs.Clouds.{AreCellsOf}
-use Rattle.cloud_cells.specs.Linked.{AreAllAmong}
+use Rattle.cloud_cells.specs.Nearest.{AreLookedAt}
 use Rattle.cloud_cells.specs.Nets.{cells_of_slots}
 use Rattle.cloud_cells.specs.Stars.{AreCrossedAround}
 use Rattle.cloud_cells.proofs.around.look.Given as goal
 
 abbrev pub invariant-look : goal.invariant-look
 invariant-look l =
-    AreAllAmong l.found.items (cells_of_slots l.net)
-    × ((first : Cell) × IsIn first l.found.items)
+    AreLookedAt l.aim.place l.aim.point (cells_of_slots l.net) l.around
+    × ((first : Cell) × IsIn first l.around)
     × ((s : List ℕ) → AreCellsOf s (cells_of_slots l.net) →
-    AreCrossedAround s l.v (facets_of_first l.explored l.found.items) l.found.items)
+    AreCrossedAround s l.aim.point (facets_of_first l.explored l.around) l.around)
 
 abbrev pub decreases-look : goal.decreases-look
 decreases-look l = 128 - l.explored

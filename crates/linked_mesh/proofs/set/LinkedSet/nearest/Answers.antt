@@ -2,13 +2,16 @@ use Rattle.std.proofs.Common.{subst, List, ℕ}
 use Rattle.near_vertex.specs.Points.{IsNearest}
 use Rattle.linked_mesh.proofs.set.LinkedSet.nearest.Goals as goal
 
-pub nearest_by_walk-requires : goal.nearest_by_walk-requires
-nearest_by_walk-requires c = (c.self.inside.points.keys, c.self.invariant)
+pub nearest-requires : goal.nearest-requires
+nearest-requires c = (c.self.inside.points.keys, c.self.invariant)
 
 pub returns-in-Some : goal.returns-in-Some
 returns-in-Some c =
-    subst (λ (l : List ℕ). IsNearest l c.args.q c.in-Some.near) c.self.view_is
-    (c.in-Some.ensures c.self.inside.points.keys c.self.invariant)
+    let n = c.in-Some.ensures in
+    subst (λ (l : List ℕ). IsNearest l c.args.q c.in-Some.near) c.self.view_is (record {
+      among = n.among c.self.inside.points.keys c.self.invariant;
+      first = n.first c.self.inside.points.keys c.self.invariant;
+    })
 
 pub nearest_of_all-requires : goal.nearest_of_all-requires
 nearest_of_all-requires c = c.self.invariant.solid.solid
