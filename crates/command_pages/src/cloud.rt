@@ -14,7 +14,7 @@ ghost use Rattle.command_pages.specs.Run.{IsKept};
 
 use crate::made::Parts;
 use crate::parts::parts_of;
-use cloud_cells::complex_of_points;
+use cloud_cells::complex_by_threads;
 use command_words::{Asked, Making};
 use edit_files::File;
 use edit_history::Entry;
@@ -22,6 +22,7 @@ use edit_history::laws::{one_thread_is_legal, solidity_is_of_the_set};
 use point_history::{history_of_points, set_of};
 use point_order::Point;
 use std::alloc::{AllocError, Global};
+use std::thread::Threads;
 
 // Reads each key, so that it is known to be one.
 fn read_keys(points: &[Point])
@@ -33,12 +34,13 @@ fn read_keys(points: &[Point])
 }
 
 /// The history of one thread of a file without edit lines, and the parts of its report. No mesh is made: the history
-/// keeps the file for every number of workers, and the cells are those of its points. `four` are the places of the
-/// opening four.
+/// keeps the file for every number of workers, and the cells are those of its points, made by as many threads as there
+/// are workers, where there are points enough that it pays. `four` are the places of the opening four.
 ///
 /// # Errors
 /// Want of memory.
-pub fn made_of_points(
+pub fn made_of_points<R: Threads + Sync>(
+    rt: &R,
     alloc: Global,
     making: Making,
     asked: Asked,
@@ -61,7 +63,7 @@ pub fn made_of_points(
     solidity_is_of_the_set();
     let points = set_of(alloc, &file.points)?;
     read_keys(&points);
-    let cells = complex_of_points(alloc, &points)?;
+    let cells = complex_by_threads(rt, alloc, &points, making.workers as usize)?;
     let kept = history_of_points(alloc, &file.points, four)?;
     let parts = parts_of(alloc, making, asked, file, points, cells, &kept)?;
     Ok((kept, parts))

@@ -43,7 +43,7 @@ pub fn history_and_parts<R: Threads + Sync, G: Gate + Sync>(
         return Err(Stop::Flat);
     };
     if file.edits.is_empty() {
-        return Ok(made_of_points(alloc, making, asked, file, four)?);
+        return Ok(made_of_points(rt, alloc, making, asked, file, four)?);
     }
     let lists = lists_of_lines(rt, alloc, file, four, making, gate)?;
     let MeshLists {

@@ -11,7 +11,7 @@ use Rattle.command_pages.proofs.Clouds.{kept_by_any}
 use Rattle.command_pages.proofs.cloud.made_of_points.Goals as goal
 
 pub parts_of-requires-clause-points : goal.parts_of-requires-clause-points
-parts_of-requires-clause-points c =
+parts_of-requires-clause-points g c =
     let points = c.args.file.now.points.items in
     let kept = c.in_ok-kept.ensures ∙ ap (λ (p : List ℕ). one_thread p []) c.deref-4.ensures.value in
     let left = ap replay c.deref-5.ensures.value ∙ leaves_points points c.args.four c.in_ok-kept.kept.items
@@ -19,19 +19,19 @@ parts_of-requires-clause-points c =
     c.in_ok-points.ensures.set ∙ ap ascending c.deref.ensures.value ∙ sym left
 
 pub parts_of-requires-clause-cells : goal.parts_of-requires-clause-cells
-parts_of-requires-clause-cells c =
-    c.in_ok-cells.ensures ∙ ap complex (c.deref-3.ensures.value ∙ parts_of-requires-clause-points c)
+parts_of-requires-clause-cells g c =
+    c.in_ok-cells.ensures ∙ ap complex (c.deref-3.ensures.value ∙ parts_of-requires-clause-points g c)
 
 pub parts_of-requires-clause-ascending : goal.parts_of-requires-clause-ascending
-parts_of-requires-clause-ascending c = subst IsAscending (parts_of-requires-clause-points c)
+parts_of-requires-clause-ascending g c = subst IsAscending (parts_of-requires-clause-points g c)
     c.in_ok-points.ensures.ascending
 
 pub parts_of-requires-clause-keys : goal.parts_of-requires-clause-keys
-parts_of-requires-clause-keys c = subst AreKeys
-    (c.deref-2.ensures.value ∙ parts_of-requires-clause-points c) c.read_keys.ensures
+parts_of-requires-clause-keys g c = subst AreKeys
+    (c.deref-2.ensures.value ∙ parts_of-requires-clause-points g c) c.read_keys.ensures
 
 pub parts_of-requires-clause-solid : goal.parts_of-requires-clause-solid
-parts_of-requires-clause-solid c =
+parts_of-requires-clause-solid g c =
     let points = c.args.file.now.points.items in
     let kept = c.in_ok-kept.ensures ∙ ap (λ (p : List ℕ). one_thread p []) c.deref-4.ensures.value in
     let left = ap replay c.deref-5.ensures.value ∙ leaves_points points c.args.four c.in_ok-kept.kept.items
@@ -39,7 +39,7 @@ parts_of-requires-clause-solid c =
     ap is_solid left ∙ c.solidity_is_of_the_set.ensures points ∙ c.requires.solid
 
 pub returns-clause-kept : goal.returns-clause-kept
-returns-clause-kept c =
+returns-clause-kept g c =
     let kept = c.in_ok-kept.ensures ∙ ap (λ (p : List ℕ). one_thread p []) c.deref-4.ensures.value in
     kept_by_any (content c.args.file.now) c.args.four c.in_ok-kept.kept.items c.one_thread_is_legal.ensures.keeps
     c.requires.found c.requires.no_edits kept
