@@ -1,14 +1,18 @@
-"""Prints an edit file at full size: 65,536 lines of points and edits, a radius and 2,000 queries.
+"""Prints an edit file at full size: 65,536 lines of points and edits, a radius and 2,000 queries; or, with --cloud, one
+of 131,072 points alone, of which several workers make the cells by threads.
 
-    tools/make full-file
+    tools/make full-file [--cloud]
 
 It is drawn by a rule of its own. Of the edits every fourth takes a point, and every fourth moves one; the first
 thousand points stay, so the opening four do. tools/cases runs every command on it, beside what `tools/make full-size`
 makes.
 """
+import sys
+
 from plain import random_cases
 
 POINTS, EDITS, QUERIES, START = 56_000, 9_536, 2_000, 20261130
+CLOUD = 131_072
 RADIUS = 16 * 90_000  # in sixteenths of a squared distance
 
 
@@ -37,11 +41,16 @@ def drawn_file(count=POINTS, lines=EDITS):
     return points, edits, queries
 
 
-def text(given=None):
+def drawn_cloud():
+    """Points alone."""
+    return drawn(CLOUD), [], []
+
+
+def text(given):
     """The text of what was drawn, of version 4."""
-    points, edits, queries = given or drawn_file()
+    points, edits, queries = given
     return random_cases.text_of(points, edits, [RADIUS], 4, queries)
 
 
 if __name__ == '__main__':
-    print(text(), end='')
+    print(text(drawn_cloud() if sys.argv[1:] == ['--cloud'] else drawn_file()), end='')

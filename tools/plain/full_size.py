@@ -2,6 +2,7 @@
 
     tools/make full-size > cases/full-size.sums     the sums, which tools/cases compares
     tools/make full-size FOLDER                     the texts: input.mesh3, mesh, shape, steps, parts, near, check
+    tools/make full-size --cloud > cases/full-cloud.sums     the same of points alone, by `mesh` with several workers
 
 The file is that of `tools/make full-file`. The replies go by the set of points that the lines leave. The cells are
 those of CGAL (by GUDHI); that their hull is convex, each is empty beside its neighbours, and no five points lie on a
@@ -19,7 +20,7 @@ from scipy.sparse import coo_matrix
 from scipy.sparse.csgraph import connected_components
 from scipy.spatial import cKDTree
 
-from plain.full_file import RADIUS, drawn_file, text
+from plain.full_file import RADIUS, drawn_cloud, drawn_file, text
 
 BEYOND = 1 << 34
 PIECE = 1 << 16
@@ -239,9 +240,9 @@ def rows(array):
     return [' '.join(map(str, row)) for row in array.tolist()]
 
 
-def report_text(replies, shape, blocks):
-    text = ['mesh3-out 1', f'replies {len(replies)}', *replies, f'points {len(shape.points)}', *rows(shape.points)]
-    text += [f'cells {len(shape.cells)}', *rows(shape.cells), f'hull {len(shape.hull)}', *rows(shape.hull)]
+def report_text(replies, points, cells, hull, blocks=()):
+    text = ['mesh3-out 1', f'replies {len(replies)}', *replies, f'points {len(points)}', *rows(points)]
+    text += [f'cells {len(cells)}', *rows(cells), f'hull {len(hull)}', *rows(hull)]
     return '\n'.join([*text, *blocks, 'end', ''])
 
 
@@ -307,17 +308,30 @@ def texts(drawn):
     yield 'input.mesh3', text(drawn)
     replies, left = replies_of(points, edits)
     shape = Shape(left)
-    yield 'mesh', report_text(replies, shape, [])
-    yield 'shape', report_text(replies, shape, shape_block(shape, RADIUS))
+    faces = shape.points, shape.cells, shape.hull
+    yield 'mesh', report_text(replies, *faces)
+    yield 'shape', report_text(replies, *faces, shape_block(shape, RADIUS))
     yield 'steps', steps_text(shape)
     yield f'parts --alpha {ALPHA}', parts_text(shape, ALPHA)
     yield 'near', near_text(left, queries)
     yield 'check', 'mesh3-check 1\ngood\n'
 
 
+def cloud_texts(drawn):
+    """The points that are drawn, and what `mesh` is to write of them by every number of workers."""
+    points, edits, _ = drawn
+    yield 'input.mesh3', text(drawn)
+    replies, left = replies_of(points, edits)
+    cells, _, hull = complex_of(left)
+    report = report_text(replies, left, cells, hull)
+    for workers in 1, 2, 4:
+        yield f'mesh --workers {workers}', report
+
+
 def main(words):
-    for name, made in texts(drawn_file()):
-        if words:
+    is_cloud = words == ['--cloud']
+    for name, made in cloud_texts(drawn_cloud()) if is_cloud else texts(drawn_file()):
+        if words and not is_cloud:
             with open(os.path.join(words[0], name.split()[0]), 'w', encoding='ascii') as file:
                 file.write(made)
         else:

@@ -85,7 +85,7 @@ def asked(count):
     given = '\n'.join(['mesh3 1', 'points', *lines, 'edits', 'radii', 'end', ''])
     replies, left = replies_of(points, [])
     shape = Shape(left)
-    yield 'mesh of points alone', ['mesh'], given, report_text(replies, shape, [])
+    yield 'mesh of points alone', ['mesh'], given, report_text(replies, shape.points, shape.cells, shape.hull)
     yield 'parts --most 1', ['parts', '--most', '1'], given, parts_text(shape, least_alpha_of_one_part(shape))
 
 
