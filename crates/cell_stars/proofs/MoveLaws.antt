@@ -12,7 +12,6 @@ use Rattle.point_order.specs.Facets.{points_of}
 use Rattle.point_order.specs.Sets.{IsIn, IsAscending}
 use Rattle.cell_stars.specs.Places.{Placed, AreStars, IsStarred, cells_of, lies_in, touches_in, at_slot}
 use Rattle.cell_stars.specs.Moves.{IsStarFor, AreFreed, IsFreed, AreComing, AreNew, IsComing, StandsYet, IsVacant}
-use Rattle.cell_stars.specs.Moves.{IsClear}
 use Rattle.point_order.specs.Sets.{is_among}
 use Rattle.cell_stars.specs.Grids.{bucket_of}
 use Rattle.cell_stars.specs.Plans.{AreFor}
@@ -87,41 +86,6 @@ stays_is b freed c i false a e f = record {
   kept =
       λ m. (let t = among_true i freed m in absurd (cc (f, t)));
 }
-
--- ---- vertices that are clear of a point
-
--- a place whose cell does not have the point
-pub lacks_here : (slots : List (Option Cell)) (x p : ℕ) (cell : Cell) (r : Bool) → at_slot slots x ≡ Some cell →
-    r ≡ is_among p (points_of cell) → r ≡ false → (c : Cell) → at_slot slots x ≡ Some c → IsIn p (points_of c) → ⊥
-lacks_here slots x p cell r e f g c h m =
-    let same : Some cell ≡ Some c = sym e ∙ h in
-    let t = among_true p (points_of cell) (subst (λ d. IsIn p (points_of d)) (sym (let u : cell ≡ c = cc same in u)) m)
-    in
-    absurd (cc (f, g, t))
-
--- a vertex is clear of a point where no cell of its star has the point
-pub clear_by : (b : Placed) (slots : List (Option Cell)) (p q : ℕ) (star : List ℕ) → slots ≡ b.slots →
-    lies_in b.place q ≡ true →
-    ((i : ℕ) → IsIn i star → (c : Cell) → at_slot slots i ≡ Some c → IsIn p (points_of c) → ⊥) →
-    ((i : ℕ) → (IsIn i star → IsStarred b.keys b.stars q i) × (IsStarred b.keys b.stars q i → IsIn i star)) →
-    IsClear b p q
-clear_by b slots p q star e l n f = record {
-  inside = l;
-  apart =
-      λ i c s h m. n i ((f i).1 s) c (ap (λ k. at_slot k i) e ∙ h) m;
-}
-
--- with one more that is clear all so far are
-pub clear_pushed : (b : Placed) (p : ℕ) (old new : List ℕ) (x : ℕ) → new ≡ old ++ x ∷ [] → IsClear b p x →
-    ((q : ℕ) → IsIn q old → IsClear b p q) → (q : ℕ) → IsIn q new → IsClear b p q
-clear_pushed b p old new x e k f q m = elim (in_pushed old new x q e m)
-    [ inl i ↦ f q i | inr s ↦ subst (IsClear b p) s k ]
-
--- a cell with the point and such a vertex stands nowhere
-pub clear_nowhere : (b : Placed) (p q i : ℕ) (c : Cell) → AreStars b → IsClear b p q → is_among p (points_of c) ≡ true →
-    is_among q (points_of c) ≡ true → at_slot b.slots i ≡ Some c → ⊥
-clear_nowhere b p q i c a f h k e = f.apart i c (a.listed q i c e (among_from q (points_of c) k) f.inside) e
-    (among_from p (points_of c) h)
 
 -- ---- what is freed
 

@@ -49,11 +49,6 @@ pub record AreComing (b : Placed) (freed : List ℕ) (fresh coming : List Cell) 
 abbrev pub AreNew : Placed → List Cell → Type 0
 AreNew b fresh = (c : Cell) → IsIn c fresh → touches_in b.place c ≡ true → (i : ℕ) → at_slot b.slots i ≡ Some c → ⊥
 
--- a vertex in the bucket, around which no cell has the point
-pub record IsClear (b : Placed) (p q : ℕ) : Type 0 where
-  pub inside : lies_in b.place q ≡ true
-  pub apart : (i : ℕ) (c : Cell) → IsStarred b.keys b.stars q i → at_slot b.slots i ≡ Some c → IsIn p (points_of c) → ⊥
-
 -- a place for a cell: one that is freed, or has none
 abbrev pub IsVacant : List (Option Cell) → List ℕ → ℕ → Type 0
 IsVacant slots freed i = (c : Cell) → at_slot slots i ≡ Some c → IsIn i freed

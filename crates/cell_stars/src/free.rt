@@ -2,6 +2,7 @@
 //! first whether it is free.
 
 use crate::around::Around;
+use crate::stock::{Stock, list_of};
 use std::alloc::{AllocError, Global};
 
 /// Numbers that are likely to be free, and the first number from which on all are.
@@ -23,6 +24,11 @@ impl Free {
     // The numbers that are likely to be free before those that are all free.
     pub(crate) fn numbers(&self) -> &[u32] {
         &self.numbers
+    }
+
+    // The list of those, which is not needed any more.
+    pub(crate) fn into_numbers(self) -> Vec<u32> {
+        self.numbers
     }
 
     // The first number from which on all are.
@@ -48,13 +54,15 @@ impl Free {
     pub(crate) fn after_puts(
         &self,
         alloc: Global,
+        stock: &mut Stock,
         freed: &[u32],
         taken: usize,
         end: usize,
     ) -> Result<Free, AllocError> {
         let open = behind_first(&self.numbers, taken.saturating_sub(freed.len()));
         let left = behind_first(freed, taken);
-        let mut numbers = Vec::with_capacity(alloc, open.len().saturating_add(left.len()))?;
+        let count = open.len().saturating_add(left.len());
+        let mut numbers = list_of(&mut stock.numbers, alloc, count)?;
         numbers.extend_from_slice(open)?;
         numbers.extend_from_slice(left)?;
         Ok(Free {
@@ -68,11 +76,12 @@ impl Free {
     pub(crate) fn after_writes(
         &self,
         alloc: Global,
+        stock: &mut Stock,
         writes: &[(u32, Around)],
         end: usize,
     ) -> Result<Free, AllocError> {
         let behind = self.behind_end(end);
-        let mut numbers = Vec::with_capacity(alloc, self.numbers.len())?;
+        let mut numbers = list_of(&mut stock.numbers, alloc, self.numbers.len())?;
         if !self.numbers.is_empty() || self.behind < behind {
             self.add_unwritten(&mut numbers, writes, behind)?;
         }

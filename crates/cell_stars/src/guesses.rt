@@ -7,6 +7,7 @@ ghost use Rattle.cell_stars.specs.Places.{at_slot};
 use crate::joined::{Joined, Side};
 use crate::links::{Links, NONE};
 use crate::slots::{Slot, stands_at};
+use crate::stock::{Stock, list_of};
 use point_order::Cell;
 use std::alloc::{AllocError, Global};
 
@@ -42,9 +43,13 @@ pub(crate) struct Guesses {
 
 impl Guesses {
     /// Nothing was looked for so far, of at most so many cells.
-    pub(crate) fn new(alloc: Global, count: usize) -> Result<Guesses, AllocError> {
+    pub(crate) fn new(
+        alloc: Global,
+        stock: &mut Stock,
+        count: usize,
+    ) -> Result<Guesses, AllocError> {
         Ok(Guesses {
-            places: Vec::with_capacity(alloc, count)?,
+            places: list_of(&mut stock.numbers, alloc, count)?,
             loaded: 0,
         })
     }

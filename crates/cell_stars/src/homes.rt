@@ -10,6 +10,7 @@ ghost use Rattle.cell_stars.specs.Swaps.{touches as touches_of};
 use crate::cells::Cells;
 use crate::grid::Grid;
 use crate::order::touches;
+use crate::stock::{Stock, list_of};
 use point_order::Cell;
 use std::alloc::{AllocError, Global};
 
@@ -55,10 +56,15 @@ fn has_bucket(home: &Home, number: u32) -> bool
 
 impl Homes {
     // The homes of the cells.
-    pub(crate) fn of(alloc: Global, grid: Grid, cells: &[Cell]) -> Result<Homes, AllocError>
+    pub(crate) fn of(
+        alloc: Global,
+        stock: &mut Stock,
+        grid: Grid,
+        cells: &[Cell],
+    ) -> Result<Homes, AllocError>
         ensures { IfOk result (λ homes. AreHomes (homes.grid, homes.list.items) cells.now) }
     {
-        let mut list = Vec::with_capacity(alloc, cells.len())?;
+        let mut list = list_of(&mut stock.homes, alloc, cells.len())?;
         for cell in cells {
             list.push(home_of(grid, cell))?;
         }

@@ -2,6 +2,7 @@
 //! for all buckets. It is only a hint, and no clause speaks of it.
 
 use crate::links::NONE;
+use crate::stock::{Stock, keep, list_of};
 use point_order::{Cell, Point};
 use std::alloc::{AllocError, Global};
 
@@ -84,7 +85,7 @@ fn facets_of(cell: &Cell) -> [u32; 4] {
 
 // A facet by its number, and the cell by which it was met, with its side: one that goes or one that comes.
 #[derive(Clone, Copy)]
-struct Met {
+pub(crate) struct Met {
     facet: u32,
     owner: u32,
 }
@@ -133,9 +134,9 @@ struct Table {
 
 impl Table {
     // A table for the facets of so many cells.
-    fn new(alloc: Global, cells: usize) -> Result<Table, AllocError> {
+    fn new(alloc: Global, stock: &mut Stock, cells: usize) -> Result<Table, AllocError> {
         let count = cells.saturating_mul(ENTRIES);
-        let mut entries = Vec::new(alloc);
+        let mut entries = list_of(&mut stock.met, alloc, 0)?;
         entries.resize(count.saturating_add(TURNS), EMPTY)?;
         Ok(Table { count, entries })
     }
@@ -220,19 +221,25 @@ impl Joined {
     }
 
     // What lies across the facets of the cells.
-    pub(crate) fn of(alloc: Global, gone: &[Cell], fresh: &[Cell]) -> Result<Joined, AllocError> {
+    pub(crate) fn of(
+        alloc: Global,
+        stock: &mut Stock,
+        gone: &[Cell],
+        fresh: &[Cell],
+    ) -> Result<Joined, AllocError> {
         let mut joined = Joined {
-            sides: Vec::with_capacity(alloc, fresh.len())?,
-            before: Vec::with_capacity(alloc, gone.len())?,
+            sides: list_of(&mut stock.sides, alloc, fresh.len())?,
+            before: list_of(&mut stock.before, alloc, gone.len())?,
         };
         let cells = fresh.len().saturating_add(gone.len());
-        let mut table = Table::new(alloc, cells)?;
+        let mut table = Table::new(alloc, stock, cells)?;
         for cell in fresh {
             joined.add(&mut table, facets_of(cell))?;
         }
         for cell in gone {
             joined.add_gone(&mut table, facets_of(cell))?;
         }
+        keep(&mut stock.met, table.entries);
         Ok(joined)
     }
 }

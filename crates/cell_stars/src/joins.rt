@@ -7,6 +7,7 @@ use crate::joined::{Beside, Joined, Side};
 use crate::links::{Links, NONE};
 use crate::moves::Moves;
 use crate::slots::Slot;
+use crate::stock::{Stock, keep, list_of};
 use point_order::Cell;
 use std::alloc::{AllocError, Global};
 
@@ -39,9 +40,9 @@ fn in_order(alloc: Global, fresh: &[Cell]) -> Result<Vec<(Cell, usize)>, AllocEr
     Ok(list)
 }
 
-// Where a cell that comes is put: which of those that are put it is, and its place.
+/// Where a cell that comes is put: which of those that are put it is, and its place.
 #[derive(Clone, Copy)]
-struct Position {
+pub(crate) struct Position {
     at: u32,
     place: u32,
 }
@@ -75,8 +76,13 @@ impl Rest<'_> {
 }
 
 // Where each of the cells that come is put.
-fn positions(alloc: Global, fresh: &[Cell], moves: &Moves) -> Result<Vec<Position>, AllocError> {
-    let mut positions = Vec::with_capacity(alloc, fresh.len())?;
+fn positions(
+    alloc: Global,
+    stock: &mut Stock,
+    fresh: &[Cell],
+    moves: &Moves,
+) -> Result<Vec<Position>, AllocError> {
+    let mut positions = list_of(&mut stock.positions, alloc, fresh.len())?;
     let mut rest = Rest {
         cells: &moves.placed,
         first: 0,
@@ -188,6 +194,7 @@ impl Joins<'_> {
 /// Links the cells that are put, where cells move so, and gives the links back to them.
 pub(crate) fn join(
     alloc: Global,
+    stock: &mut Stock,
     slots: &[Slot],
     fresh: &[Cell],
     joined: &Joined,
@@ -196,13 +203,15 @@ pub(crate) fn join(
 ) -> Result<Vec<Joint>, AllocError>
     ensures { OnOk result (puts.new ≡ puts.old) }
 {
-    let positions = positions(alloc, fresh, moves)?;
+    let positions = positions(alloc, stock, fresh, moves)?;
     let joins = Joins {
         slots,
         moves,
         positions: &positions,
     };
-    let mut rim = Vec::with_capacity(alloc, moves.placed.len().max(moves.freed.len()))?;
+    let count = moves.placed.len().max(moves.freed.len());
+    let mut rim = list_of(&mut stock.rims, alloc, count)?;
     joins.link_all(&mut rim, puts, joined)?;
+    keep(&mut stock.positions, positions);
     Ok(rim)
 }

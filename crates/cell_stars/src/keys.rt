@@ -14,6 +14,7 @@ use crate::key_lists::{drop_key, put_key};
 use crate::numbers::as_number;
 use crate::parts::{KeyPart, count_for, more_parts, number_for};
 use crate::plan::KeysPlan;
+use crate::stock::{Stock, list_of};
 use crate::writes::is_own;
 use point_order::Point;
 use std::alloc::{AllocError, Global};
@@ -73,6 +74,7 @@ fn part_after<'a>(
 // The keys of a part after the star was written.
 fn written_part(
     alloc: Global,
+    stock: &mut Stock,
     part: &[(Point, u32)],
     n: u32,
     around: &Around,
@@ -81,7 +83,7 @@ fn written_part(
     ensures order { IfOk result (λ made. IsAscending (map (λ k. k.0) made)) }
     ensures keys { IfOk result (λ made. (k : ℕ × ℕ) → IsIn k made ↔ IsKeyAfter part.now n around.now k) }
 {
-    let mut keys = Vec::with_capacity(alloc, part.len().saturating_add(1))?;
+    let mut keys = list_of(&mut stock.keys, alloc, part.len().saturating_add(1))?;
     keys.extend_from_slice(part)?;
     write_key(&mut keys, n, around)?;
     Ok(KeyPart { keys })
@@ -90,6 +92,7 @@ fn written_part(
 // Adds the part that changes as the star is written.
 fn add_change(
     alloc: Global,
+    stock: &mut Stock,
     base: &[KeyPart],
     changes: &mut Vec<(u32, KeyPart)>,
     n: u32,
@@ -105,7 +108,7 @@ fn add_change(
 {
     let number = number_for(base.len(), around.vertex());
     let at = as_number(number)?;
-    let part = written_part(alloc, part_after(base, changes, number), n, around)?;
+    let part = written_part(alloc, stock, part_after(base, changes, number), n, around)?;
     changes.push((at, part))?;
     Ok(())
 }
@@ -137,6 +140,7 @@ impl Cells {
     fn change_key(
         &self,
         alloc: Global,
+        stock: &mut Stock,
         base: &[KeyPart],
         changes: &mut Vec<(u32, KeyPart)>,
         n: u32,
@@ -156,13 +160,14 @@ impl Cells {
         if self.is_keyed(n, around) {
             return Ok(());
         }
-        add_change(alloc, base, changes, n, around)
+        add_change(alloc, stock, base, changes, n, around)
     }
 
     // The parts that change as the stars are written.
     fn changed_keys(
         &self,
         alloc: Global,
+        stock: &mut Stock,
         base: &[KeyPart],
         writes: &[(u32, Around)],
     ) -> Result<Vec<(u32, KeyPart)>, AllocError>
@@ -174,9 +179,9 @@ impl Cells {
         ensures below { IfOk result (λ list. AreBelow (length base.now) list.items) }
         ensures keys { IfOk result (λ list. AreKeysAfter self.now.keys writes.now (set_all list.items base.now)) }
     {
-        let mut changes = Vec::new(alloc);
+        let mut changes = list_of(&mut stock.parts, alloc, 1)?;
         for (n, around) in writes {
-            self.change_key(alloc, base, &mut changes, *n, around)?;
+            self.change_key(alloc, stock, base, &mut changes, *n, around)?;
         }
         Ok(changes)
     }
@@ -185,6 +190,7 @@ impl Cells {
     pub(crate) fn keys_after(
         &self,
         alloc: Global,
+        stock: &mut Stock,
         writes: &[(u32, Around)],
         used: usize,
     ) -> Result<KeysPlan, AllocError>
@@ -203,7 +209,7 @@ impl Cells {
             });
         }
         let more = more_parts(alloc, &self.keys, count_for(used))?;
-        let parts = self.changed_keys(alloc, either(&more, &self.keys), writes)?;
+        let parts = self.changed_keys(alloc, stock, either(&more, &self.keys), writes)?;
         Ok(KeysPlan { more, parts })
     }
 }

@@ -6,8 +6,9 @@
 //! ```
 //! let grid = Grid::new(4)?;
 //! let mut cells = Cells::new(alloc).placed(grid, grid.bucket_of(a));
-//! let matched = Matched::of(alloc, grid, &[], &[cell])?;
-//! let plan = cells.plan(alloc, &[], &[cell], &matched, false)?;  // all memory is taken here
+//! let mut stock = Stock::new(alloc);
+//! let matched = Matched::of(alloc, &mut stock, grid, &[], &[cell])?;
+//! let plan = cells.plan(alloc, &mut stock, &[], &[cell], &matched, false)?;  // all memory is taken here
 //! cells.carry_out(plan);                        // the cell is there, if it has a point in the bucket
 //! for cell in cells.cells_at(a) {               // ascending; `cells_around` gives them at once, in any order
 //!     ..
@@ -41,6 +42,7 @@ mod planner;
 mod slots;
 mod star;
 mod steps;
+mod stock;
 mod turns;
 mod vacant;
 mod vertices;
@@ -53,3 +55,4 @@ pub use numbers::as_number;
 pub use plan::Plan;
 pub use star::{BucketCells, Star, StarCells};
 pub use steps::Steps;
+pub use stock::Stock;

@@ -9,6 +9,7 @@ use crate::grid::Grid;
 use crate::homes::Homes;
 use crate::joined::Joined;
 use crate::order::do_differ;
+use crate::stock::{Stock, list_of};
 use crate::vertices::add_vertices;
 use point_order::{Cell, Point, points_in_order};
 use std::alloc::{AllocError, Global};
@@ -21,7 +22,7 @@ use std::marker::Model;
 /// Contracts see it as the vertices, whether it is known that no cell that comes is listed twice, and the buckets.
 #[derive(Drop)]
 pub struct Matched {
-    vertices: Vec<Point>,
+    pub(crate) vertices: Vec<Point>,
     single: bool,
     pub(crate) gone: Homes,
     pub(crate) fresh: Homes,
@@ -58,12 +59,13 @@ const PAIRS: usize = 256;
 
 impl Matched {
     /// The vertices of the cells, their buckets in the grid, and what lies across the facets of the cells, where the
-    /// gone ones make room for the fresh ones.
+    /// gone ones make room for the fresh ones. Lists are taken from the stock, as far as it has such.
     ///
     /// # Errors
     /// Want of memory.
     pub fn of(
         alloc: Global,
+        stock: &mut Stock,
         grid: Grid,
         gone: &[Cell],
         fresh: &[Cell],
@@ -71,11 +73,11 @@ impl Matched {
         ensures { IfOk result (λ matched. IsOnceFor gone.now fresh.now matched) }
     {
         Ok(Matched {
-            vertices: vertices_of(alloc, gone, fresh)?,
+            vertices: vertices_of(alloc, stock, gone, fresh)?,
             single: fresh.len() <= PAIRS && do_differ(fresh),
-            gone: Homes::of(alloc, grid, gone)?,
-            fresh: Homes::of(alloc, grid, fresh)?,
-            joined: Joined::of(alloc, gone, fresh)?,
+            gone: Homes::of(alloc, stock, grid, gone)?,
+            fresh: Homes::of(alloc, stock, grid, fresh)?,
+            joined: Joined::of(alloc, stock, gone, fresh)?,
         })
     }
 
@@ -96,11 +98,16 @@ impl Matched {
 }
 
 // The vertices of the cells, ascending.
-fn vertices_of(alloc: Global, gone: &[Cell], fresh: &[Cell]) -> Result<Vec<Point>, AllocError>
+fn vertices_of(
+    alloc: Global,
+    stock: &mut Stock,
+    gone: &[Cell],
+    fresh: &[Cell],
+) -> Result<Vec<Point>, AllocError>
     ensures order { IfOk result (λ list. IsAscending list.items) }
     ensures vertices { IfOk result (λ list. AreVertices gone.now fresh.now list.items) }
 {
-    let mut list = Vec::with_capacity(alloc, FEW)?;
+    let mut list = list_of(&mut stock.points, alloc, FEW)?;
     let mut seen = [0; 512];
     add_vertices(&mut list, &mut seen, gone)?;
     add_vertices(&mut list, &mut seen, fresh)?;

@@ -15,6 +15,7 @@ use crate::guesses::Guesses;
 use crate::matched::Matched;
 use crate::order::numbers_in_order;
 use crate::slots::place_among;
+use crate::stock::{Stock, keep, list_of};
 use crate::vacant::places_for;
 use point_order::{Cell, Point};
 use std::alloc::{AllocError, Global};
@@ -114,6 +115,7 @@ impl Cells {
     fn freed_by(
         &self,
         alloc: Global,
+        stock: &mut Stock,
         gone: &[Cell],
         matched: &Matched,
         guesses: &mut Guesses,
@@ -123,7 +125,7 @@ impl Cells {
         ensures freed { IfOk result (λ freed. AreFreed self.now gone.now freed.items) }
     {
         let _ = &self.slots;
-        let mut freed = Vec::with_capacity(alloc, gone.len())?;
+        let mut freed = list_of(&mut stock.numbers, alloc, gone.len())?;
         for (number, c) in gone.iter().enumerate() {
             let place = self.place_by(c, number, matched, guesses);
             guesses.add(&self.slots, place)?;
@@ -138,6 +140,7 @@ impl Cells {
     pub(crate) fn moves(
         &self,
         alloc: Global,
+        stock: &mut Stock,
         gone: &[Cell],
         fresh: &[Cell],
         matched: &Matched,
@@ -148,11 +151,12 @@ impl Cells {
         ensures order { IfOk result (λ moves. IsAscending moves.freed.items) }
         ensures made { IfOk result (λ moves. AreFor gone.now fresh.now moves.freed.items moves.placed.items self.now) }
     {
-        let mut guesses = Guesses::new(alloc, gone.len())?;
-        let freed = self.freed_by(alloc, gone, matched, &mut guesses)?;
-        let coming = self.coming_by(alloc, fresh, &freed, matched, found)?;
+        let mut guesses = Guesses::new(alloc, stock, gone.len())?;
+        let freed = self.freed_by(alloc, stock, gone, matched, &mut guesses)?;
+        let coming = self.coming_by(alloc, stock, fresh, &freed, matched, found)?;
         let places = places_for(
             alloc,
+            stock,
             &self.slots,
             self.free.numbers(),
             &freed,
@@ -160,6 +164,8 @@ impl Cells {
             self.free.behind(),
         )?;
         let placed = pairs(alloc, &places, &coming)?;
+        keep(&mut stock.numbers, places);
+        keep(&mut stock.cells, coming);
         Ok(Moves {
             freed,
             placed,

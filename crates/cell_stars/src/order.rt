@@ -2,13 +2,12 @@
 
 ghost use Rattle.std.specs.Prelude.{◌≡◌, ◌↔◌, ◌<◌, ℕ, false, IsTrue};
 ghost use Rattle.point_order.specs.CellOrder.{cell_cmp, AreSameCells};
-ghost use Rattle.point_order.specs.Facets.{points_of};
-ghost use Rattle.point_order.specs.Sets.{IsIn, IsAscending, is_among};
+ghost use Rattle.point_order.specs.Sets.{IsIn, IsAscending};
 ghost use Rattle.cell_stars.specs.Swaps.{cell_rest, touches as touches_of, Differ};
 ghost use Rattle.cell_stars.specs.Moves.{AreCellsMarked};
 
 use crate::grid::Grid;
-use point_order::{Cell, Point, cells_in_order, has_cell};
+use point_order::{Cell, cells_in_order, has_cell};
 use std::cmp::Ordering;
 
 // Whether a finite vertex of the cell lies in the bucket.
@@ -28,22 +27,6 @@ pub(crate) fn compare(a: &Cell, b: &Cell) -> Ordering
     ensures { result ≡ cell_cmp a.now b.now }
 {
     a.cmp(b)
-}
-
-// Whether the point is one of the cell's.
-pub(crate) fn has_vertex(cell: &Cell, p: Point) -> bool
-    ensures { result ≡ is_among p (points_of cell.now) }
-{
-    match cell {
-        Cell::Full(quad) => {
-            let (a, b, c, d) = quad.corners();
-            a == p || b == p || c == p || d == p
-        }
-        Cell::Open(tri) => {
-            let (a, b, c) = tri.corners();
-            a == p || b == p || c == p
-        }
-    }
 }
 
 // Up to so many cells are compared with each other, rather than put in order.

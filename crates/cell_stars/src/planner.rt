@@ -18,6 +18,7 @@ use crate::matched::Matched;
 use crate::moves::Moves;
 use crate::plan::{PlacesPlan, Plan, StarsPlan};
 use crate::slots::{Slot, copied_slots};
+use crate::stock::{Stock, list_of};
 use point_order::{Cell, Point};
 use std::alloc::{AllocError, Global};
 
@@ -101,11 +102,12 @@ fn grown_stars(
 }
 
 // What stands at places after the exchange: nothing at those that are freed, and then the cells that are put.
-fn changes(alloc: Global, moves: &Moves) -> Result<Vec<(u32, Slot)>, AllocError>
+fn changes(alloc: Global, stock: &mut Stock, moves: &Moves) -> Result<Vec<(u32, Slot)>, AllocError>
     ensures { IfOk result (λ list. list.items ≡ map (λ i. (i, None)) moves.now.freed.items ++ map
         (λ m. (m.0, Some m.1)) moves.now.placed.items) }
 {
-    let mut list = Vec::with_capacity(alloc, moves.freed.len().saturating_add(moves.placed.len()))?;
+    let count = moves.freed.len().saturating_add(moves.placed.len());
+    let mut list = list_of(&mut stock.slots, alloc, count)?;
     for i in &moves.freed {
         list.push((*i, Slot::new(None)))?;
     }
@@ -118,6 +120,7 @@ fn changes(alloc: Global, moves: &Moves) -> Result<Vec<(u32, Slot)>, AllocError>
 // Links the cells that are put, which are the last of the changes.
 fn join_puts(
     alloc: Global,
+    stock: &mut Stock,
     slots: &[Slot],
     fresh: &[Cell],
     joined: &Joined,
@@ -127,7 +130,15 @@ fn join_puts(
     ensures { OnOk result (changes.new.items ≡ changes.old.items) }
 {
     let first = moves.freed.len().min(changes.len());
-    join(alloc, slots, fresh, joined, moves, &mut changes[first..])
+    join(
+        alloc,
+        stock,
+        slots,
+        fresh,
+        joined,
+        moves,
+        &mut changes[first..],
+    )
 }
 
 impl Cells {
@@ -136,6 +147,7 @@ impl Cells {
     fn plan_places(
         &self,
         alloc: Global,
+        stock: &mut Stock,
         fresh: &[Cell],
         joined: &Joined,
         moves: &Moves,
@@ -149,14 +161,14 @@ impl Cells {
     {
         let end = behind_numbers(&moves.placed);
         let grown = grown_slots(alloc, &self.slots, end)?;
-        let mut slots = changes(alloc, moves)?;
-        let rim = join_puts(alloc, &self.slots, fresh, joined, moves, &mut slots)?;
+        let mut slots = changes(alloc, stock, moves)?;
+        let rim = join_puts(alloc, stock, &self.slots, fresh, joined, moves, &mut slots)?;
         Ok(PlacesPlan {
             grown,
             slots,
             free: self
                 .free
-                .after_puts(alloc, &moves.freed, moves.placed.len(), end)?,
+                .after_puts(alloc, stock, &moves.freed, moves.placed.len(), end)?,
             rim,
             loaded: moves.gone.loaded,
         })
@@ -167,6 +179,7 @@ impl Cells {
     fn plan_stars(
         &self,
         alloc: Global,
+        stock: &mut Stock,
         moves: &Moves,
         vertices: &[Point],
     ) -> Result<StarsPlan, AllocError>
@@ -187,11 +200,12 @@ impl Cells {
             n < length (or_else (option_map (λ v. v.items) plan.more) self.now.stars)) }
     {
         let mut loaded = 0;
-        let stars = self.writes(alloc, moves, vertices, &mut loaded)?;
+        let stars = self.writes(alloc, stock, moves, vertices, &mut loaded)?;
         let end = behind_numbers(&stars);
-        let keys = self.keys_after(alloc, &stars, end.max(self.spare.behind() as usize))?;
+        let used = end.max(self.spare.behind() as usize);
+        let keys = self.keys_after(alloc, stock, &stars, used)?;
         let more = grown_stars(alloc, &self.stars, &stars, end)?;
-        let spare = self.spare.after_writes(alloc, &stars, end)?;
+        let spare = self.spare.after_writes(alloc, stock, &stars, end)?;
         Ok(StarsPlan {
             more,
             stars,
@@ -203,13 +217,14 @@ impl Cells {
 
     /// Plans an exchange of the gone for the fresh cells, as far as they touch the bucket. What was found once is to
     /// be of these cells. Where it is told that the exchange finds its cells, it is to do so, and no fresh cell is
-    /// looked for.
+    /// looked for. Lists are taken from the stock, as far as it has such.
     ///
     /// # Errors
     /// Want of memory, or of a number of 32 bits for a place or a star.
     pub fn plan(
         &self,
         alloc: Global,
+        stock: &mut Stock,
         gone: &[Cell],
         fresh: &[Cell],
         matched: &Matched,
@@ -219,9 +234,10 @@ impl Cells {
         requires found { found ≡ true → AreReady self.now.place gone.now fresh.now (cells_of self.now.slots) }
         ensures { IfOk result (λ plan. MakesExchange gone.now fresh.now self.now plan) }
     {
-        let moves = self.moves(alloc, gone, fresh, matched, found)?;
-        let stars = self.plan_stars(alloc, &moves, matched.vertices())?;
-        let places = self.plan_places(alloc, fresh, &matched.joined, &moves)?;
+        let moves = self.moves(alloc, stock, gone, fresh, matched, found)?;
+        let stars = self.plan_stars(alloc, stock, &moves, matched.vertices())?;
+        let places = self.plan_places(alloc, stock, fresh, &matched.joined, &moves)?;
+        stock.keep_moves(moves);
         Ok(Plan { places, stars })
     }
 }

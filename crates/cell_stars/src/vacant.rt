@@ -8,6 +8,7 @@ ghost use Rattle.cell_stars.specs.Moves.{IsVacant};
 use crate::numbers::number_behind;
 use crate::order::numbers_in_order;
 use crate::slots::{Slot, is_open};
+use crate::stock::{Stock, list_of};
 use std::alloc::{AllocError, Global};
 
 // Adds open places from a number on, until there are so many places. All that are there are to be before it.
@@ -33,6 +34,7 @@ fn add_open(list: &mut Vec<u32>, slots: &[Slot], count: usize, first: u32) -> Re
 // Places that are likely to be open, and those that are freed, as far as so many are wanted.
 fn likely_places(
     alloc: Global,
+    stock: &mut Stock,
     slots: &[Slot],
     free: &[u32],
     freed: &[u32],
@@ -40,7 +42,7 @@ fn likely_places(
 ) -> Result<Vec<u32>, AllocError>
     ensures { IfOk result (λ list. (i : ℕ) → IsIn i list.items → IsIn i freed.now ⊎ (at_slot slots.now i ≡ None)) }
 {
-    let mut list = Vec::with_capacity(alloc, count.max(freed.len()))?;
+    let mut list = list_of(&mut stock.numbers, alloc, count.max(freed.len()))?;
     list.extend_from_slice(freed)?;
     for i in free {
         if list.len() >= count {
@@ -67,6 +69,7 @@ fn behind_last(list: &[u32]) -> Result<u32, AllocError>
 // So many places, ascending, each freed or open. New ones begin at the first number or behind it.
 pub(crate) fn places_for(
     alloc: Global,
+    stock: &mut Stock,
     slots: &[Slot],
     free: &[u32],
     freed: &[u32],
@@ -77,7 +80,7 @@ pub(crate) fn places_for(
     ensures count { IfOk result (λ list. length list.items ≡ count) }
     ensures vacant { IfOk result (λ list. (i : ℕ) → IsIn i list.items → IsVacant slots.now freed.now i) }
 {
-    let mut list = numbers_in_order(likely_places(alloc, slots, free, freed, count)?);
+    let mut list = numbers_in_order(likely_places(alloc, stock, slots, free, freed, count)?);
     list.truncate(count);
     let last = behind_last(&list)?;
     add_open(&mut list, slots, count, last.max(first))?;

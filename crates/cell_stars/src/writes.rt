@@ -16,6 +16,7 @@ use crate::moves::Moves;
 use crate::numbers::number_behind;
 use crate::parts::part_for;
 use crate::steps::place_of;
+use crate::stock::{Stock, keep, list_of};
 use point_order::Point;
 use std::alloc::{AllocError, Global};
 
@@ -121,7 +122,12 @@ impl Cells {
     }
 
     // The numbers that the stars of those of the vertices that lie in the bucket have after an exchange.
-    fn turns(&self, alloc: Global, vertices: &[Point]) -> Result<Vec<(u32, Point)>, AllocError>
+    fn turns(
+        &self,
+        alloc: Global,
+        stock: &mut Stock,
+        vertices: &[Point],
+    ) -> Result<Vec<(u32, Point)>, AllocError>
         requires { IsAscending vertices.now }
         ensures numbered { IfOk result (λ turns. AreTurnsFor self.now
             (filter (lies_in self.now.place) vertices.now) turns.items) }
@@ -129,7 +135,7 @@ impl Cells {
             ≡ filter (lies_in self.now.place) vertices.now) }
     {
         let _ = &self.stars;
-        let mut turns = Vec::with_capacity(alloc, vertices.len())?;
+        let mut turns = list_of(&mut stock.turns, alloc, vertices.len())?;
         let mut least = 0;
         for p in vertices {
             if self.has_here(*p) {
@@ -143,6 +149,7 @@ impl Cells {
     fn staying(
         &self,
         alloc: Global,
+        stock: &mut Stock,
         n: u32,
         p: Point,
         freed: &[u32],
@@ -155,7 +162,8 @@ impl Cells {
             ↔ (IsStarred self.now.keys self.now.stars p i × (IsIn i freed.now → ⊥))) }
     {
         let own = places_in(&self.stars, n, p);
-        let mut list = Vec::with_capacity(alloc, own.len().saturating_add(MORE).max(USUAL))?;
+        let count = own.len().saturating_add(MORE).max(USUAL);
+        let mut list = list_of(&mut stock.places, alloc, count)?;
         list.extend_from_slice(own)?;
         list.retain(|i| is_unmarked(freed, marks, *i));
         Ok(list)
@@ -165,6 +173,7 @@ impl Cells {
     fn star_staying(
         &self,
         alloc: Global,
+        stock: &mut Stock,
         n: u32,
         p: Point,
         freed: &[u32],
@@ -179,7 +188,7 @@ impl Cells {
     {
         Ok(Around {
             vertex: p,
-            places: self.staying(alloc, n, p, freed, marks)?,
+            places: self.staying(alloc, stock, n, p, freed, marks)?,
         })
     }
 
@@ -187,6 +196,7 @@ impl Cells {
     fn stars_staying(
         &self,
         alloc: Global,
+        stock: &mut Stock,
         turns: &[(u32, Point)],
         freed: &[u32],
     ) -> Result<Vec<(u32, Around)>, AllocError>
@@ -197,9 +207,9 @@ impl Cells {
             IsStaying self.now freed.now w) }
     {
         let marks = marks_of(freed);
-        let mut writes = Vec::with_capacity(alloc, turns.len())?;
+        let mut writes = list_of(&mut stock.stars, alloc, turns.len())?;
         for (n, p) in turns {
-            writes.push((*n, self.star_staying(alloc, *n, *p, freed, &marks)?))?;
+            writes.push((*n, self.star_staying(alloc, stock, *n, *p, freed, &marks)?))?;
         }
         Ok(writes)
     }
@@ -208,6 +218,7 @@ impl Cells {
     fn stars_after(
         &self,
         alloc: Global,
+        stock: &mut Stock,
         turns: &[(u32, Point)],
         moves: &Moves,
     ) -> Result<Vec<(u32, Around)>, AllocError>
@@ -218,7 +229,7 @@ impl Cells {
         ensures { IfOk result (λ writes. AreStarsAfter self.now moves.now.freed.items moves.now.placed.items turns.now
             writes.items) }
     {
-        let mut writes = self.stars_staying(alloc, turns, &moves.freed)?;
+        let mut writes = self.stars_staying(alloc, stock, turns, &moves.freed)?;
         self.add_placed(&mut writes, &moves.placed)?;
         Ok(writes)
     }
@@ -238,6 +249,7 @@ impl Cells {
     pub(crate) fn writes(
         &self,
         alloc: Global,
+        stock: &mut Stock,
         moves: &Moves,
         vertices: &[Point],
         loaded: &mut u32,
@@ -249,8 +261,10 @@ impl Cells {
         ensures { IfOk result (λ writes. IsRewriting self.now moves.now.freed.items moves.now.placed.items
             writes.items) }
     {
-        let turns = self.turns(alloc, vertices)?;
+        let turns = self.turns(alloc, stock, vertices)?;
         *loaded = self.loaded_stars(&turns);
-        self.stars_after(alloc, &turns, moves)
+        let writes = self.stars_after(alloc, stock, &turns, moves)?;
+        keep(&mut stock.turns, turns);
+        Ok(writes)
     }
 }

@@ -18,7 +18,7 @@ ghost use Rattle.cell_store.specs.Stars.{cells_around, cells_left, cells_to_come
 
 use crate::note::{add_entry, change_points, put_in, take_out};
 use crate::star::{Other, other_among};
-use cell_stars::{BucketCells, Cells, Grid, Matched, Plan, Star, StarCells, Steps};
+use cell_stars::{BucketCells, Cells, Grid, Matched, Plan, Star, StarCells, Steps, Stock};
 use edit_history::Entry;
 use point_order::{Cell, Facet, Point};
 use std::alloc::{AllocError, Global};
@@ -176,6 +176,7 @@ impl Bucket {
     pub(crate) fn plan(
         &self,
         alloc: Global,
+        stock: &mut Stock,
         gone: &[Cell],
         fresh: &[Cell],
         matched: &Matched,
@@ -186,7 +187,7 @@ impl Bucket {
             (cells_of self.now.cells.slots) }
         ensures { IfOk result (λ plan. MakesExchange gone.now fresh.now self.now.cells plan) }
     {
-        self.cells.plan(alloc, gone, fresh, matched, found)
+        self.cells.plan(alloc, stock, gone, fresh, matched, found)
     }
 
     // Carries a plan out, or turns it back where it was. It takes no memory.

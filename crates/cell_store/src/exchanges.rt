@@ -80,6 +80,27 @@ impl Hold {
         )
     }
 
+    /// Makes the room that `reserve_both` makes, for an exchange that is to find its cells, as `reserve_found` does.
+    ///
+    /// # Errors
+    /// Want of memory. The room is then as before.
+    pub fn reserve_both_found(
+        &mut self,
+        alloc: Global,
+        gone: &[Cell],
+        fresh: &[Cell],
+        edit: &Edit,
+    ) -> Result<(), AllocError>
+        requires gone { AreHeld self.old gone.now }
+        requires fresh { AreHeld self.old fresh.now }
+        requires points { ArePointsHeld self.old (edit_points edit.now) }
+        requires found { FindsCells self.old gone.now fresh.now }
+        ensures ok { OnOk result (self.new ≡ record self.old { room = room_both gone.now fresh.now edit.now }) }
+        ensures err { OnErr result (self.new ≡ self.old) }
+    {
+        self.make_ready(alloc, gone, fresh, None, Some(last(edit)), true, true)
+    }
+
     /// Makes room for exchanges of the gone for the fresh cells there and back, and for the last point of the edit to
     /// come and go: none of this takes memory then, however often it is done, until there is room for something else
     /// or a bucket is given away. The buckets that `reserve` needs are to be in hand.
@@ -126,7 +147,8 @@ impl Hold {
         ensures err { OnErr result (self.new ≡ self.old) }
     {
         let grid = self.grid();
-        let exchange = Exchange::new(alloc, grid, &self.places, gone, fresh, found)?;
+        let kept = &mut self.kept;
+        let exchange = Exchange::new(alloc, kept, grid, &self.places, gone, fresh, found)?;
         make_rooms(&mut self.places, grid, &note, &point)?;
         self.exchange = Some(exchange);
         self.note = note;
@@ -146,7 +168,7 @@ impl Hold {
             { swap = swap_after self.old.room.back gone.now fresh.now } }
     {
         if let Some(exchange) = self.exchange.take() {
-            self.exchange = made(exchange, &mut self.places, self.back);
+            self.exchange = made(exchange, &mut self.kept, &mut self.places, self.back);
         }
     }
 

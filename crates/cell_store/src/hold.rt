@@ -15,7 +15,7 @@ ghost use Rattle.cell_store.specs.Spots.{IsAcrossIn, SpotGives};
 ghost use Rattle.cell_store.specs.Stars.{cells_around, cells_left, AcrossGives};
 
 use crate::bucket::Bucket;
-use crate::room::{Exchange, bucket_in};
+use crate::room::{Exchange, Kept, bucket_in};
 use crate::spot::{Spot, SpotAcross};
 use crate::star::Across;
 use cell_stars::{Grid, Star, StarCells, Steps};
@@ -35,6 +35,8 @@ pub struct Hold {
     pub(crate) note: Option<Point>,
     pub(crate) point: Option<Point>,
     pub(crate) back: bool,
+    // Lists of exchanges that were made, which the next ones use again.
+    pub(crate) kept: Kept,
 }
 
 impl Model for Hold {
@@ -82,6 +84,7 @@ impl Hold {
             note: None,
             point: None,
             back: false,
+            kept: Kept::new(alloc),
         })
     }
 

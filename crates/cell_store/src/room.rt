@@ -1,7 +1,7 @@
 //! What a hold keeps ready, so that an exchange of cells takes no memory.
 
 ghost use Rattle.std.specs.Prelude.{◌≡◌, ◌≢◌, ◌↔◌, ◌⊎◌, ℕ, ◌*◌, ◌<◌, true, false, not, IfOk, IfSome, IsSome, IsSomeAnd};
-ghost use Rattle.std.specs.Prelude.{IsTrue, MatchOption, None, OnOk, Some, map};
+ghost use Rattle.std.specs.Prelude.{IsTrue, MatchOption, None, OnOk, Some, [], map};
 ghost use Rattle.point_order.specs.Sets.{IsIn, IsAscending, is_among};
 ghost use Rattle.list_laws.specs.Lists.{Gathers};
 ghost use Rattle.cell_stars.specs.Plans.{IsOnceFor};
@@ -14,12 +14,12 @@ ghost use Rattle.cell_store.specs.Ready.{IsReadyFor, IsTurnedIn, buckets_of_cell
 ghost use Rattle.cell_store.specs.declared.room.PlanFor.{PlanFor};
 
 use crate::bucket::Bucket;
-use cell_stars::{Grid, Matched, Plan};
+use cell_stars::{Grid, Matched, Plan, Stock};
 use edit_history::Entry;
 use point_order::{Cell, Point};
 use smallvec::SmallVec;
 use std::alloc::{AllocError, Global};
-use std::mem::swap;
+use std::mem::{replace, swap};
 
 // The cells that go and come in the exchange that is next, and the plan for each bucket that is touched: it is to be
 // carried out there, or it was and is to be turned back.
@@ -29,6 +29,54 @@ pub(crate) struct Exchange {
     pub(crate) fresh: Vec<Cell>,
     pub(crate) plans: Vec<PlanFor>,
     pub(crate) turned: bool,
+}
+
+// Lists that exchanges use again: those that are kept, and the exchange that was made last, which has more of them.
+#[derive(Debug, Drop)]
+pub(crate) struct Kept {
+    stock: Stock,
+    plans: Vec<PlanFor>,
+    last: Option<Exchange>,
+}
+
+impl Kept {
+    // Nothing is kept so far. It takes no memory.
+    pub(crate) fn new(alloc: Global) -> Kept {
+        Kept {
+            stock: Stock::new(alloc),
+            plans: Vec::new(alloc),
+            last: None,
+        }
+    }
+
+    // Takes the lists of the exchange that was made last.
+    fn take_last(&mut self) {
+        let Some(exchange) = self.last.take() else {
+            return;
+        };
+        let Exchange {
+            gone,
+            fresh,
+            mut plans,
+            ..
+        } = exchange;
+        self.stock.keep_cells(gone);
+        self.stock.keep_cells(fresh);
+        while let Some(item) = plans.pop() {
+            self.stock.keep(item.plan);
+        }
+        self.plans = plans;
+    }
+
+    // An empty list of plans with room for so many.
+    fn list(&mut self, alloc: Global, count: usize) -> Result<Vec<PlanFor>, AllocError>
+        ensures { IfOk result (λ list. list.items ≡ []) }
+    {
+        let mut list = replace(&mut self.plans, Vec::new(alloc));
+        list.clear();
+        list.reserve(count)?;
+        Ok(list)
+    }
 }
 
 // A plan, and the number of the bucket for which it is.
@@ -97,6 +145,7 @@ fn numbers_at(alloc: Global, grid: Grid, points: &[Point]) -> Result<Numbers, Al
 // The plan of an exchange for the bucket with the number, which is to be in hand.
 fn plan_for(
     alloc: Global,
+    stock: &mut Stock,
     b: u32,
     places: &[Option<Bucket>],
     gone: &[Cell],
@@ -113,13 +162,14 @@ fn plan_for(
     let Some(bucket) = bucket_in(places, b) else {
         unreachable!()
     };
-    let plan = bucket.plan(alloc, gone, fresh, matched, found)?;
+    let plan = bucket.plan(alloc, stock, gone, fresh, matched, found)?;
     Ok(PlanFor { number: b, plan })
 }
 
 // The plans for all buckets that an exchange touches.
 fn plans_for(
     alloc: Global,
+    kept: &mut Kept,
     grid: Grid,
     places: &[Option<Bucket>],
     gone: &[Cell],
@@ -131,12 +181,14 @@ fn plans_for(
     requires found { found ≡ true → AreFound gone.now fresh.now places.now }
     ensures { IfOk result (λ plans. ArePlansReady false grid gone.now fresh.now places.now plans.items) }
 {
-    let matched = Matched::of(alloc, grid, gone, fresh)?;
+    let matched = Matched::of(alloc, &mut kept.stock, grid, gone, fresh)?;
     let numbers = numbers_at(alloc, grid, matched.vertices())?;
-    let mut plans = Vec::with_capacity(alloc, numbers.len())?;
+    let mut plans = kept.list(alloc, numbers.len())?;
     for b in numbers.as_slice() {
-        plans.push(plan_for(alloc, *b, places, gone, fresh, &matched, found)?)?;
+        let stock = &mut kept.stock;
+        plans.push(plan_for(alloc, stock, *b, places, gone, fresh, &matched, found)?)?;
     }
+    kept.stock.keep_matched(matched);
     Ok(plans)
 }
 
@@ -144,6 +196,7 @@ impl Exchange {
     // The plans of an exchange. The buckets that it touches are to be in hand, and have its cells where that is told.
     pub(crate) fn new(
         alloc: Global,
+        kept: &mut Kept,
         grid: Grid,
         places: &[Option<Bucket>],
         gone: &[Cell],
@@ -157,10 +210,11 @@ impl Exchange {
         ensures fresh { IfOk result (λ e. e.fresh.items ≡ fresh.now) }
         ensures ready { IfOk result (λ e. ArePlansReady e.turned grid gone.now fresh.now places.now e.plans.items) }
     {
-        let plans = plans_for(alloc, grid, places, gone, fresh, found)?;
+        kept.take_last();
+        let plans = plans_for(alloc, kept, grid, places, gone, fresh, found)?;
         Ok(Exchange {
-            gone: Vec::from_slice(alloc, gone)?,
-            fresh: Vec::from_slice(alloc, fresh)?,
+            gone: kept.stock.copied(alloc, gone)?,
+            fresh: kept.stock.copied(alloc, fresh)?,
             plans,
             turned: false,
         })
@@ -181,9 +235,10 @@ impl Exchange {
     }
 }
 
-// Makes an exchange, and gives the one back, if that is wanted.
+// Makes an exchange, and gives the one back, if that is wanted; else it is kept for its lists.
 pub(crate) fn made(
     exchange: Exchange,
+    kept: &mut Kept,
     places: &mut [Option<Bucket>],
     back: bool,
 ) -> Option<Exchange>
@@ -193,7 +248,11 @@ pub(crate) fn made(
 {
     let mut exchange = exchange;
     exchange.make(places);
-    if back { Some(exchange) } else { None }
+    if back {
+        return Some(exchange);
+    }
+    kept.last = Some(exchange);
+    None
 }
 
 // Makes room for an entry in the bucket, which is to be there, and for one point more.

@@ -23,9 +23,9 @@ change_key-requires-clause-there c =
 
 pub loop-n-init : goal.loop-n-init
 loop-n-init c = record {
-  below = subst (AreBelow (length c.args.base.now)) (sym c.new-changes.ensures.items) tt;
+  below = subst (AreBelow (length c.args.base.now)) (sym c.in_ok-changes.ensures.items) tt;
   keys = subst (λ v. KeysSoFar c.args.self.now.keys c.args.writes.now 0 (set_all v c.args.base.now))
-      (sym c.new-changes.ensures.items)
+      (sym c.in_ok-changes.ensures.items)
       (keys_begin c.args.self.now.keys c.args.base.now c.args.writes.now c.requires.same c.requires.filed);
 }
 

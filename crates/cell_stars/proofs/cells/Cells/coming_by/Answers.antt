@@ -12,7 +12,6 @@ pub loop-number-init : goal.loop-number-init
 loop-number-init c = record {
   coming = coming_none c.args.self.now c.args.freed.now c.args.fresh.now c.in_ok-coming.coming.items
       c.in_ok-coming.ensures.items;
-  clear = c.in_ok-clear.ensures;
   single = λ t. single_none c.args.fresh.now c.in_ok-coming.coming.items c.in_ok-coming.ensures.items;
 }
 
@@ -33,9 +32,8 @@ loop-number-preserved c =
     elim c.if-comes.branch [
       | then-comes+in_ok-push w ↦ rw w.coming-is (record {
         coming = coming_more b freed fresh n c.loop-number.coming.items w.push.new.self.items x c.loop-number-test.true
-            c.index-fresh-number.is (rw w.if-comes.true at c.in_ok-comes.ensures.comes) w.in_ok-push.ensures.items
+            c.index-fresh-number.is (rw w.if-comes.true at c.comes.ensures) w.in_ok-push.ensures.items
             i.coming;
-        clear = c.in_ok-comes.ensures.clear;
         single = λ t. single_more fresh n c.loop-number.coming.items w.push.new.self.items x
             (c.requires.single t) c.loop-number-test.true c.index-fresh-number.is w.in_ok-push.ensures.items
             (i.single t);
@@ -43,8 +41,7 @@ loop-number-preserved c =
       | else-comes w ↦ rw w.coming-is (record {
         coming = coming_same b freed fresh n c.loop-number.coming.items x c.loop-number-test.true
             c.index-fresh-number.is
-            (rw w.if-comes.false at c.in_ok-comes.ensures.comes) i.coming;
-        clear = c.in_ok-comes.ensures.clear;
+            (rw w.if-comes.false at c.comes.ensures) i.coming;
         single = λ t. single_same fresh n c.loop-number.coming.items (i.single t);
       })
     ]

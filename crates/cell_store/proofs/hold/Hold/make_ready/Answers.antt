@@ -45,9 +45,13 @@ make_rooms-requires-clause-point c =
     (λ p k. held_there hold c.grid-grid.result p c.deref_mut.result.now c.grid-grid.ensures.grid
     (ap shown c.deref_mut.ensures.value ∙ ap (λ h. h.places) c.self.view_is) k) c.requires.point
 
--- where memory is wanting for room, what was ready stays so
+-- where memory is wanting for plans, no bucket was changed
 pub invariant_of-self : goal.invariant_of-self
-invariant_of-self c =
+invariant_of-self c = c.self.invariant
+
+-- where it is wanting for room, what was ready stays so
+pub invariant_of-self-in_err-make_rooms : goal.invariant_of-self-in_err-make_rooms
+invariant_of-self-in_err-make_rooms c =
     let i = c.self.inside in
     let places = i.places.items in
     let after = c.make_rooms.new.places in
