@@ -74,7 +74,7 @@ pub(crate) fn leave_on(
     ensures answers { IfOk result (PlanAnswers hold.old (IsLeaving landed)) }
 {
     let edit = Edit::Add(landed.to);
-    hold.reserve_both(alloc, &landed.came.gone, &landed.came.fresh, &edit)?;
+    hold.reserve_both_found(alloc, &landed.came.gone, &landed.came.fresh, &edit)?;
     let found = look_beside(alloc, hold, &landed)?;
     moved_by(alloc, landed, found)
 }
