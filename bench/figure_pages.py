@@ -8,7 +8,7 @@ from typing import NamedTuple
 
 from figure_runs import TOP, processors, sum_of
 
-COLUMNS = {'python': (1, 3, 4), 'near': (0, 1, 2, 4), 'page': (1, 3, 4, 6)}
+COLUMNS = {'threads': (1, 3, 5, 6), 'python': (1, 3, 4), 'near': (0, 1, 2, 4), 'page': (1, 3, 4, 6)}
 OTHERS = (1, 2, 3, 4)
 BESIDE = '| {} | program | CGAL | program / CGAL | peak memory: program, CGAL |'
 
@@ -20,6 +20,10 @@ class Row(NamedTuple):
     row: str | None
 
 
+CLOUD_BY_WORKERS, EDITS_BY_WORKERS = 'A cloud by several workers', 'Edits by several workers'
+CLOUDS_BY_WORKERS = {
+    'spread-262144': '262,144 drawn points', 'terrain-262144': 'as many on hills',
+    'sphere-250000': '250,000 on a sphere', 'torus-250000': '250,000 on a torus'}
 # Of each section of docs/SPEED.md the head of its table and its rows.
 SPEED = {
     'A cloud': (BESIDE.format('cloud'), [
@@ -29,13 +33,15 @@ SPEED = {
         Row('the lattice of 40 x 40 x 40 points', 'cloud', 'lattice-40'),
         Row('64,000 points on a sphere', 'cloud', 'sphere-64000'),
         Row('65,536 points on a torus', 'cloud', 'torus-65536')]),
+    CLOUD_BY_WORKERS: ('| cloud | 1, 2, 4 workers | 2, 4 / 1 | 1, 2, 4 / CGAL by as many threads '
+                       '| peak memory of 4: program, CGAL |', []),
     'Edits': (BESIDE.format('file'), [
         Row('65,536 drawn edits, every fourth a take', 'mesh', 'drawn-65536'),
         Row('262,140 of these', 'mesh', 'drawn-262140'),
         Row('10,000 drawn points, and every other one taken', 'mesh', 'spread-10000-half-taken'),
         Row('60,000 points, and 5,000 edits', 'mesh', 'edited-60000'),
         Row('a far point added and taken 20 times over 1,000 on a sphere', 'mesh', 'far-point-1000')]),
-    'Edits by several workers': (
+    EDITS_BY_WORKERS: (
         '| grid | one worker, by the clock | 2, 4, 8 workers / one | one, 2, 4, 8 workers / CGAL |', []),
     'After the mesh': (BESIDE.format('command'), [
         Row('`shape` for 3 radii (`bench/shape`)', 'shape', '3'),
@@ -68,6 +74,8 @@ SPEED = {
         Row('a face of `steps`', 'instructions', 'face')])}
 FIRST_PAGE = [
     Row("a cloud of 262,144 drawn points, beside CGAL's insertion of a range", 'cloud', 'spread-262144'),
+    Row("the same by four workers, by the clock, beside CGAL's Parallel_tag with four threads", 'threads',
+        'spread-262144 by 4'),
     Row('65,536 drawn edits, every fourth a take, beside CGAL edit by edit', 'mesh', 'drawn-65536'),
     Row("least alphas of all faces after the mesh, beside CGAL's alpha spectrum", 'steps', 'double'),
     Row("shapes of three radii after the mesh, beside CGAL's", 'shape', '3'),
@@ -114,8 +122,10 @@ def table_of(head, rows):
 
 def rows_of(made, section):
     """The rows of a section that were made, each its cells."""
-    if section == 'Edits by several workers':
+    if section == EDITS_BY_WORKERS:
         return rows_by_grid(made['workers'].rows()) if 'workers' in made else []
+    if section == CLOUD_BY_WORKERS:
+        return rows_by_cloud(made['threads'].rows()) if 'threads' in made else []
     found = [(row, cells_of(made, row)) for row in SPEED[section][1]]
     return [[row.told, *cells] for row, cells in found if cells]
 
@@ -127,6 +137,16 @@ def rows_by_grid(rows):
         grids.setdefault(row[1], []).append([cell_of('workers', 0, cell) for cell in row])
     return [[grid, of[0][3], ', '.join(row[4] for row in of[1:]), ', '.join(row[5] for row in of)]
             for grid, of in grids.items()]
+
+
+def rows_by_cloud(rows):
+    """Of the rows of `bench/cloud --workers`, one for each cloud and number of workers, a row for each cloud."""
+    clouds = {}
+    for row in rows:
+        clouds.setdefault(row[0].split(' by ')[0], []).append([cell_of('threads', 0, cell) for cell in row])
+    return [[CLOUDS_BY_WORKERS.get(name, name), ', '.join(row[1].removesuffix(' s') for row in of) + ' s',
+             ', '.join(row[2] for row in of[1:]), ', '.join(row[5] for row in of), of[-1][6]]
+            for name, of in clouds.items()]
 
 
 def speed_page(made):

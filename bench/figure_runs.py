@@ -15,6 +15,7 @@ TOP = os.path.realpath(os.path.join(os.path.dirname(os.path.realpath(__file__)),
 LIBRARY = 'python/hanskup/libdelaunay_c.so'
 LONGEST = 3600  # seconds after which a bench is ended
 LARGE = ['spread-262144', 'lattice-40', 'sphere-64000', 'torus-65536']
+THREADED = ['spread-262144', 'terrain-262144', 'sphere-250000', 'torus-250000']
 EDITED = ['drawn-65536', 'drawn-262140', 'spread-10000-half-taken', 'edited-60000', 'far-point-1000']
 
 
@@ -35,6 +36,8 @@ class Table(NamedTuple):
 PACKAGE = {'wants': LIBRARY, 'made_by': 'python/build', 'runs': ''}
 TABLES = {
     'cloud': Table(['bench/cloud', 'spread-10000', 'spread-65536', *LARGE], ['bench/cloud', 'spread-10000']),
+    'threads': Table(['bench/cloud', '--workers', '1,2,4', *THREADED],
+                     ['bench/cloud', '--workers', '1,2', 'spread-10000']),
     'mesh': Table(['bench/mesh', *EDITED], ['bench/mesh', 'far-point-1000']),
     'workers': Table(['bench/mesh', '--workers', '1,2,4,8', '--grids', '4,8,16', 'drawn-65536'],
                      ['bench/mesh', '--workers', '1,2', 'spread-10000-half-taken']),

@@ -17,6 +17,8 @@ LIBRARIES = ['-lgmp', '-lmpfr']
 BUILT = 'BENCH_PEERS'  # names a folder in which peers stand that are built
 # Of a bench the peer that has another name.
 OTHERS = {'shape': 'shapes'}
+# What a peer with threads takes besides (Debian: libtbb-dev).
+THREADS = ['-DCGAL_LINKED_WITH_TBB', '-pthread', '-ltbb', '-ltbbmalloc', '-latomic']
 
 
 def over(ours, theirs, digits=2):
@@ -41,7 +43,8 @@ def build(name, out):
         return shutil.copy(built, out)
     source = os.path.join(FOLDER, f'{name}.cpp')
     with open(source, encoding='ascii') as file:
-        libraries = LIBRARIES if 'CGAL/' in file.read() else []
+        text = file.read()
+    libraries = (LIBRARIES if 'CGAL/' in text else []) + (THREADS if 'tbb/' in text else [])
     subprocess.run([os.environ.get('CXX', 'c++'), *FLAGS, '-o', out, source, *libraries], check=True)
     return out
 

@@ -72,6 +72,8 @@ def all_made():
         rows.setdefault(row.table, []).append([row.row or '7.77 s', *(of_python if 'python' in row.table else cells)])
     rows['workers'] = [['drawn', grid, workers, '7.77 s', '0.77', '0.77', '0.77'] for grid in ('4', '8', '16')
                        for workers in ('1', '2', '4', '8')]
+    rows['threads'] = [[f'{cloud} by {workers}', *cells] for cloud in figure_pages.CLOUDS_BY_WORKERS
+                       for workers in ('1', '2', '4')]
     return {name: figure_runs.Made(['| head |', '|---|', *(f'| {" | ".join(row)} |' for row in some)], '2026-01-02',
                                    [1.0, 2.0], 3.0) for name, some in rows.items() if name != 'instructions'}
 
@@ -107,8 +109,8 @@ def writing(work):
                all('unproved build' in word or 'proved program' in word for word in told))
     text = read(work, 'docs/SPEED.md')
     expect('an unproved program is told', 'Made on 2 January 2026, of an unproved build' in text)
-    count = len([word for word in text.split() if re.search(r'\w', word)])
-    expect(f'docs/SPEED.md has at most 900 words with all tables: {count}', count <= 900)
+    count = len([word for word in text.split() if re.search(r'[A-Za-z]', word)])
+    expect(f'docs/SPEED.md has at most 900 words, figures aside: {count}', count <= 900)
     expect('and lines of 120 columns', all(len(line) <= 120 or line.startswith('|') for line in text.splitlines()))
     prose = [line for line in text.splitlines() if not line.startswith('|')]
     told = [line for line in prose if re.search(r'\d (s|ms|MB)\b|(^|\s)\.\d', line)]
