@@ -1,7 +1,8 @@
 """Prints an edit file at full size: 65,536 lines of points and edits, a radius and 2,000 queries; or, with --cloud, one
-of 131,072 points alone, of which several workers make the cells by threads.
+of 131,072 points alone, of which several workers make the cells by threads; or, with --edited, one of 110,000 points,
+of which they do so too, and 400 edits.
 
-    tools/make full-file [--cloud]
+    tools/make full-file [--cloud | --edited]
 
 It is drawn by a rule of its own. Of the edits every fourth takes a point, and every fourth moves one; the first
 thousand points stay, so the opening four do. tools/cases runs every command on it, beside what `tools/make full-size`
@@ -13,6 +14,7 @@ from plain import random_cases
 
 POINTS, EDITS, QUERIES, START = 56_000, 9_536, 2_000, 20261130
 CLOUD = 131_072
+EDITED, LINES = 110_000, 400
 RADIUS = 16 * 90_000  # in sixteenths of a squared distance
 
 
@@ -46,6 +48,14 @@ def drawn_cloud():
     return drawn(CLOUD), [], []
 
 
+def drawn_edited():
+    """So many points that threads make their cells, and edits."""
+    return drawn_file(EDITED, LINES)
+
+
+DRAWN = {(): drawn_file, ('--cloud',): drawn_cloud, ('--edited',): drawn_edited}
+
+
 def text(given):
     """The text of what was drawn, of version 4."""
     points, edits, queries = given
@@ -53,4 +63,4 @@ def text(given):
 
 
 if __name__ == '__main__':
-    print(text(drawn_cloud() if sys.argv[1:] == ['--cloud'] else drawn_file()), end='')
+    print(text(DRAWN[tuple(sys.argv[1:])]()), end='')

@@ -3,6 +3,7 @@
     tools/make full-size > cases/full-size.sums     the sums, which tools/cases compares
     tools/make full-size FOLDER                     the texts: input.mesh3, mesh, shape, steps, parts, near, check
     tools/make full-size --cloud > cases/full-cloud.sums     the same of points alone, by `mesh` with several workers
+    tools/make full-size --edited > cases/full-edited.sums   of many points and some edits, in the same way
 
 The file is that of `tools/make full-file`. The replies go by the set of points that the lines leave. The cells are
 those of CGAL (by GUDHI); that their hull is convex, each is empty beside its neighbours, and no five points lie on a
@@ -20,7 +21,7 @@ from scipy.sparse import coo_matrix
 from scipy.sparse.csgraph import connected_components
 from scipy.spatial import cKDTree
 
-from plain.full_file import RADIUS, drawn_cloud, drawn_file, text
+from plain.full_file import DRAWN, RADIUS, drawn_file, text
 
 BEYOND = 1 << 34
 PIECE = 1 << 16
@@ -318,7 +319,7 @@ def texts(drawn):
 
 
 def cloud_texts(drawn):
-    """The points that are drawn, and what `mesh` is to write of them by every number of workers."""
+    """What is drawn, and what `mesh` is to write of it by every number of workers."""
     points, edits, _ = drawn
     yield 'input.mesh3', text(drawn)
     replies, left = replies_of(points, edits)
@@ -329,9 +330,9 @@ def cloud_texts(drawn):
 
 
 def main(words):
-    is_cloud = words == ['--cloud']
-    for name, made in cloud_texts(drawn_cloud()) if is_cloud else texts(drawn_file()):
-        if words and not is_cloud:
+    is_by_threads = bool(words) and tuple(words) in DRAWN
+    for name, made in cloud_texts(DRAWN[tuple(words)]()) if is_by_threads else texts(drawn_file()):
+        if words and not is_by_threads:
             with open(os.path.join(words[0], name.split()[0]), 'w', encoding='ascii') as file:
                 file.write(made)
         else:

@@ -15,7 +15,7 @@ use edit_files::File;
 use edit_history::laws::one_thread_is_legal;
 use edit_workers::{deal_edits, run_edits, run_in_order};
 use grid_claims::Gate;
-use one_mesh::{begin_cloud, grid_for};
+use one_mesh::{begin_cloud_by_threads, grid_for};
 use std::alloc::{AllocError, Global};
 use std::thread::Threads;
 
@@ -53,7 +53,8 @@ fn lists_by_one<G: Gate>(
     Ok(lists)
 }
 
-// The mesh of a file's lines over buckets, the edits dealt to the workers.
+// The mesh of a file's lines over buckets: its points are put in by as many threads as there are workers, and the edits
+// are dealt to these.
 fn mesh_by_workers<R: Threads + Sync, G: Gate + Sync>(
     rt: &R,
     alloc: Global,
@@ -69,7 +70,8 @@ fn mesh_by_workers<R: Threads + Sync, G: Gate + Sync>(
     ensures grid { IfOk result (λ mesh. 1 < making.workers → mesh.grid ≡ making.grid) }
 {
     let grid = grid_of(making.grid, making.workers, line_count(file));
-    let mesh = begin_cloud(alloc, grid, &file.points, four)?;
+    let threads = making.workers as usize;
+    let mesh = begin_cloud_by_threads(rt, alloc, grid, &file.points, four, threads)?;
     let lists = deal_edits(alloc, file, making.workers)?;
     let mesh = run_edits(rt, alloc, mesh, &lists, gate)?;
     let _ = mesh.hold();

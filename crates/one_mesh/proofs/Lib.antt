@@ -1,2 +1,3 @@
+pub mod CloudSets
 pub mod Edited
 pub mod Gathering

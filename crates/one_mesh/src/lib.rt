@@ -17,7 +17,7 @@ mod grids;
 mod lists;
 mod opening;
 
-pub use clouds::begin_cloud;
+pub use clouds::{begin_cloud, begin_cloud_by_threads};
 pub use edit_history::{NotSolid, Receipt, find_four};
 pub use edits::{apply, begin};
 pub use grids::grid_for;
