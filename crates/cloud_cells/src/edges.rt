@@ -6,11 +6,10 @@ use crate::corners::Face;
 use crate::slots::short;
 use std::alloc::{AllocError, Global};
 
-// An edge of a rim facet, and the facet of the new cell that is on it.
+// An edge of a rim facet, by a number below 2^63 that differs for most edges, and the facet of the new cell on it.
 #[derive(Clone, Copy)]
 pub(crate) struct Edge {
-    first: u64,
-    second: u64,
+    mixed: u64,
     number: usize,
 }
 
@@ -45,29 +44,27 @@ pub(crate) fn whole_facet(facet: &Face, number: usize) -> Edge {
     )
 }
 
-// A facet that waits for the other on its edge: four times its place, and its number. It counts where the stamp is that
-// of the table.
+// An edge, and the facet that came to it last: four times its place, and its number. It counts where above that stands
+// the stamp of the table.
 #[derive(Clone, Copy)]
 struct Entry {
-    first: u64,
-    second: u64,
-    stamp: u32,
-    door: u32,
+    mixed: u64,
+    door: u64,
 }
 
-// One that waits for none.
-const EMPTY: Entry = Entry {
-    first: 0,
-    second: 0,
-    stamp: 0,
-    door: 0,
-};
+// An entry that does not count.
+const EMPTY: Entry = Entry { mixed: 0, door: 0 };
+
+// In a number of 64 bits the last, and the lower half.
+const LAST: u64 = 9_223_372_036_854_775_808;
+
+const LOW: u64 = 4_294_967_295;
 
 // The facets of new cells by their edges, scattered over a list whose length is a power of two.
 #[derive(Drop)]
 pub(crate) struct Edges {
     entries: Vec<Entry>,
-    stamp: u32,
+    stamp: u64,
 }
 
 impl Edges {
@@ -81,7 +78,7 @@ impl Edges {
 
     // Empties the table, and sees to it that it is more than twice as long as there are edges of so many facets.
     pub(crate) fn make_room(&mut self, facets: usize) -> Result<(), AllocError> {
-        self.stamp = self.stamp.wrapping_add(1);
+        self.stamp = self.stamp.wrapping_add(1) & LOW;
         let most = facets.saturating_mul(4);
         if self.entries.len() >= most && self.entries.len() > 0 {
             return Ok(());
@@ -92,33 +89,42 @@ impl Edges {
         Ok(())
     }
 
-    // The facet that waits on the edge, or none, and then this one does.
-    pub(crate) fn meet(&mut self, edge: &Edge, place: usize) -> Option<Door> {
+    // The facet that waits on the edge, or this one itself, where none does; then this one waits. Whether one waits is
+    // nothing that a processor could guess, so no branch is taken on it.
+    #[inline(always)]
+    pub(crate) fn meet(&mut self, edge: &Edge, place: usize) -> Door {
+        let own = short(place << 2 | edge.number) as u64;
         let mask = self.entries.len().wrapping_sub(1);
-        let mut at = scattered(edge) & mask;
+        let mut at = (edge.mixed >> 32) as usize & mask;
         for _ in 0..self.entries.len() {
             if at >= self.entries.len() {
-                return None;
+                break;
             }
             let entry = self.entries[at];
-            if entry.stamp != self.stamp {
+            let past = (entry.door >> 32) ^ self.stamp;
+            let other = entry.mixed ^ edge.mixed;
+            if other.wrapping_sub(1) | 0u64.wrapping_sub(past) >= LAST {
+                let waits = 0u64.wrapping_sub(past.wrapping_sub(1) >> 63);
                 self.entries[at] = Entry {
-                    first: edge.first,
-                    second: edge.second,
-                    stamp: self.stamp,
-                    door: short(place << 2 | edge.number),
+                    mixed: edge.mixed,
+                    door: self.stamp << 32 | own,
                 };
-                return None;
-            }
-            if entry.first == edge.first && entry.second == edge.second {
-                return Some(Door {
-                    place: entry.door as usize >> 2,
-                    number: entry.door as usize & 3,
-                });
+                return Door::of((entry.door & waits | own & !waits) & LOW);
             }
             at = at.wrapping_add(1) & mask;
         }
-        None
+        edge.door(place)
+    }
+}
+
+impl Door {
+    // The facet of a number of an entry.
+    #[inline(always)]
+    fn of(number: u64) -> Door {
+        Door {
+            place: (number >> 2) as usize,
+            number: (number & 3) as usize,
+        }
     }
 }
 
@@ -134,26 +140,23 @@ fn length_for(most: usize) -> usize {
 }
 
 impl Edge {
+    #[inline(always)]
     fn new(first: u64, second: u64, number: usize) -> Edge {
+        let mixed = first
+            .wrapping_mul(0x9E3779B97F4A7C15)
+            .wrapping_add(second.wrapping_mul(0xC2B2AE3D27D4EB4F));
         Edge {
-            first,
-            second,
+            mixed: mixed >> 1,
             number,
         }
     }
 
     // The facet on it of the new cell in a slot.
+    #[inline(always)]
     pub(crate) fn door(&self, place: usize) -> Door {
         Door {
             place,
             number: self.number,
         }
     }
-}
-
-// A number that differs for most edges.
-fn scattered(edge: &Edge) -> usize {
-    let mixed = edge.first.wrapping_mul(0x9E3779B97F4A7C15)
-        ^ edge.second.wrapping_mul(0xC2B2AE3D27D4EB4F);
-    (mixed >> 32) as usize
 }

@@ -23,14 +23,13 @@ pub(crate) fn make_room(net: &mut Net, more: usize) -> Result<(), AllocError>
     Ok(())
 }
 
-// Notes which cell has the facet of a door too, where another was met on it.
+// Notes which cell has the facet of a door too, once another was met on it.
 fn join(net: &mut Net, edges: &mut Edges, facet: &Face, door: Door)
     ensures { net.new ≡ net.old }
 {
     let edge = whole_facet(facet, door.number);
-    if let Some(other) = edges.meet(&edge, door.place) {
-        net.link_two(door, other);
-    }
+    let other = edges.meet(&edge, door.place);
+    net.link_two(door, other);
 }
 
 // The same of the facets of the rim.
