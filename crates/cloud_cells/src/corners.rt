@@ -251,11 +251,34 @@ impl Corners {
         }
     }
 
+    // Whether the two differ. Cells on one facet do in the sums of their keys, so that there no branch is taken that a
+    // processor would have to guess.
+    #[inline(always)]
+    fn differs(&self, other: &Corners) -> bool
+        ensures { IsTrue result ↔ ¬ (self.now ≡ other.now) }
+    {
+        self.a + self.b + self.c + self.d != other.a + other.b + other.c + other.d
+            || !self.is_same(other)
+    }
+
+    // Which of its facets the facet is, where it is another cell on it than the given one, else 4.
+    #[inline(always)]
+    pub(crate) fn number_across(&self, cell: &Corners, facet: &Face) -> usize
+        ensures { (result < 4) ↔ IsOtherOn cell.now facet.now self.now }
+    {
+        let number = self.number_of(facet);
+        if number < 4 && self.differs(cell) {
+            number
+        } else {
+            4
+        }
+    }
+
     // Whether it is another cell on a facet of a cell.
     pub(crate) fn is_across(&self, cell: &Corners, facet: &Face) -> bool
         ensures { IsTrue result ↔ IsOtherOn cell.now facet.now self.now }
     {
-        self.number_of(facet) < 4 && !self.is_same(cell)
+        self.number_across(cell, facet) < 4
     }
 
     // The point across from one of its facets; none where that is the infinite vertex.

@@ -154,24 +154,14 @@ fn place_of(slots: &Slots, cell: &Corners, hint: usize) -> usize
     unreachable!()
 }
 
-// Whether the cell is another on the facet.
-fn is_other(other: &Corners, cell: &Corners, facet: &Face) -> bool
-    ensures { IsTrue result ↔ IsOtherOn cell.now facet.now other.now }
-{
-    other.number_of(facet) < 4 && !other.is_same(cell)
-}
-
 // Which of its facets the facet is of the cell of a slot, where that is another on it.
 pub(crate) fn other_at(slots: &Slots, i: usize, cell: &Corners, facet: &Face) -> Option<usize>
     ensures { MatchOption result (HasNoOther slots.now i cell.now facet.now)
         (λ number. IsOtherAt slots.now cell.now facet.now i) }
 {
     let other = cell_at(slots, i)?;
-    let number = other.number_of(facet);
-    if number < 4 && !other.is_same(cell) {
-        return Some(number);
-    }
-    None
+    let number = other.number_across(cell, facet);
+    if number < 4 { Some(number) } else { None }
 }
 
 // The slot of the cell across a facet of a cell, where all are looked at. There is to be one.
@@ -199,12 +189,12 @@ pub(crate) fn gone_across(
 {
     if hint < gone.len() {
         let other = gone[hint].cell();
-        if is_other(other, cell, facet) {
+        if other.is_across(cell, facet) {
             return Some(*other);
         }
     }
     for spot in gone {
-        if is_other(spot.cell(), cell, facet) {
+        if spot.cell().is_across(cell, facet) {
             return Some(*spot.cell());
         }
     }
