@@ -19,32 +19,33 @@ fn rounds_before(key: u64) -> u64 {
 // curve: the axes are turned from the highest bit down.)
 fn place_on_curve(x: u64, y: u64, z: u64) -> u64 {
     let (mut x, mut y, mut z) = (x, y, z);
-    let mut bit: u64 = 8192;
-    for _ in 0..13 {
-        let low = bit.wrapping_sub(1);
-        if x & bit != 0 {
-            x ^= low;
-        }
-        if y & bit != 0 {
-            x ^= low;
-        } else {
-            let swapped = (x ^ y) & low;
-            x ^= swapped;
-            y ^= swapped;
-        }
-        if z & bit != 0 {
-            x ^= low;
-        } else {
-            let swapped = (x ^ z) & low;
-            x ^= swapped;
-            z ^= swapped;
-        }
-        bit >>= 1;
+    for number in 1..14 {
+        let at = 14u32.wrapping_sub(number);
+        let low = (1u64 << at).wrapping_sub(1);
+        x ^= bit_at(x, at) & low;
+        let (one, other) = turned_or_swapped(x, y, bit_at(y, at), low);
+        (x, y) = (one, other);
+        let (one, other) = turned_or_swapped(x, z, bit_at(z, at), low);
+        (x, z) = (one, other);
     }
     y ^= x;
     z ^= y;
     let turned = turned_by(z);
     spread(x ^ turned) << 2 | spread(y ^ turned) << 1 | spread(z ^ turned)
+}
+
+// All bits where a bit of the number is set, else none.
+#[inline(always)]
+fn bit_at(x: u64, at: u32) -> u64 {
+    0u64.wrapping_sub((x >> (at & 63)) & 1)
+}
+
+// The low bits of x are turned where they are to be, and else those of the two are swapped. No branch is taken that a
+// processor would have to guess.
+#[inline(always)]
+fn turned_or_swapped(x: u64, y: u64, turn: u64, low: u64) -> (u64, u64) {
+    let swapped = (x ^ y) & low & !turn;
+    (x ^ swapped ^ (low & turn), y ^ swapped)
 }
 
 // All bits below a bit that is set are turned.
