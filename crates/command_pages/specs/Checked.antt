@@ -10,6 +10,7 @@ use Rattle.mesh_check.specs.Laws.{IsComplex}
 use Rattle.mesh_check.specs.Text.{is_good, verdict_text}
 use Rattle.command_words.specs.declared.stop.Stop.{Stop}
 use Rattle.command_words.specs.declared.stop.Stop.TheVariants.{Memory, ReadFault, BadLine, TooLong}
+use Rattle.command_pages.specs.Command.{Command}
 use Rattle.command_pages.specs.Run.{mesh_limit}
 use Rattle.command_pages.specs.Statuses.{IsEarly, IsLineOf, IsWrittenWhole}
 
@@ -69,3 +70,14 @@ pub record CheckEnds (left : Option (List ℕ)) (status : ℕ) (h : List Entry) 
   pub verdict : (IsEarly status → ⊥) → IfSome left (IsMeshVerdict status)
   pub made : IsWrittenWhole status → IfSome left (IsChecked status text)
   pub cut : status ≡ 4 → IfSome left (λ bytes. (late : ℕ) × IsChecked late text bytes)
+
+-- The command.
+abbrev pub checking : Command
+checking =
+    record {
+      limit = mesh_limit;
+      is_fault = λ bytes fault. IsMeshFault bytes fault;
+      makes = λ words left late h text. TellsVerdict late × (h ≡ []) × IfSome left (IsChecked late text);
+      makes_none = λ left failed stop. IsUnchecked left failed stop;
+      ends = λ words left status h text. CheckEnds left status h text;
+    }

@@ -1,12 +1,16 @@
 -- A file that is read: what is made of it, why no mesh is, and what a run that reads one promises of its end.
-use Rattle.std.specs.Prelude.{◌≡◌, ◌≢◌, ◌+◌, ◌≤◌, ◌<◌, ◌↔◌, ℕ, List, length, true, false, Option, IfSome, ⊤}
+use Rattle.std.specs.Prelude.{◌≡◌, ◌≢◌, ◌+◌, ◌≤◌, ◌<◌, ◌↔◌, ℕ, List, length, true, false, Option, IfSome, String, ⊤}
+use Rattle.std.specs.declared.alloc.Global.{Global}
 use Rattle.point_order.specs.Solid.{is_solid}
 use Rattle.edit_history.specs.declared.history.Entry.{Entry}
 use Rattle.edit_files.specs.Content.{Content}
+use Rattle.edit_files.specs.Faults.{IsFault}
 use Rattle.edit_files.specs.Grammar.{IsFile}
 use Rattle.command_pages.specs.Taken.{file_limits}
 use Rattle.command_words.specs.declared.stop.Stop.{Stop}
 use Rattle.command_words.specs.declared.stop.Stop.TheVariants.{Memory, ReadFault, BadLine, Flat, TooLong}
+use Rattle.command_words.specs.Words.{worker_count}
+use Rattle.command_pages.specs.Command.{Command}
 use Rattle.command_pages.specs.Report.{AreRadii}
 use Rattle.command_pages.specs.Run.{HasFault, IsKept, input_limit}
 use Rattle.command_pages.specs.Statuses.{HasText, IsEarly, IsFaultLine}
@@ -59,3 +63,14 @@ pub record FileEnds (P : List ℕ → Type 0) (left : Option (List ℕ)) (status
   pub statuses : status ≤ 7
   pub verdict : (IsEarly status → ⊥) → IfSome left (TellsOfBytes status)
   pub made : HasText status → IfSome left P
+
+-- A command that reads a file, and makes one text of it: `P` says of which history and text, by the words and the file.
+abbrev pub of_file : (List (String Global) → List Entry → List ℕ → Content → Type 0) → Command
+of_file P =
+    record {
+      limit = input_limit;
+      is_fault = λ bytes fault. IsFault file_limits bytes fault;
+      makes = λ words left late h text. (late ≡ 0) × IfSome left (IsOfFile (worker_count words) h (P words h text));
+      makes_none = λ left failed stop. HasNoMesh left failed stop;
+      ends = λ words left status h text. FileEnds (IsOfFile (worker_count words) h (P words h text)) left status;
+    }

@@ -4,6 +4,7 @@ pub mod Run
 pub mod Report
 pub mod Page
 pub mod Reading
+pub mod Command
 pub mod Files
 pub mod Checked
 pub mod Puts

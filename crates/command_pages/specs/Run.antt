@@ -13,7 +13,6 @@ use Rattle.edit_files.specs.Faults.{IsFault}
 use Rattle.text_readings.specs.declared.fault.Fault.{Fault}
 use Rattle.command_pages.specs.Report.{text_of_history}
 use Rattle.command_pages.specs.Statuses.{IsEarly}
-use Rattle.command_words.specs.Words.{Checks, Draws, Kind, Parts, Queries, Reports, Steps}
 
 -- how many bytes an input may have: 16,777,216
 abbrev pub input_limit : ℕ
@@ -22,15 +21,6 @@ input_limit = 16777216
 -- how many the text of a mesh may have, since reports are longer: 1,073,741,824
 abbrev pub mesh_limit : ℕ
 mesh_limit = 1073741824
-
--- how many bytes what a command reads may have
-abbrev pub limit_of : Kind → ℕ
-limit_of Reports = input_limit
-limit_of Steps = input_limit
-limit_of Parts = input_limit
-limit_of Queries = input_limit
-limit_of Checks = mesh_limit
-limit_of Draws = input_limit
 
 -- the history of one thread that makes the file's lines its edits
 abbrev pub history_of : Content → List Entry

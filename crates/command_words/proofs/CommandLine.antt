@@ -18,12 +18,12 @@ use Rattle.clap.specs.declared.error.kind.ErrorKind.TheVariants.{OutOfMemory}
 use Rattle.clap.proofs.OnLiterals.{clap_on_literals}
 use Rattle.cell_store.specs.Grids.{is_grid_size}
 use Rattle.command_words.specs.Words.{SayCheck, SayMesh, SayMeshOrder, SayNear, SayShape, SayParts, SayShapeOrder}
-use Rattle.command_words.specs.Words.{SaySteps, DrawsFile, ReadsFile, ReadsSource, asks_text, drawn_count, drawn_start}
-use Rattle.command_words.specs.Words.{asked_alpha, asked_index, asked_most, asks_check, asks_drawn, asks_near}
-use Rattle.command_words.specs.Words.{asks_order, asks_parts, asks_shape, asks_steps, flag_in, has_flag, is_command}
-use Rattle.command_words.specs.Words.{given_in, given_of, grid_size, most_alpha, most_grid, most_index, most_workers}
-use Rattle.command_words.specs.Words.{number_between, number_in, number_of, program, worker_count, texts_of}
-use Rattle.command_words.specs.Words.{AreWordsTaken}
+use Rattle.command_words.specs.Words.{SaySteps, Checks, DrawsFile, Kind, Parts, Queries, ReadsMesh, Reports, Steps}
+use Rattle.command_words.specs.Words.{WritesNear, WritesParts, WritesReport, WritesSteps, asked_alpha, asked_index}
+use Rattle.command_words.specs.Words.{asked_most, asks_order, asks_shape, asks_text, drawn_count, drawn_start, flag_in}
+use Rattle.command_words.specs.Words.{given_in, given_of, grid_size, has_flag, is_command, kind_met, kind_of_words}
+use Rattle.command_words.specs.Words.{most_alpha, most_grid, most_index, most_workers, number_between, number_in}
+use Rattle.command_words.specs.Words.{number_of, program, worker_count, texts_of, AreWordsTaken}
 use Rattle.command_words.specs.Tasks.{IsTask, IsTaskOf}
 use Rattle.command_words.specs.declared.task.Asked.{Asked}
 use Rattle.command_words.specs.declared.task.Drawn.{Drawn}
@@ -42,54 +42,50 @@ program_is_simple : is_simple program ≡ true
 unfolding clap_on_literals
 program_is_simple = refl
 
--- what words are found to be: with no fault, `shape` or not, with `--order` or not, one worker, a grid of 4, neither
--- `gen` nor `check`, and `steps` or not, `parts` or not, and `near` or not
-abbrev AreFound : List Text → Bool → Bool → Bool → Bool → Bool → Type 0
-AreFound words shape order steps parts near =
+-- what words are found to be: with no fault, `shape` or not, with `--order` or not, one worker, a grid of 4, and a
+-- command of this kind
+abbrev AreFound : List Text → Bool → Bool → Kind → Type 0
+AreFound words shape order kind =
     (fault_of program words ≡ []) × (is_command (codes "shape") (subcommand_of program words) ≡ shape) ×
     (has_flag (codes "order") (subcommand_of program words) ≡ order)
     × (number_of (codes "workers") 1 most_workers (subcommand_of program words) ≡ 1) ×
     (number_of (codes "grid") 1 most_grid (subcommand_of program words) ≡ 4)
-    × (is_command (codes "gen") (subcommand_of program words) ≡ false)
-    × (is_command (codes "check") (subcommand_of program words) ≡ false) ×
-    (is_command (codes "steps") (subcommand_of program words) ≡ steps) ×
-    (is_command (codes "parts") (subcommand_of program words) ≡ parts) ×
-    (is_command (codes "near") (subcommand_of program words) ≡ near)
+    × (kind_met (subcommand_of program words) ≡ kind)
 
 -- the word `mesh` alone
-mesh_found : (name : Text) → AreFound (name ∷ codes "mesh" ∷ []) false false false false false
+mesh_found : (name : Text) → AreFound (name ∷ codes "mesh" ∷ []) false false Reports
 unfolding clap_on_literals
-mesh_found name = (refl, refl, refl, refl, refl, refl, refl, refl, refl, refl)
+mesh_found name = (refl, refl, refl, refl, refl, refl)
 
 -- `mesh --order`
-mesh_order_found : (name : Text) → AreFound (name ∷ codes "mesh" ∷ codes "--order" ∷ []) false true false false false
+mesh_order_found : (name : Text) → AreFound (name ∷ codes "mesh" ∷ codes "--order" ∷ []) false true Reports
 unfolding clap_on_literals
-mesh_order_found name = (refl, refl, refl, refl, refl, refl, refl, refl, refl, refl)
+mesh_order_found name = (refl, refl, refl, refl, refl, refl)
 
 -- `shape`
-shape_found : (name : Text) → AreFound (name ∷ codes "shape" ∷ []) true false false false false
+shape_found : (name : Text) → AreFound (name ∷ codes "shape" ∷ []) true false Reports
 unfolding clap_on_literals
-shape_found name = (refl, refl, refl, refl, refl, refl, refl, refl, refl, refl)
+shape_found name = (refl, refl, refl, refl, refl, refl)
 
 -- `shape --order`
-shape_order_found : (name : Text) → AreFound (name ∷ codes "shape" ∷ codes "--order" ∷ []) true true false false false
+shape_order_found : (name : Text) → AreFound (name ∷ codes "shape" ∷ codes "--order" ∷ []) true true Reports
 unfolding clap_on_literals
-shape_order_found name = (refl, refl, refl, refl, refl, refl, refl, refl, refl, refl)
+shape_order_found name = (refl, refl, refl, refl, refl, refl)
 
 -- `steps`
-steps_found : (name : Text) → AreFound (name ∷ codes "steps" ∷ []) false false true false false
+steps_found : (name : Text) → AreFound (name ∷ codes "steps" ∷ []) false false Steps
 unfolding clap_on_literals
-steps_found name = (refl, refl, refl, refl, refl, refl, refl, refl, refl, refl)
+steps_found name = (refl, refl, refl, refl, refl, refl)
 
 -- `parts`
-parts_found : (name : Text) → AreFound (name ∷ codes "parts" ∷ []) false false false true false
+parts_found : (name : Text) → AreFound (name ∷ codes "parts" ∷ []) false false Parts
 unfolding clap_on_literals
-parts_found name = (refl, refl, refl, refl, refl, refl, refl, refl, refl, refl)
+parts_found name = (refl, refl, refl, refl, refl, refl)
 
 -- `near`
-near_found : (name : Text) → AreFound (name ∷ codes "near" ∷ []) false false false false true
+near_found : (name : Text) → AreFound (name ∷ codes "near" ∷ []) false false Queries
 unfolding clap_on_literals
-near_found name = (refl, refl, refl, refl, refl, refl, refl, refl, refl, refl)
+near_found name = (refl, refl, refl, refl, refl, refl)
 
 -- the defaults of the options of `parts`
 abbrev HasDefaults : List Text → Type 0
@@ -103,52 +99,47 @@ parts_defaults : (name : Text) → HasDefaults (name ∷ codes "parts" ∷ [])
 unfolding clap_on_literals
 parts_defaults name = (refl, refl, refl)
 
--- so they are taken, ask for these and for the defaults, and read a file
-abbrev AreAsked : List (String Global) → Bool → Bool → Bool → Bool → Bool → Type 0
-AreAsked words shape order steps parts near =
+-- so they are taken, ask for these and for the defaults, and their command is of the kind
+abbrev AreAsked : List (String Global) → Bool → Bool → Kind → Type 0
+AreAsked words shape order kind =
     (AreWordsTaken words × (asks_shape words ≡ shape) × (asks_order words ≡ order)) ×
-    ((worker_count words ≡ 1) × (grid_size words ≡ 4)) × ReadsFile words × (asks_steps words ≡ steps)
-    × (asks_parts words ≡ parts) × (asks_near words ≡ near)
+    ((worker_count words ≡ 1) × (grid_size words ≡ 4)) × (kind_of_words words ≡ kind)
 
 -- words that are found to be these are taken and ask for these
-asked : (words : List (String Global)) (texts : List Text) (shape order steps parts near : Bool) →
-    texts_of words ≡ texts → AreFound texts shape order steps parts near → AreAsked words shape order steps parts near
-unfolding AreWordsTaken asks_order asks_shape asks_drawn asks_check asks_steps asks_parts asks_near
-    worker_count grid_size
-asked words texts shape order steps parts near e found =
-    let f = subst (λ (w : List Text). AreFound w shape order steps parts near) (sym e) found in
-    (((f.0, ap is_grid_size f.4), f.1, f.2), (f.3, f.4), (f.5, f.6), f.7, f.8, f.9)
+asked : (words : List (String Global)) (texts : List Text) (shape order : Bool) (kind : Kind) →
+    texts_of words ≡ texts → AreFound texts shape order kind → AreAsked words shape order kind
+unfolding AreWordsTaken asks_order asks_shape kind_of_words worker_count grid_size
+asked words texts shape order kind e found =
+    let f = subst (λ (w : List Text). AreFound w shape order kind) (sym e) found in
+    (((f.0, ap is_grid_size f.4), f.1, f.2), (f.3, f.4), f.5)
 
 -- the word `mesh` asks for the report alone
-pub mesh_words : (words : List (String Global)) → SayMesh words → AreAsked words false false false false false
-mesh_words words m = asked words (m.0 ∷ codes "mesh" ∷ []) false false false false false m.1 (mesh_found m.0)
+pub mesh_words : (words : List (String Global)) → SayMesh words → AreAsked words false false Reports
+mesh_words words m = asked words (m.0 ∷ codes "mesh" ∷ []) false false Reports m.1 (mesh_found m.0)
 
 -- `mesh --order` for the order too
-pub mesh_order_words : (words : List (String Global)) → SayMeshOrder words → AreAsked words false true false false false
-mesh_order_words words m = asked words (m.0 ∷ codes "mesh" ∷ codes "--order" ∷ []) false true false false false m.1
-    (mesh_order_found m.0)
+pub mesh_order_words : (words : List (String Global)) → SayMeshOrder words → AreAsked words false true Reports
+mesh_order_words words m = asked words (m.0 ∷ codes "mesh" ∷ codes "--order" ∷ []) false true Reports m.1 (mesh_order_found m.0)
 
 -- `shape` for the shapes
-pub shape_words : (words : List (String Global)) → SayShape words → AreAsked words true false false false false
-shape_words words m = asked words (m.0 ∷ codes "shape" ∷ []) true false false false false m.1 (shape_found m.0)
+pub shape_words : (words : List (String Global)) → SayShape words → AreAsked words true false Reports
+shape_words words m = asked words (m.0 ∷ codes "shape" ∷ []) true false Reports m.1 (shape_found m.0)
 
 -- `shape --order` for both
-pub shape_order_words : (words : List (String Global)) → SayShapeOrder words →
-    AreAsked words true true false false false
-shape_order_words words m = asked words (m.0 ∷ codes "shape" ∷ codes "--order" ∷ []) true true false false false m.1
-    (shape_order_found m.0)
+pub shape_order_words : (words : List (String Global)) → SayShapeOrder words → AreAsked words true true Reports
+shape_order_words words m = asked words (m.0 ∷ codes "shape" ∷ codes "--order" ∷ []) true true Reports m.1 (shape_order_found m.0)
 
 -- `steps` for the least alphas
-pub steps_words : (words : List (String Global)) → SaySteps words → AreAsked words false false true false false
-steps_words words m = asked words (m.0 ∷ codes "steps" ∷ []) false false true false false m.1 (steps_found m.0)
+pub steps_words : (words : List (String Global)) → SaySteps words → AreAsked words false false Steps
+steps_words words m = asked words (m.0 ∷ codes "steps" ∷ []) false false Steps m.1 (steps_found m.0)
 
 -- `parts` for the solid parts
-pub parts_words : (words : List (String Global)) → SayParts words → AreAsked words false false false true false
-parts_words words m = asked words (m.0 ∷ codes "parts" ∷ []) false false false true false m.1 (parts_found m.0)
+pub parts_words : (words : List (String Global)) → SayParts words → AreAsked words false false Parts
+parts_words words m = asked words (m.0 ∷ codes "parts" ∷ []) false false Parts m.1 (parts_found m.0)
 
 -- `near` for the answers to queries
-pub near_words : (words : List (String Global)) → SayNear words → AreAsked words false false false false true
-near_words words m = asked words (m.0 ∷ codes "near" ∷ []) false false false false true m.1 (near_found m.0)
+pub near_words : (words : List (String Global)) → SayNear words → AreAsked words false false Queries
+near_words words m = asked words (m.0 ∷ codes "near" ∷ []) false false Queries m.1 (near_found m.0)
 
 -- what `parts` alone asks for
 pub parts_asked : (words : List (String Global)) → SayParts words →
@@ -156,34 +147,30 @@ pub parts_asked : (words : List (String Global)) → SayParts words →
 unfolding asked_alpha asked_most asked_index
 parts_asked words m = subst HasDefaults (sym m.1) (parts_defaults m.0)
 
--- what `check` is found to be: with no fault, a grid of 1 where none is asked for, and not `gen`
+-- what `check` is found to be: with no fault, and a grid of 1 where none is asked for
 check_found : (name : Text) → (fault_of program (name ∷ codes "check" ∷ []) ≡ []) ×
     (number_of (codes "grid") 1 most_grid (subcommand_of program (name ∷ codes "check" ∷ [])) ≡ 1) ×
-    (is_command (codes "gen") (subcommand_of program (name ∷ codes "check" ∷ [])) ≡ false) ×
-    (is_command (codes "check") (subcommand_of program (name ∷ codes "check" ∷ [])) ≡ true)
+    (kind_met (subcommand_of program (name ∷ codes "check" ∷ [])) ≡ Checks)
 unfolding clap_on_literals
-check_found name = (refl, refl, refl, refl)
+check_found name = (refl, refl, refl)
 
 -- so it is taken, and asks for a verdict
-pub check_words : (words : List (String Global)) → SayCheck words →
-    AreWordsTaken words × ReadsSource words × (asks_check words ≡ true)
-unfolding AreWordsTaken asks_drawn asks_check grid_size
+pub check_words : (words : List (String Global)) → SayCheck words → AreWordsTaken words × ReadsMesh words
+unfolding AreWordsTaken kind_of_words grid_size
 check_words words m =
     let f = subst (λ (w : List Text). (fault_of program w ≡ []) ×
     (number_of (codes "grid") 1 most_grid (subcommand_of program w) ≡ 1) ×
-    (is_command (codes "gen") (subcommand_of program w) ≡ false) ×
-    (is_command (codes "check") (subcommand_of program w) ≡ true)) (sym m.1) (check_found m.0) in
-    ((f.0, ap is_grid_size f.1), f.2, f.3)
+    (kind_met (subcommand_of program w) ≡ Checks)) (sym m.1) (check_found m.0) in
+    ((f.0, ap is_grid_size f.1), f.2)
 
--- words for a report without options have 1 worker and a grid of size 4, and read a file
+-- words for a report without options have 1 worker and a grid of size 4
 pub default_words : (words : List (String Global)) → SayMesh words ⊎ SayMeshOrder words ⊎ SayShape words ⊎
     SayShapeOrder words
-    → ((worker_count words ≡ 1) × (grid_size words ≡ 4)) × ReadsFile words × (asks_steps words ≡ false)
-    × (asks_parts words ≡ false) × (asks_near words ≡ false)
-default_words words (inl m) = let a = mesh_words words m in (a.1, a.2, a.3, a.4, a.5)
-default_words words (inr (inl m)) = let a = mesh_order_words words m in (a.1, a.2, a.3, a.4, a.5)
-default_words words (inr (inr (inl m))) = let a = shape_words words m in (a.1, a.2, a.3, a.4, a.5)
-default_words words (inr (inr (inr m))) = let a = shape_order_words words m in (a.1, a.2, a.3, a.4, a.5)
+    → ((worker_count words ≡ 1) × (grid_size words ≡ 4)) × WritesReport words
+default_words words (inl m) = let a = mesh_words words m in (a.1, a.2)
+default_words words (inr (inl m)) = let a = mesh_order_words words m in (a.1, a.2)
+default_words words (inr (inr (inl m))) = let a = shape_words words m in (a.1, a.2)
+default_words words (inr (inr (inr m))) = let a = shape_order_words words m in (a.1, a.2)
 
 -- what a parse met is what the words name
 pub met_is : (a : App) (words : List (String Global)) (met : Option (Text × List Row)) → a ≡ program →
@@ -298,42 +285,42 @@ number_not_read text least most small none = by (is_unsigned_in least most text)
 
 -- ---- the task and the words
 
--- the task of a report is that of words that read a file, and has their flags and workers
-pub reads_file : (words : List (String Global)) (making : Making) (asked : Asked) → IsTask words (Report making asked) →
-    ReadsFile words × (asks_steps words ≡ false) × (asks_parts words ≡ false) × (asks_near words ≡ false) ×
-    (asked.shape ≡ asks_shape words) × (asked.order ≡ asks_order words) × (making.workers ≡ worker_count words)
-unfolding asks_drawn asks_check asks_steps asks_parts asks_near asks_shape asks_order worker_count
-reads_file words making asked k = (k.1, k.2, k.3, k.4, k.5, k.6, k.0.workers)
+-- the task of a report is that of words that write one, and has their flags and workers
+pub report_task : (words : List (String Global)) (making : Making) (asked : Asked) →
+    IsTask words (Report making asked) →
+    WritesReport words × (asked.shape ≡ asks_shape words) × (asked.order ≡ asks_order words) ×
+    (making.workers ≡ worker_count words)
+unfolding kind_of_words asks_shape asks_order worker_count
+report_task words making asked k = (k.1, k.2, k.3, k.0.workers)
 
 -- so it is with the task of the least alphas
-pub steps_file : (words : List (String Global)) (making : Making) → IsTask words (Step making) → ReadsFile words ×
-    (asks_steps words ≡ true) × (making.workers ≡ worker_count words)
-unfolding asks_drawn asks_check asks_steps worker_count
-steps_file words making k = (k.1, k.2, k.0.workers)
+pub step_task : (words : List (String Global)) (making : Making) → IsTask words (Step making) →
+    WritesSteps words × (making.workers ≡ worker_count words)
+unfolding kind_of_words worker_count
+step_task words making k = (k.1, k.0.workers)
 
 -- with that of the parts, and its numbers
-pub parts_file : (words : List (String Global)) (making : Making) (wanted : Wanted) →
+pub part_task : (words : List (String Global)) (making : Making) (wanted : Wanted) →
     IsTask words (Part making wanted) →
-    ReadsFile words × (asks_steps words ≡ false) × (asks_parts words ≡ true) × (wanted.alpha ≡ asked_alpha words) ×
-    (wanted.most ≡ asked_most words) × (wanted.off ≡ asked_index words) × (making.workers ≡ worker_count words)
-unfolding asks_drawn asks_check asks_steps asks_parts asked_alpha asked_most asked_index worker_count
-parts_file words making wanted k = (k.1, k.2, k.3, k.4, k.5, k.6, k.0.workers)
+    WritesParts words × (wanted.alpha ≡ asked_alpha words) × (wanted.most ≡ asked_most words) ×
+    (wanted.off ≡ asked_index words) × (making.workers ≡ worker_count words)
+unfolding kind_of_words asked_alpha asked_most asked_index worker_count
+part_task words making wanted k = (k.1, k.2, k.3, k.4, k.0.workers)
 
 -- with that of the queries
-pub near_file : (words : List (String Global)) (making : Making) → IsTask words (Query making) →
-    ReadsFile words × (asks_steps words ≡ false) × (asks_parts words ≡ false) × (asks_near words ≡ true) ×
-    (making.workers ≡ worker_count words)
-unfolding asks_drawn asks_check asks_steps asks_parts asks_near worker_count
-near_file words making k = (k.1, k.2, k.3, k.4, k.0.workers)
+pub query_task : (words : List (String Global)) (making : Making) → IsTask words (Query making) →
+    WritesNear words × (making.workers ≡ worker_count words)
+unfolding kind_of_words worker_count
+query_task words making k = (k.1, k.0.workers)
 
 -- the task of a verdict is that of words that read the text of a mesh
-pub check_mesh : (words : List (String Global)) → IsTask words Check → ReadsSource words × (asks_check words ≡ true)
-unfolding asks_drawn asks_check
-check_mesh words k = k
+pub check_task : (words : List (String Global)) → IsTask words Check → ReadsMesh words
+unfolding kind_of_words
+check_task words k = k
 
 -- the task of drawing is that of words that draw, and has their count, start and flag
-pub draws_file : (words : List (String Global)) (making : Making) (drawn : Drawn) → IsTask words (Draw making drawn) →
+pub draw_task : (words : List (String Global)) (making : Making) (drawn : Drawn) → IsTask words (Draw making drawn) →
     DrawsFile words × (drawn.count ≡ drawn_count words) × (drawn.start ≡ drawn_start words) ×
     (drawn.text ≡ asks_text words) × (making.workers ≡ worker_count words)
-unfolding asks_drawn drawn_count drawn_start asks_text worker_count
-draws_file words making drawn k = (k.1, k.2, k.3, k.4, k.0.workers)
+unfolding kind_of_words drawn_count drawn_start asks_text worker_count
+draw_task words making drawn k = (k.1, k.2, k.3, k.4, k.0.workers)

@@ -21,12 +21,12 @@ use Rattle.clap.specs.declared.builder.value_parser.ValueParser.TheVariants.{Sig
 use Rattle.std.proofs.lemmas.Bool.Decides.{nat_tests}
 use Rattle.text_readings.proofs.Cited.{no_minus}
 use Rattle.cell_store.specs.Grids.{is_grid_size}
-use Rattle.command_words.specs.Words.{SayGen, SayGenText, SayMeshing, SayPartsAt, DrawsFile, ReadsFile, asked_alpha}
-use Rattle.command_words.specs.Words.{asked_index, asked_most, asks_check, asks_drawn, asks_near, asks_parts}
-use Rattle.command_words.specs.Words.{asks_shape, asks_steps, asks_text, drawn_count, drawn_start, given_of, grid_size}
-use Rattle.command_words.specs.Words.{has_flag, is_command, most_alpha, most_count, most_grid, most_index, most_start}
-use Rattle.command_words.specs.Words.{most_workers, number_between, number_of, program, texts_of, worker_count}
-use Rattle.command_words.specs.Words.{AreWordsTaken}
+use Rattle.command_words.specs.Words.{SayGen, SayGenText, SayMeshing, SayPartsAt, DrawsFile, Draws, Kind, Parts}
+use Rattle.command_words.specs.Words.{Queries, Reports, Steps, WritesParts, asked_alpha, asked_index, asked_most}
+use Rattle.command_words.specs.Words.{asks_shape, asks_text, drawn_count, drawn_start, given_of, grid_size, has_flag}
+use Rattle.command_words.specs.Words.{is_command, kind_met, kind_of_words, most_alpha, most_count, most_grid}
+use Rattle.command_words.specs.Words.{most_index, most_start, most_workers, number_between, number_of, program}
+use Rattle.command_words.specs.Words.{texts_of, worker_count, AreWordsTaken}
 
 -- ---- the decimal text of a number
 
@@ -100,6 +100,13 @@ word_faults least most taken = or_else (or_else (cond taken [] (refused_kind (Si
 both_faults : Kinds → Kinds → Kinds
 both_faults a b = or_else (or_else (or_else a (or_else b [])) []) []
 
+-- where both texts are taken, there are none
+both_taken : (least most from to : ℕ) (x y : Bool) → x ≡ true → y ≡ true →
+    both_faults (word_faults least most x) (word_faults from to y) ≡ []
+unfolding word_faults both_faults
+both_taken least most from to x y e k =
+    ap₂ (λ (x y : Bool). both_faults (word_faults least most x) (word_faults from to y)) e k
+
 -- the words `gen`, a count, a start, and what follows
 gen_texts : Text → Text → Text → List Text → List Text
 gen_texts name count start rest = name ∷ codes "gen" ∷ (codes "--count=" ++ count) ∷ (codes "--start=" ++ start) ∷ rest
@@ -111,7 +118,7 @@ AreFoundGen words c s text =
     (is_signed_in (pos 0) (pos most_count) c ≡ true → is_signed_in (pos 0) (pos most_start) s ≡ true →
     fault_of program words ≡ [])
     × (number_of (codes "grid") 1 most_grid (subcommand_of program words) ≡ 4) ×
-    (is_command (codes "gen") (subcommand_of program words) ≡ true)
+    (kind_met (subcommand_of program words) ≡ Draws)
     × (number_of (codes "count") 0 most_count (subcommand_of program words) ≡ number_between 0 most_count c)
     × (number_of (codes "start") 0 most_start (subcommand_of program words) ≡ number_between 0 most_start s)
     × (has_flag (codes "text") (subcommand_of program words) ≡ text)
@@ -119,35 +126,19 @@ AreFoundGen words c s text =
 -- without `--text` they are found to be these
 gen_found : (name c s : Text) → AreFoundGen (gen_texts name c s []) c s false
 unfolding clap_on_literals word_faults both_faults gen_texts
-gen_found name c s = (
-  λ e k. ap₂ (λ (x y : Bool). both_faults (word_faults 0 most_count x) (word_faults 0 most_start y))
-      e k,
-  refl,
-  refl,
-  refl,
-  refl,
-  refl,
-)
+gen_found name c s = (both_taken 0 most_count 0 most_start _ _, refl, refl, refl, refl, refl)
 
 -- and with it
 gen_text_found : (name c s : Text) → AreFoundGen (gen_texts name c s (codes "--text" ∷ [])) c s true
 unfolding clap_on_literals word_faults both_faults gen_texts
-gen_text_found name c s = (
-  λ e k. ap₂ (λ (x y : Bool). both_faults (word_faults 0 most_count x)
-      (word_faults 0 most_start y)) e k,
-  refl,
-  refl,
-  refl,
-  refl,
-  refl,
-)
+gen_text_found name c s = (both_taken 0 most_count 0 most_start _ _, refl, refl, refl, refl, refl)
 
 -- so they are taken, and ask for the file of the count and the start
 gen_asked : (words : List (String Global)) (texts : List Text) (count start : ℕ) (text : Bool) → count ≤ most_count →
     start ≤ most_start → texts_of words ≡ texts → AreFoundGen texts (decimal count) (decimal start) text →
     AreWordsTaken words × DrawsFile words × (drawn_count words ≡ count) × (drawn_start words ≡ start) ×
     (asks_text words ≡ text)
-unfolding AreWordsTaken grid_size asks_drawn drawn_count drawn_start asks_text
+unfolding AreWordsTaken grid_size kind_of_words drawn_count drawn_start asks_text
 gen_asked words texts count start text few small e found =
     let f = subst (λ (w : List Text). AreFoundGen w (decimal count) (decimal start) text) (sym e) found in (
       (
@@ -202,10 +193,7 @@ AreFoundParts words a m i =
     is_signed_in (pos 0) (pos most_index) i ≡ true → fault_of program words ≡ [])
     × (number_of (codes "workers") 1 most_workers (subcommand_of program words) ≡ 1)
     × (number_of (codes "grid") 1 most_grid (subcommand_of program words) ≡ 4)
-    × (is_command (codes "gen") (subcommand_of program words) ≡ false)
-    × (is_command (codes "check") (subcommand_of program words) ≡ false)
-    × (is_command (codes "steps") (subcommand_of program words) ≡ false)
-    × (is_command (codes "parts") (subcommand_of program words) ≡ true)
+    × (kind_met (subcommand_of program words) ≡ Parts)
     × (number_of (codes "alpha") 0 most_alpha (subcommand_of program words) ≡ number_between 0 most_alpha a)
     × (number_of (codes "most") 0 most_index (subcommand_of program words) ≡ number_between 0 most_index m)
     × (given_of (codes "off") most_index (subcommand_of program words) ≡ Some (number_between 0 most_index i))
@@ -225,21 +213,15 @@ parts_at_found name a m i = (
   refl,
   refl,
   refl,
-  refl,
-  refl,
-  refl,
 )
 
 -- so they are taken, and ask for the parts at the alpha, the most parts and the index
 parts_asked_at : (words : List (String Global)) (texts : List Text) (alpha most index : ℕ) → alpha ≤ most_alpha →
     most ≤ most_index → index ≤ most_index → texts_of words ≡ texts →
     AreFoundParts texts (decimal alpha) (decimal most) (decimal index) →
-    AreWordsTaken words × (worker_count words ≡ 1) × (grid_size words ≡ 4) × ReadsFile words
-    × (asks_steps words ≡ false)
-    × (asks_parts words ≡ true) × (asked_alpha words ≡ alpha) × (asked_most words ≡ most)
-    × (asked_index words ≡ Some index)
-unfolding AreWordsTaken grid_size worker_count asks_drawn asks_check asks_steps asks_parts asked_alpha
-    asked_most asked_index
+    AreWordsTaken words × WritesParts words × (worker_count words ≡ 1) × (grid_size words ≡ 4)
+    × (asked_alpha words ≡ alpha) × (asked_most words ≡ most) × (asked_index words ≡ Some index)
+unfolding AreWordsTaken grid_size worker_count kind_of_words asked_alpha asked_most asked_index
 parts_asked_at words texts alpha most index a m i e found =
     let f = subst (λ (w : List Text). AreFoundParts w (decimal alpha) (decimal most) (decimal index)) (sym e) found in (
       (
@@ -248,23 +230,19 @@ parts_asked_at words texts alpha most index a m i e found =
             (decimal_taken 0 most_index index (omega arith) i (omega arith)),
         ap is_grid_size f.2,
       ),
+      f.3,
       f.1,
       f.2,
-      (f.3, f.4),
-      f.5,
-      f.6,
-      f.7 ∙ decimal_named 0 most_alpha alpha (omega arith) a (omega arith),
-      f.8 ∙ decimal_named 0 most_index most (omega arith) m (omega arith),
-      f.9 ∙ ap (λ (n : ℕ). Some n) (decimal_named 0 most_index index (omega arith) i (omega arith)),
+      f.4 ∙ decimal_named 0 most_alpha alpha (omega arith) a (omega arith),
+      f.5 ∙ decimal_named 0 most_index most (omega arith) m (omega arith),
+      f.6 ∙ ap (λ (n : ℕ). Some n) (decimal_named 0 most_index index (omega arith) i (omega arith)),
     )
 
 -- the words `parts`, `--alpha=A`, `--most=K` and `--off=I` ask for A, K and I
 pub parts_at_words : (words : List (String Global)) (alpha most index : ℕ) → alpha ≤ most_alpha → most ≤ most_index →
     index ≤ most_index → SayPartsAt alpha most index words →
-    AreWordsTaken words × (worker_count words ≡ 1) × (grid_size words ≡ 4) × ReadsFile words
-    × (asks_steps words ≡ false)
-    × (asks_parts words ≡ true) × (asked_alpha words ≡ alpha) × (asked_most words ≡ most)
-    × (asked_index words ≡ Some index)
+    AreWordsTaken words × WritesParts words × (worker_count words ≡ 1) × (grid_size words ≡ 4)
+    × (asked_alpha words ≡ alpha) × (asked_most words ≡ most) × (asked_index words ≡ Some index)
 unfolding parts_texts
 parts_at_words words alpha most index a m i w = parts_asked_at words
     (parts_texts w.0 (decimal alpha) (decimal most) (decimal index)) alpha most index a m i w.1
@@ -285,130 +263,65 @@ meshing_texts : Text → Text → Text → Text → List Text
 meshing_texts name command workers grid = name ∷ command ∷ (codes "--workers=" ++ workers) ∷ (codes "--grid=" ++ grid) ∷
     []
 
--- what the words are found to be: with no fault, a command that reads a file, its workers and its grid, `shape` or not,
--- `steps` or not, `parts` or not, and `near` or not
-abbrev AreFoundMeshing : List Text → Text → Text → Bool → Bool → Bool → Bool → Type 0
-AreFoundMeshing words w g shape steps parts near =
+-- what the words are found to be: with no fault, a command of a kind, its workers and its grid, and `shape` or not
+abbrev AreFoundMeshing : List Text → Text → Text → Bool → Kind → Type 0
+AreFoundMeshing words w g shape kind =
     (is_signed_in (pos 1) (pos most_workers) w ≡ true → is_signed_in (pos 1) (pos most_grid) g ≡ true →
     fault_of program words ≡ [])
-    × (is_command (codes "gen") (subcommand_of program words) ≡ false)
-    × (is_command (codes "check") (subcommand_of program words) ≡ false)
     × (number_of (codes "workers") 1 most_workers (subcommand_of program words) ≡ number_between 1 most_workers w)
     × (number_of (codes "grid") 1 most_grid (subcommand_of program words) ≡ number_between 1 most_grid g)
     × (is_command (codes "shape") (subcommand_of program words) ≡ shape)
-    × (is_command (codes "steps") (subcommand_of program words) ≡ steps)
-    × (is_command (codes "parts") (subcommand_of program words) ≡ parts)
-    × (is_command (codes "near") (subcommand_of program words) ≡ near)
+    × (kind_met (subcommand_of program words) ≡ kind)
 
 -- with `mesh` they are found to be these
-mesh_found : (name w g : Text) → AreFoundMeshing (meshing_texts name (codes "mesh") w g) w g false false false false
+mesh_found : (name w g : Text) → AreFoundMeshing (meshing_texts name (codes "mesh") w g) w g false Reports
 unfolding clap_on_literals word_faults both_faults meshing_texts
-mesh_found name w g = (
-  λ e k. ap₂ (λ (x y : Bool). both_faults (word_faults 1 most_workers x)
-      (word_faults 1 most_grid y)) e k,
-  refl,
-  refl,
-  refl,
-  refl,
-  refl,
-  refl,
-  refl,
-  refl,
-)
+mesh_found name w g = (both_taken 1 most_workers 1 most_grid _ _, refl, refl, refl, refl)
 
 -- with `shape`
-shape_found : (name w g : Text) → AreFoundMeshing (meshing_texts name (codes "shape") w g) w g true false false false
+shape_found : (name w g : Text) → AreFoundMeshing (meshing_texts name (codes "shape") w g) w g true Reports
 unfolding clap_on_literals word_faults both_faults meshing_texts
-shape_found name w g = (
-  λ e k. ap₂ (λ (x y : Bool). both_faults (word_faults 1 most_workers x)
-      (word_faults 1 most_grid y)) e k,
-  refl,
-  refl,
-  refl,
-  refl,
-  refl,
-  refl,
-  refl,
-  refl,
-)
+shape_found name w g = (both_taken 1 most_workers 1 most_grid _ _, refl, refl, refl, refl)
 
 -- with `steps`
-steps_found : (name w g : Text) → AreFoundMeshing (meshing_texts name (codes "steps") w g) w g false true false false
+steps_found : (name w g : Text) → AreFoundMeshing (meshing_texts name (codes "steps") w g) w g false Steps
 unfolding clap_on_literals word_faults both_faults meshing_texts
-steps_found name w g = (
-  λ e k. ap₂ (λ (x y : Bool). both_faults (word_faults 1 most_workers x)
-      (word_faults 1 most_grid y)) e k,
-  refl,
-  refl,
-  refl,
-  refl,
-  refl,
-  refl,
-  refl,
-  refl,
-)
+steps_found name w g = (both_taken 1 most_workers 1 most_grid _ _, refl, refl, refl, refl)
 
 -- with `parts`
-parts_found : (name w g : Text) → AreFoundMeshing (meshing_texts name (codes "parts") w g) w g false false true false
+parts_found : (name w g : Text) → AreFoundMeshing (meshing_texts name (codes "parts") w g) w g false Parts
 unfolding clap_on_literals word_faults both_faults meshing_texts
-parts_found name w g = (
-  λ e k. ap₂ (λ (x y : Bool). both_faults (word_faults 1 most_workers x)
-      (word_faults 1 most_grid y)) e k,
-  refl,
-  refl,
-  refl,
-  refl,
-  refl,
-  refl,
-  refl,
-  refl,
-)
+parts_found name w g = (both_taken 1 most_workers 1 most_grid _ _, refl, refl, refl, refl)
 
 -- with `near`
-near_found : (name w g : Text) → AreFoundMeshing (meshing_texts name (codes "near") w g) w g false false false true
+near_found : (name w g : Text) → AreFoundMeshing (meshing_texts name (codes "near") w g) w g false Queries
 unfolding clap_on_literals word_faults both_faults meshing_texts
-near_found name w g = (
-  λ e k. ap₂ (λ (x y : Bool). both_faults (word_faults 1 most_workers x)
-      (word_faults 1 most_grid y)) e k,
-  refl,
-  refl,
-  refl,
-  refl,
-  refl,
-  refl,
-  refl,
-  refl,
-)
+near_found name w g = (both_taken 1 most_workers 1 most_grid _ _, refl, refl, refl, refl)
 
 -- so they are taken, and ask for these workers and this grid
-abbrev AreAskedMeshing : List (String Global) → ℕ → ℕ → Bool → Bool → Bool → Bool → Type 0
-AreAskedMeshing words workers grid shape steps parts near =
+abbrev AreAskedMeshing : List (String Global) → ℕ → ℕ → Bool → Kind → Type 0
+AreAskedMeshing words workers grid shape kind =
     AreWordsTaken words × (worker_count words ≡ workers) × (grid_size words ≡ grid) × (asks_shape words ≡ shape) ×
-    ReadsFile words × (asks_steps words ≡ steps) × (asks_parts words ≡ parts) ×
-    (asks_near words ≡ near)
+    (kind_of_words words ≡ kind)
 
 -- words that are found to be these are taken, and ask for that
-meshing_asked : (words : List (String Global)) (texts : List Text) (workers grid : ℕ) (shape steps parts near : Bool) →
+meshing_asked : (words : List (String Global)) (texts : List Text) (workers grid : ℕ) (shape : Bool) (kind : Kind) →
     0 < workers → workers ≤ most_workers → is_grid_size grid ≡ true → texts_of words ≡ texts
-    → AreFoundMeshing texts (decimal workers) (decimal grid) shape steps parts near →
-    AreAskedMeshing words workers grid shape steps parts near
-unfolding AreWordsTaken asks_drawn asks_check worker_count grid_size asks_shape asks_steps asks_parts asks_near
-meshing_asked words texts workers grid shape steps parts near some few size e found =
-    let f = subst (λ (w : List Text). AreFoundMeshing w (decimal workers) (decimal grid) shape steps parts near) (sym e)
-    found in
-    let sized = f.4 ∙ decimal_named 1 most_grid grid (grid_above grid size) (grid_below grid size) (omega arith) in (
+    → AreFoundMeshing texts (decimal workers) (decimal grid) shape kind →
+    AreAskedMeshing words workers grid shape kind
+unfolding AreWordsTaken kind_of_words worker_count grid_size asks_shape
+meshing_asked words texts workers grid shape kind some few size e found =
+    let f = subst (λ (w : List Text). AreFoundMeshing w (decimal workers) (decimal grid) shape kind) (sym e) found in
+    let sized = f.2 ∙ decimal_named 1 most_grid grid (grid_above grid size) (grid_below grid size) (omega arith) in (
       (
         f.0 (decimal_taken 1 most_workers workers (omega (arith, some)) few (omega arith))
             (decimal_taken 1 most_grid grid (grid_above grid size) (grid_below grid size) (omega arith)),
         ap is_grid_size sized ∙ size,
       ),
-      f.3 ∙ decimal_named 1 most_workers workers (omega (arith, some)) few (omega arith),
+      f.1 ∙ decimal_named 1 most_workers workers (omega (arith, some)) few (omega arith),
       sized,
-      f.5,
-      (f.1, f.2),
-      f.6,
-      f.7,
-      f.8,
+      f.3,
+      f.4,
     )
 
 -- the words `mesh`, `shape`, `steps`, `parts` or `near`, `--workers=N` and `--grid=M` ask for N workers and a grid of
@@ -416,36 +329,31 @@ meshing_asked words texts workers grid shape steps parts near some few size e fo
 module _ (words : List (String Global)) (workers grid : ℕ) (some : 0 < workers) (few : workers ≤ most_workers)
     (size : is_grid_size grid ≡ true) where
   -- `mesh` with workers and a grid
-  pub mesh_workers_words : SayMeshing (codes "mesh") workers grid words →
-      AreAskedMeshing words workers grid false false false false
+  pub mesh_workers_words : SayMeshing (codes "mesh") workers grid words → AreAskedMeshing words workers grid false Reports
   unfolding meshing_texts
   mesh_workers_words m = meshing_asked words (meshing_texts m.0 (codes "mesh") (decimal workers) (decimal grid))
-      workers grid false false false false some few size m.1 (mesh_found m.0 (decimal workers) (decimal grid))
+      workers grid false Reports some few size m.1 (mesh_found m.0 (decimal workers) (decimal grid))
 
   -- `shape`
-  pub shape_workers_words : SayMeshing (codes "shape") workers grid words →
-      AreAskedMeshing words workers grid true false false false
+  pub shape_workers_words : SayMeshing (codes "shape") workers grid words → AreAskedMeshing words workers grid true Reports
   unfolding meshing_texts
   shape_workers_words m = meshing_asked words (meshing_texts m.0 (codes "shape") (decimal workers) (decimal grid))
-      workers grid true false false false some few size m.1 (shape_found m.0 (decimal workers) (decimal grid))
+      workers grid true Reports some few size m.1 (shape_found m.0 (decimal workers) (decimal grid))
 
   -- `steps`
-  pub steps_workers_words : SayMeshing (codes "steps") workers grid words →
-      AreAskedMeshing words workers grid false true false false
+  pub steps_workers_words : SayMeshing (codes "steps") workers grid words → AreAskedMeshing words workers grid false Steps
   unfolding meshing_texts
   steps_workers_words m = meshing_asked words (meshing_texts m.0 (codes "steps") (decimal workers) (decimal grid))
-      workers grid false true false false some few size m.1 (steps_found m.0 (decimal workers) (decimal grid))
+      workers grid false Steps some few size m.1 (steps_found m.0 (decimal workers) (decimal grid))
 
   -- `parts`
-  pub parts_workers_words : SayMeshing (codes "parts") workers grid words →
-      AreAskedMeshing words workers grid false false true false
+  pub parts_workers_words : SayMeshing (codes "parts") workers grid words → AreAskedMeshing words workers grid false Parts
   unfolding meshing_texts
   parts_workers_words m = meshing_asked words (meshing_texts m.0 (codes "parts") (decimal workers) (decimal grid))
-      workers grid false false true false some few size m.1 (parts_found m.0 (decimal workers) (decimal grid))
+      workers grid false Parts some few size m.1 (parts_found m.0 (decimal workers) (decimal grid))
 
   -- `near`
-  pub near_workers_words : SayMeshing (codes "near") workers grid words →
-      AreAskedMeshing words workers grid false false false true
+  pub near_workers_words : SayMeshing (codes "near") workers grid words → AreAskedMeshing words workers grid false Queries
   unfolding meshing_texts
   near_workers_words m = meshing_asked words (meshing_texts m.0 (codes "near") (decimal workers) (decimal grid))
-      workers grid false false false true some few size m.1 (near_found m.0 (decimal workers) (decimal grid))
+      workers grid false Queries some few size m.1 (near_found m.0 (decimal workers) (decimal grid))

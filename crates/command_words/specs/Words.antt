@@ -1,6 +1,6 @@
 -- The command line, as `clap` reads it.
-use Rattle.std.specs.Prelude.{◌≡◌, ℕ, List, [], ◌∷◌, ◌++◌, Bool, true, false, pos, Option, None, Some, codes, decimal}
-use Rattle.std.specs.Prelude.{map, string_bytes, String, if◌then◌else◌}
+use Rattle.std.specs.Prelude.{◌≡◌, ◌≢◌, ℕ, List, [], ◌∷◌, ◌++◌, Bool, true, false, pos, Option, None, Some, codes}
+use Rattle.std.specs.Prelude.{map, decimal, string_bytes, String, if◌then◌else◌}
 use Rattle.std.specs.Option.{option_map, option_map_or}
 use Rattle.std.specs.Str.{bytes_eq}
 use Rattle.std.specs.Str.Parse.{digits_value, without_leading_plus}
@@ -207,27 +207,7 @@ is_command name met = option_map_or (λ found. bytes_eq found.0 name) met false
 unfoldable pub asks_shape : List (String Global) → Bool
 asks_shape words = is_command (codes "shape") (subcommand_of program (texts_of words))
 
--- the words ask for the least alphas
-unfoldable pub asks_steps : List (String Global) → Bool
-asks_steps words = is_command (codes "steps") (subcommand_of program (texts_of words))
-
--- the words ask for the solid parts
-unfoldable pub asks_parts : List (String Global) → Bool
-asks_parts words = is_command (codes "parts") (subcommand_of program (texts_of words))
-
--- the words ask for the nearest points to queries
-unfoldable pub asks_near : List (String Global) → Bool
-asks_near words = is_command (codes "near") (subcommand_of program (texts_of words))
-
--- the words ask for a verdict on a mesh
-unfoldable pub asks_check : List (String Global) → Bool
-asks_check words = is_command (codes "check") (subcommand_of program (texts_of words))
-
--- the words ask for a file that is drawn, and not for one that is read
-unfoldable pub asks_drawn : List (String Global) → Bool
-asks_drawn words = is_command (codes "gen") (subcommand_of program (texts_of words))
-
--- they ask for its text
+-- the words ask for the text of a file that is drawn
 unfoldable pub asks_text : List (String Global) → Bool
 asks_text words = has_flag (codes "text") (subcommand_of program (texts_of words))
 
@@ -292,13 +272,22 @@ pub data Kind : Type 0 where
   Checks : Kind
   Draws : Kind
 
+-- what the command of this name does
+abbrev pub kind_named : Text → Kind
+kind_named name =
+    if bytes_eq name (codes "gen") then Draws
+    else (if bytes_eq name (codes "check") then Checks
+    else (if bytes_eq name (codes "steps") then Steps
+    else (if bytes_eq name (codes "parts") then Parts
+    else (if bytes_eq name (codes "near") then Queries else Reports))))
+
+-- what the command that was met does
+abbrev pub kind_met : Option (Text × List Row) → Kind
+kind_met met = option_map_or (λ found. kind_named found.0) met Reports
+
 -- what the command of the words does
-abbrev pub kind_of_words : List (String Global) → Kind
-kind_of_words words =
-    if asks_drawn words then Draws
-    else (if asks_check words then Checks
-    else (if asks_steps words then Steps
-    else (if asks_parts words then Parts else (if asks_near words then Queries else Reports))))
+unfoldable pub kind_of_words : List (String Global) → Kind
+kind_of_words words = kind_met (subcommand_of program (texts_of words))
 
 -- the report of a file is written
 abbrev pub WritesReport : List (String Global) → Type 0
@@ -318,11 +307,11 @@ WritesNear words = kind_of_words words ≡ Queries
 
 -- the source is read
 abbrev pub ReadsSource : List (String Global) → Type 0
-ReadsSource words = asks_drawn words ≡ false
+ReadsSource words = kind_of_words words ≢ Draws
 
 -- an edit file is read
 abbrev pub ReadsFile : List (String Global) → Type 0
-ReadsFile words = ReadsSource words × (asks_check words ≡ false)
+ReadsFile words = ReadsSource words × (kind_of_words words ≢ Checks)
 
 -- the text of a mesh is read, and judged
 abbrev pub ReadsMesh : List (String Global) → Type 0
@@ -330,4 +319,4 @@ ReadsMesh words = kind_of_words words ≡ Checks
 
 -- a file is drawn, and the source is not read
 abbrev pub DrawsFile : List (String Global) → Type 0
-DrawsFile words = asks_drawn words ≡ true
+DrawsFile words = kind_of_words words ≡ Draws

@@ -6,10 +6,11 @@ use Rattle.edit_history.specs.declared.history.Entry.{Entry}
 use Rattle.mesh_reader.proofs.Cited.{no_fault_of_mesh}
 use Rattle.command_words.specs.declared.stop.Stop.{Stop}
 use Rattle.command_words.specs.declared.stop.Stop.TheVariants.{Memory, ReadFault, BadLine, TooLong}
-use Rattle.command_pages.specs.Checked.{CheckEnds, IsChecked, IsMeshVerdict, IsUnchecked, TellsVerdict}
+use Rattle.command_pages.specs.Checked.{CheckEnds, IsChecked, IsMeshVerdict, IsUnchecked, TellsVerdict, checking}
 use Rattle.command_pages.specs.Statuses.{HasText, IsEarly, IsWrittenWhole}
 use Rattle.command_words.specs.Stops.{status_of}
-use Rattle.delaunay_cli.proofs.TextStatuses.{early_only, no_other, stopped_only, whole_only}
+use Rattle.delaunay_cli.proofs.Carried.{IsCarried}
+use Rattle.delaunay_cli.proofs.TextStatuses.{IsOfNothing, early_only, no_other, stopped_only, whole_only}
 
 -- the status of a verdict is that of a whole text
 tells_verdict : (late : ℕ) → TellsVerdict late → IsWrittenWhole late
@@ -56,9 +57,8 @@ unchecked_five left failed TooLong s = inr refl
 unchecked_five left failed stop s = absurd s
 
 -- so it is at most 7, none of 0, 2 and 4, and 3 only where the source failed
-pub status_unchecked : (left : Option (List ℕ)) (failed : Type 0) (stop : Stop) → IsUnchecked left failed stop →
-    (status_of stop ≤ 7) × (status_of stop ≢ 0) × (status_of stop ≢ 2) × (status_of stop ≢ 4) ×
-    (status_of stop ≡ 3 → failed)
+status_unchecked : (left : Option (List ℕ)) (failed : Type 0) (stop : Stop) → IsUnchecked left failed stop →
+    IsOfNothing failed (status_of stop)
 status_unchecked left failed ReadFault s = (
   omega arith,
   λ e. omega (arith, e),
@@ -124,7 +124,7 @@ module _ (left : Option (List ℕ)) where
       }
 
   -- so where it was told, however the write ended
-  pub check_made : (late : ℕ) (h : List Entry) (text : List ℕ) → TellsVerdict late → h ≡ [] →
+  check_made : (late : ℕ) (h : List Entry) (text : List ℕ) → TellsVerdict late → h ≡ [] →
       IfSome left (IsChecked late text) → (status : ℕ) → (status ≡ late) ⊎ ((status ≡ 4) × (text ≢ [])) →
       CheckEnds left status h text
   check_made late h text t n m status (inl e) =
@@ -132,7 +132,7 @@ module _ (left : Option (List ℕ)) where
   check_made late h text t n m status (inr f) = check_cut status late h text n m f.0
 
   -- where none was
-  pub check_unmade : (failed : Type 0) (stop : Stop) → IsUnchecked left failed stop →
+  check_unmade : (failed : Type 0) (stop : Stop) → IsUnchecked left failed stop →
       CheckEnds left (status_of stop) [] []
   check_unmade failed stop u =
       let n = status_unchecked left failed stop u in
@@ -145,7 +145,7 @@ module _ (left : Option (List ℕ)) where
       }
 
   -- and where the run ended early
-  pub check_early : (status : ℕ) → (status ≡ 1) ⊎ (status ≡ 2) → CheckEnds left status [] []
+  check_early : (status : ℕ) → (status ≡ 1) ⊎ (status ≡ 2) → CheckEnds left status [] []
   check_early status s =
       record {
         statuses = inl (elim s [ inl z ↦ omega (arith, z) | inr z ↦ omega (arith, z) ]);
@@ -154,3 +154,14 @@ module _ (left : Option (List ℕ)) where
         made = λ k. absurd (early_only status s (inl k));
         cut = λ k. absurd (early_only status s (inr k));
       }
+
+-- so the promise of `check` is carried
+pub check_carried : IsCarried checking
+check_carried =
+    record {
+      made = λ words left late h text m status s. check_made left late h text m.0 m.1 m.2 status s;
+      unmade = λ words left failed stop u. check_unmade left failed stop u;
+      early = λ words left status s. check_early left status s;
+      stops = λ left failed stop u. status_unchecked left failed stop u;
+      told = λ left failed line u. u.0;
+    }

@@ -9,17 +9,17 @@ use Rattle.edit_history.specs.Histories.{IsLegal}
 use Rattle.command_pages.specs.declared.made.Made.{Made}
 use Rattle.command_words.specs.declared.stop.Stop.{Stop}
 use Rattle.command_words.specs.declared.stop.Stop.TheVariants.{Memory, Usage, WriteFault, BadLine}
-use Rattle.delaunay_cli.specs.Commands.{Promise}
-use Rattle.delaunay_cli.specs.Ends.{Ends, IsMadeOfWords, IsPutOut, IsUnmade}
+use Rattle.delaunay_cli.specs.Commands.{command_of_words}
+use Rattle.delaunay_cli.specs.Ends.{Ends, IsMadeOfWords, IsPutOut, IsToldLine, IsUnmade}
 use Rattle.command_pages.specs.Page.{IsFitToWrite, text_of_page}
-use Rattle.command_pages.specs.Run.{ReadsTo, limit_of}
-use Rattle.command_pages.specs.Statuses.{HasText, IsToldLine, IsWrittenWhole}
+use Rattle.command_pages.specs.Run.{ReadsTo}
+use Rattle.command_pages.specs.Statuses.{HasText, IsWrittenWhole}
 use Rattle.command_words.specs.Stops.{plain_line, line_of_stop, line_of_end, status_of, status_of_end, status_of_made}
 use Rattle.command_words.specs.Words.{ReadsSource, AreWordsTaken, kind_of_words}
 use Rattle.command_pages.proofs.Cited.{reads_front}
-use Rattle.delaunay_cli.proofs.TextStatuses.{no_other, stopped_only, whole_only}
-use Rattle.delaunay_cli.proofs.CommandPromises.{promise_made, promise_unmade, promise_early, status_unmade, fault_told}
-use Rattle.delaunay_cli.proofs.CommandPromises.{late_whole}
+use Rattle.delaunay_cli.proofs.Carried.{IsCarried}
+use Rattle.delaunay_cli.proofs.CommandPromises.{carried}
+use Rattle.delaunay_cli.proofs.TextStatuses.{late_whole, no_other, stopped_only, whole_only}
 
 -- where memory is wanting once all is read, nothing changes of that
 reads_stopped : (limit : ℕ) (old new : Option (List ℕ)) → ReadsTo limit old new 0 → ReadsTo limit old new 1
@@ -34,14 +34,18 @@ reads_stopped limit old new r = record {
 
 module _ (words : List (String Global)) (left_old left_new : Option (List ℕ)) (read_failed : Type 0)
     (held holds : Option (List ℕ)) (write_failed : Type 0) where
+  -- the promise of the command of the words holds
+  carried_of : IsCarried (command_of_words words)
+  carried_of = carried (kind_of_words words)
+
   -- how much was read, where the source is
   abbrev HasRead : ℕ → Type 0
-  HasRead status = ReadsSource words → ReadsTo (limit_of (kind_of_words words)) left_old left_new status
+  HasRead status = ReadsSource words → ReadsTo (command_of_words words).limit left_old left_new status
 
   -- a run that stopped before a write
   unmade : (status : ℕ) → (status ≤ 7) × (status ≢ 0) × (status ≢ 4) →
       (status ≢ 1 → status ≡ 2 ↔ (AreWordsTaken words → ⊥)) → (status ≡ 3 → read_failed)
-      → Promise (kind_of_words words) words left_old status [] [] → HasRead status →
+      → (command_of_words words).ends words left_old status [] [] → HasRead status →
       Keeps held holds
       → Ends words left_old left_new read_failed held holds write_failed status []
   unmade status n usage read promise reads keeps =
@@ -67,14 +71,14 @@ module _ (words : List (String Global)) (left_old left_new : Option (List ℕ)) 
       → Ends words left_old left_new read_failed held holds write_failed (status_of stop) []
   stopped Memory s reads keeps =
       unmade 1 (omega arith, λ e. omega (arith, e), λ e. omega (arith, e)) (λ n. absurd (n refl))
-      (λ e. absurd (omega (arith, e))) (promise_early (kind_of_words words) words left_old 1 (inl refl)) reads keeps
+      (λ e. absurd (omega (arith, e))) (carried_of.early words left_old 1 (inl refl)) reads keeps
   stopped Usage s reads keeps =
       unmade 2 (omega arith, λ e. omega (arith, e), λ e. omega (arith, e)) (λ n. (λ e. s, λ k. refl))
-      (λ e. absurd (omega (arith, e))) (promise_early (kind_of_words words) words left_old 2 (inr refl)) reads keeps
+      (λ e. absurd (omega (arith, e))) (carried_of.early words left_old 2 (inr refl)) reads keeps
   stopped stop s reads keeps =
-      let n = status_unmade (kind_of_words words) left_old read_failed stop s.1 in
+      let n = carried_of.stops left_old read_failed stop s.1 in
       unmade (status_of stop) (n.0, n.1, n.3) (λ k. (λ e. absurd (n.2 e), λ t. absurd (t s.0))) n.4
-      (promise_unmade (kind_of_words words) words left_old read_failed stop s.1) reads keeps
+      (carried_of.unmade words left_old read_failed stop s.1) reads keeps
 
   -- a run that wrote
   made : (late : ℕ) (h : List Entry) (text : List ℕ) → IsLegal h → IsMadeOfWords words left_old late h text →
@@ -96,7 +100,7 @@ module _ (words : List (String Global)) (left_old left_new : Option (List ℕ)) 
         to_its_end = λ r e. end r;
         legal = legal;
         text = text;
-        promise = promise_made (kind_of_words words) words left_old late h text m.1 status s;
+        promise = carried_of.made words left_old late h text m.1 status s;
         whole = whole;
         front = front;
         none_kept = λ k. absurd (k has);
@@ -133,20 +137,20 @@ module _ (words : List (String Global)) (left_old left_new : Option (List ℕ)) 
           let k = subst IsWrittenWhole (sym z) l.0 in
           kept w.1 (made (status_of_end v.after) v.kept.items (text_of_page v.page) sound.legal m (λ r. end r refl)
           status (inl z) (inl k) (subst (λ (n : ℕ). n ≤ 10) (sym z) l.1)
-          (λ r. reads_front (limit_of (kind_of_words words)) left_old left_new status (reads r)) (λ f. absurd
+          (λ r. reads_front (command_of_words words).limit left_old left_new status (reads r)) (λ f. absurd
           (whole_only status 4 k (omega arith) (omega arith) f)) (λ f. w.2)
           (λ f. absurd (whole_only status 4 k (omega arith) (omega arith) f)))
       by (inr (inl w)) =
           let z = e ∙ ap status_of_end w.0 in
           kept w.1 (made (status_of_end v.after) v.kept.items (text_of_page v.page) sound.legal m (λ r. end r refl)
           status (inr (z, w.4)) (inr z) (omega (arith, z))
-          (λ r. reads_front (limit_of (kind_of_words words)) left_old left_new status (reads r)) (λ f. w.2)
+          (λ r. reads_front (command_of_words words).limit left_old left_new status (reads r)) (λ f. w.2)
           (λ f. absurd (whole_only status 4 f (omega arith) (omega arith) z)) (λ f. w.3))
       by (inr (inr w)) =
           subst (λ (n : ℕ). Ends words left_old left_new read_failed held holds write_failed n h)
           (sym (e ∙ ap status_of_end w.0))
           (subst (λ (l : List Entry). Ends words left_old left_new read_failed held holds write_failed 1 l) (sym w.1)
-          (stopped Memory tt (λ r. reads_stopped (limit_of (kind_of_words words)) left_old left_new (reads r)) w.2))
+          (stopped Memory tt (λ r. reads_stopped (command_of_words words).limit left_old left_new (reads r)) w.2))
 
   -- and its line
   abbrev TheLine : ℕ → List ℕ → Type 0
@@ -166,7 +170,7 @@ module _ (words : List (String Global)) (left_old left_new : Option (List ℕ)) 
       by (BadLine line) u = record {
         plain = λ n. absurd (n refl);
         bad =
-            λ k. fault_told (kind_of_words words) left_old read_failed line u.1;
+            λ k. carried_of.told left_old read_failed line u.1;
       }
       by s u = record { plain = λ n. refl; bad = λ k. absurd (omega (arith, k)) }
   told (Ok v) stop status h sound u e put stopped_by = subst (λ (n : ℕ). TheLine n (line_of_end stop))

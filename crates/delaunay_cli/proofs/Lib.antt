@@ -1,6 +1,9 @@
 pub mod FilesRead
 pub mod TextStatuses
+pub mod Carried
 pub mod ChecksEnded
+pub mod FilePromises
+pub mod PartPromises
 pub mod CommandPromises
 pub mod Ended
 pub mod MadeAsAsked

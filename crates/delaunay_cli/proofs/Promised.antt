@@ -1,5 +1,5 @@
 -- What follows of a run that ended, command by command.
-use Rattle.std.specs.Prelude.{Option, None, Some, IfSome, String, suc, zero}
+use Rattle.std.specs.Prelude.{Option, None, Some, IfSome, String, suc, zero, ⊤}
 use Rattle.std.specs.declared.alloc.Global.{Global}
 use Rattle.edit_history.specs.declared.history.Entry.{Entry}
 use Rattle.edit_history.specs.Histories.{replay}
@@ -22,7 +22,7 @@ use Rattle.solid_parts.specs.Parts.{AreSolidParts}
 use Rattle.solid_parts.proofs.Cited.{same_count}
 use Rattle.alpha_complex.specs.Shapes.{shape_of}
 use Rattle.command_pages.specs.Checked.{CheckEnds}
-use Rattle.delaunay_cli.specs.Commands.{Promise}
+use Rattle.delaunay_cli.specs.Commands.{command_of}
 use Rattle.delaunay_cli.specs.Drawn.{DrawEnds, IsKeptOfDrawn, drawn_file}
 use Rattle.delaunay_cli.specs.Ends.{Ends}
 use Rattle.delaunay_cli.specs.PlainText.{plain_drawn, plain_text}
@@ -39,7 +39,8 @@ use Rattle.command_words.specs.Words.{Checks, Draws, DrawsFile, Kind, Parts, Que
 use Rattle.command_words.specs.Words.{Steps, WritesNear, WritesParts, WritesReport, WritesSteps, asked_alpha}
 use Rattle.command_words.specs.Words.{asked_index, asked_most, asks_order, asks_shape, asks_text, worker_count}
 use Rattle.command_words.specs.Words.{AreWordsTaken, kind_of_words}
-use Rattle.delaunay_cli.proofs.MadeAsAsked.{draws, kind_read, reading}
+use Rattle.delaunay_cli.proofs.CommandPromises.{of_bytes}
+use Rattle.delaunay_cli.proofs.MadeAsAsked.{reading}
 use Rattle.delaunay_cli.proofs.TextStatuses.{has_text, stopped_only}
 use Rattle.delaunay_cli.proofs.PlainTexts.{drawn_is_plain, kept_is_plain}
 
@@ -59,7 +60,7 @@ few kind status l = (
 
 -- what a command promises tells which statuses come
 up_to_10 : (kind : Kind) (words : List (String Global)) (left : Option (List ℕ)) (status : ℕ) (h : List Entry)
-    (text : List ℕ) → Promise kind words left status h text → IsUpTo kind status
+    (text : List ℕ) → (command_of kind).ends words left status h text → IsUpTo kind status
 unfolding IsUpTo
 up_to_10 Reports words left status h text p = few Reports status p.statuses
 up_to_10 Steps words left status h text p = few Steps status p.statuses
@@ -183,45 +184,44 @@ module _ {words : List (String Global)} {left left_after : Option (List ℕ)} {r
   pub no_text : status ≢ 0 → status ≢ 4 → status ≤ 7 → HasText status → ⊥
   no_text a b l = stopped_only status l a b
 
+  -- what a command of the kind of the words promises
+  of_kind : {kind : Kind} → kind_of_words words ≡ kind → (command_of kind).ends words left status kept e.text
+  of_kind w = subst (λ (kind : Kind). (command_of kind).ends words left status kept e.text) w e.promise
+
   -- what is promised of a report, of the least alphas, of parts, of queries, of a mesh, and of a drawn file
   pub of_report : WritesReport words → ReportEnds (worker_count words) (asks_shape words) (asks_order words) left status
       kept e.text
-  of_report w = subst (λ (kind : Kind). Promise kind words left status kept e.text) w e.promise
+  of_report w = of_kind w
 
   -- of the least alphas
   pub of_steps : WritesSteps words → StepEnds (worker_count words) left status kept e.text
-  of_steps w = subst (λ (kind : Kind). Promise kind words left status kept e.text) w e.promise
+  of_steps w = of_kind w
 
   -- of parts
   pub of_parts : WritesParts words → PartEnds (worker_count words) (asked_alpha words) (asked_most words)
       (asked_index words) left status kept e.text
-  of_parts w = subst (λ (kind : Kind). Promise kind words left status kept e.text) w e.promise
+  of_parts w = of_kind w
 
   -- of queries
   pub of_near : WritesNear words → QueryEnds (worker_count words) left status kept e.text
-  of_near w = subst (λ (kind : Kind). Promise kind words left status kept e.text) w e.promise
+  of_near w = of_kind w
 
   -- of a mesh
   pub of_check : ReadsMesh words → CheckEnds left status kept e.text
-  of_check w = subst (λ (kind : Kind). Promise kind words left status kept e.text) w e.promise
+  of_check w = of_kind w
 
   -- and of a drawn file
   pub of_drawn : DrawsFile words → DrawEnds (asks_text words) (worker_count words) (drawn_file words) status kept e.text
-  of_drawn d = subst (λ (kind : Kind). Promise kind words left status kept e.text) (draws words d) e.promise
+  of_drawn d = of_kind d
 
   -- what the statuses tell of the bytes
   verdict : ReadsFile words → (IsEarly status → ⊥) → IfSome left (TellsOfBytes status)
-  verdict w late = elim (kind_read words w) [
-    | inl k ↦ (of_report k).verdict late
-    | inr (inl k) ↦ (of_steps k).verdict late
-    | inr (inr (inl k)) ↦ (of_parts k).verdict late
-    | inr (inr (inr k)) ↦ (of_near k).verdict late
-  ]
+  verdict w late = (of_bytes (kind_of_words words) w.0 w.1).verdict words left status kept e.text e.promise late
 
   -- what follows of the verdict follows of the bytes that are read
-  pub of_bytes : (P : List ℕ → Type 0) → ((bytes : List ℕ) → TellsOfBytes status bytes → P bytes) → ReadsFile words →
+  pub of_verdict : (P : List ℕ → Type 0) → ((bytes : List ℕ) → TellsOfBytes status bytes → P bytes) → ReadsFile words →
       (IsEarly status → ⊥) → IfSome left P
-  of_bytes P f w late = if_some (TellsOfBytes status) P left f (verdict w late)
+  of_verdict P f w late = if_some (TellsOfBytes status) P left f (verdict w late)
 
   -- what is kept of the file
   pub of_one : (P Q : Content → Type 0) → ((file : Content) → IsKept file (worker_count words) kept → Q file → P file)
@@ -237,21 +237,8 @@ module _ {words : List (String Global)} {left left_after : Option (List ℕ)} {r
   pub of_kept : (P : Content → Type 0) → ((file : Content) → IsKept file (worker_count words) kept → P file)
       → ReadsFile words → HasText status → IfSome left
       (λ bytes. (file : Content) → IsFile file_limits bytes file → P file)
-  of_kept P f w s =
-      elim (kind_read words w) [
-        | inl k ↦ of_one P (λ file. e.text ≡ text_of_history (asks_shape words) (asks_order words) file kept)
-            (λ file k t. f file k) ((of_report k).made s)
-        | inr (inl k) ↦ of_one P (λ file. IsStepped (replay kept) e.text) (λ file k t. f file k) ((of_steps k).made s)
-        | inr (inr (inl k)) ↦ elim s [
-          | inl whole ↦ of_one P (λ file. told status) (λ file k t. f file k) ((of_parts k).made whole)
-          | inr four ↦ of_one P (λ file. told 0) (λ file k t. f file k) ((of_parts k).cut four)
-        ]
-        | inr (inr (inr k)) ↦ of_one P (λ file. IsQueried (replay kept) file.queries e.text) (λ file k t. f file k)
-            ((of_near k).made s)
-      ]
-    where
-      told : ℕ → Type 0
-      told n = IsParted (replay kept) (asked_alpha words) (asked_most words) (asked_index words) n e.text
+  of_kept P f w s = of_one P (λ file. ⊤) (λ file k t. f file k)
+      ((of_bytes (kind_of_words words) w.0 w.1).kept words left status kept e.text e.promise s)
 
   -- the answers to the queries of the file, whose text has become part of the output
   abbrev IsAnsweredIn : (List ℕ → Type 0) → Content → Type 0

@@ -1,5 +1,9 @@
 -- Which statuses are those of a text.
-use Rattle.std.proofs.Common.{◌≡◌, ◌≢◌, ◌⊎◌, inl, inr, sym, ◌∙◌, ℕ, ◌<◌, ◌≤◌, arith}
+use Rattle.std.specs.Prelude.{Option, None, Some}
+use Rattle.std.proofs.Common.{◌≡◌, ◌≢◌, ◌⊎◌, inl, inr, refl, sym, ◌∙◌, ℕ, ◌<◌, ◌≤◌, arith}
+use Rattle.command_words.specs.declared.stop.Stop.{Stop}
+use Rattle.command_words.specs.declared.stop.Stop.TheVariants.{NoPart, NoAlpha, BadMesh}
+use Rattle.command_words.specs.Stops.{plain_line, IsLate, line_of_end, status_of_end}
 use Rattle.command_pages.specs.Statuses.{HasText, IsWrittenWhole}
 
 -- a status with a text is 0, 4 or above 7
@@ -27,3 +31,18 @@ early_only status (inr z) k = no_other status k 2 (omega arith) (omega arith) (�
 pub whole_only : (status k : ℕ) → IsWrittenWhole status → 0 < k → k ≤ 7 → status ≡ k → ⊥
 whole_only status k (inl z) a b e = omega (arith, a, z, e)
 whole_only status k (inr l) a b e = omega (arith, b, l, e)
+
+-- a status with which nothing is made: one of 1, 3, 5, 6 and 7, and 3 only where the source failed
+abbrev pub IsOfNothing : Type 0 → ℕ → Type 0
+IsOfNothing failed status =
+    (status ≤ 7) × (status ≢ 0) × (status ≢ 2) × (status ≢ 4) × (status ≡ 3 → failed)
+
+-- what is told of it has a status of a whole text, and its own line
+pub late_whole : (after : Option Stop) → IsLate after → IsWrittenWhole (status_of_end after)
+    × (status_of_end after ≤ 10) ×
+    (line_of_end after ≡ plain_line (status_of_end after))
+late_whole None l = (inl refl, omega arith, refl)
+late_whole (Some NoPart) l = (inr (omega arith), omega arith, refl)
+late_whole (Some NoAlpha) l = (inr (omega arith), omega arith, refl)
+late_whole (Some BadMesh) l = (inr (omega arith), omega arith, refl)
+late_whole (Some stop) l = absurd l

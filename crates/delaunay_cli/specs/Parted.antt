@@ -9,8 +9,13 @@ use Rattle.solid_parts.specs.Boundary.{boundary_of}
 use Rattle.solid_parts.specs.LeastAlpha.{IsLeastAlpha}
 use Rattle.solid_parts.specs.Parts.{AreSolidParts}
 use Rattle.solid_parts.specs.Text.{parts_text}
-use Rattle.command_pages.specs.Files.{IsOfFile, TellsOfBytes}
+use Rattle.edit_files.specs.Faults.{IsFault}
+use Rattle.command_words.specs.Words.{asked_alpha, asked_index, asked_most, worker_count}
+use Rattle.command_pages.specs.Command.{Command}
+use Rattle.command_pages.specs.Files.{HasNoMesh, IsOfFile, TellsOfBytes}
+use Rattle.command_pages.specs.Run.{input_limit}
 use Rattle.command_pages.specs.Statuses.{IsEarly, IsWrittenWhole}
+use Rattle.command_pages.specs.Taken.{file_limits}
 
 -- The alpha at which the parts are taken: the one that is given, and where a most of parts above 0 is asked for, the
 -- least at which every point is in an admitted cell and there are at most so many; then there may be none.
@@ -73,3 +78,17 @@ pub record PartEnds (workers alpha most : ℕ) (index : Option ℕ) (left : Opti
   pub made : IsWrittenWhole status → IfSome left (IsPartedFile workers alpha most index status h text)
   pub cut : status ≡ 4 → IfSome left (IsPartedFile workers alpha most index 0 h text)
   pub nothing : 7 < status → text ≡ []
+
+-- The command.
+abbrev pub parting : Command
+parting =
+    record {
+      limit = input_limit;
+      is_fault = λ bytes fault. IsFault file_limits bytes fault;
+      makes = λ words left late h text. TellsParts late text
+          × IfSome left (IsPartedFile (worker_count words) (asked_alpha words) (asked_most words) (asked_index words)
+          late h text);
+      makes_none = λ left failed stop. HasNoMesh left failed stop;
+      ends = λ words left status h text. PartEnds (worker_count words) (asked_alpha words) (asked_most words)
+          (asked_index words) left status h text;
+    }

@@ -7,7 +7,8 @@ use Rattle.edit_files.specs.Content.{Content}
 use Rattle.near_vertex.specs.declared.answers.Near.{Near}
 use Rattle.near_vertex.specs.Answers.{AreNear}
 use Rattle.near_vertex.specs.Text.{near_text}
-use Rattle.command_pages.specs.Files.{FileEnds, IsOfFile}
+use Rattle.command_pages.specs.Command.{Command}
+use Rattle.command_pages.specs.Files.{FileEnds, IsOfFile, of_file}
 use Rattle.command_pages.specs.Run.{IsKept}
 
 -- The text is that of the answers to the queries, in their order: of each the nearest point of a set, and the square of
@@ -32,3 +33,7 @@ IsQueriedFile workers h text bytes = IsOfFile workers h (λ file. IsQueried (rep
 -- what a run that is to write this text promises of its end
 abbrev pub QueryEnds : ℕ → Option (List ℕ) → ℕ → List Entry → List ℕ → Type 0
 QueryEnds workers left status h text = FileEnds (IsQueriedFile workers h text) left status
+
+-- the command
+abbrev pub querying : Command
+querying = of_file (λ words h text file. IsQueried (replay h) file.queries text)

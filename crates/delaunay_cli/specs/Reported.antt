@@ -7,7 +7,9 @@ use Rattle.edit_files.specs.Content.{Content}
 use Rattle.mesh_files.specs.Text.{ReportParts}
 use Rattle.command_words.specs.declared.stop.Stop.{Stop}
 use Rattle.command_words.specs.declared.stop.Stop.TheVariants.{Memory, Flat}
-use Rattle.command_pages.specs.Files.{FileEnds, IsOfFile}
+use Rattle.command_words.specs.Words.{asks_order, asks_shape}
+use Rattle.command_pages.specs.Command.{Command}
+use Rattle.command_pages.specs.Files.{FileEnds, IsOfFile, of_file}
 use Rattle.command_pages.specs.Report.{report_of, text_of_history}
 use Rattle.command_pages.specs.Run.{IsKept}
 
@@ -35,3 +37,7 @@ IsReported workers shape order h text bytes = IsOfFile workers h (λ file. text
 -- what a run that is to write a report promises of its end
 abbrev pub ReportEnds : ℕ → Bool → Bool → Option (List ℕ) → ℕ → List Entry → List ℕ → Type 0
 ReportEnds workers shape order left status h text = FileEnds (IsReported workers shape order h text) left status
+
+-- the commands
+abbrev pub reporting : Command
+reporting = of_file (λ words h text file. text ≡ text_of_history (asks_shape words) (asks_order words) file h)

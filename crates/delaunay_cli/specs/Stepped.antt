@@ -5,7 +5,8 @@ use Rattle.edit_history.specs.Histories.{replay}
 use Rattle.alpha_steps.specs.Seen.{StepSlots}
 use Rattle.alpha_steps.specs.Text.{steps_text}
 use Rattle.alpha_steps.specs.Thresholds.{AreThresholds}
-use Rattle.command_pages.specs.Files.{FileEnds, IsOfFile}
+use Rattle.command_pages.specs.Command.{Command}
+use Rattle.command_pages.specs.Files.{FileEnds, IsOfFile, of_file}
 
 -- The text is that of the thresholds of the complex of a set.
 pub record IsStepped (s : List ℕ) (text : List ℕ) : Type 0 where
@@ -20,3 +21,7 @@ IsSteppedFile workers h text bytes = IsOfFile workers h (λ file. IsStepped (rep
 -- what a run that is to write this text promises of its end
 abbrev pub StepEnds : ℕ → Option (List ℕ) → ℕ → List Entry → List ℕ → Type 0
 StepEnds workers left status h text = FileEnds (IsSteppedFile workers h text) left status
+
+-- the command
+abbrev pub stepping : Command
+stepping = of_file (λ words h text file. IsStepped (replay h) text)

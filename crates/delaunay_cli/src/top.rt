@@ -9,10 +9,10 @@ ghost use Rattle.edit_files.specs.Content.{Content};
 ghost use Rattle.edit_files.specs.Grammar.{IsFile};
 ghost use Rattle.command_pages.specs.Taken.{file_limits};
 ghost use Rattle.plain_laws.specs.Plain.{IsAnchored};
-ghost use Rattle.delaunay_cli.specs.Ends.{Ends};
+ghost use Rattle.delaunay_cli.specs.Ends.{Ends, Tells};
 ghost use Rattle.delaunay_cli.specs.PlainText.{plain_text};
 ghost use Rattle.command_pages.specs.Run.{AreDealt, IsSolidFile, Writes, WritesFront, history_of};
-ghost use Rattle.command_pages.specs.Statuses.{HasText, Tells};
+ghost use Rattle.command_pages.specs.Statuses.{HasText};
 ghost use Rattle.command_words.specs.Stops.{line_of_end};
 ghost use Rattle.command_words.specs.Words.{DrawsFile, ReadsFile, WritesNear, WritesReport, WritesSteps, asks_order};
 ghost use Rattle.command_words.specs.Words.{asks_shape, worker_count, AreWordsTaken, kind_of_words};
@@ -40,7 +40,7 @@ use std::thread::Threads;
 /// on it.
 ///
 /// The clauses by name are those of the files that are read and of their reports. `Ends` in specs/ says how each run
-/// ends; what a command promises is its line of `Promise`, the field `promise`. Which words are taken, and what else
+/// ends; what a command promises is `ends` of its `Command`, the field `promise`. Which words are taken, and what else
 /// follows of a run, is in `laws`.
 pub fn run<R: Threads + Sync, S: Source, O: Sink, E: Sink, G: Gate + Sync>(
     rt: &R,

@@ -4,10 +4,10 @@ ghost use Rattle.std.specs.Prelude.{◌≡◌, ◌≤◌, [], Some, IfOk, IfErr,
 ghost use Rattle.std.specs.Result.{ForOk};
 ghost use Rattle.std.specs.Io.KnownBytes.{Keeps, IsAtEnd};
 ghost use Rattle.byte_ends.specs.Ends.{Rose};
-ghost use Rattle.delaunay_cli.specs.Ends.{Ends, IsMadeOfWords, IsPutOut, IsUnmade};
+ghost use Rattle.delaunay_cli.specs.Commands.{command_of_words};
+ghost use Rattle.delaunay_cli.specs.Ends.{Ends, IsMadeOfWords, IsPutOut, IsToldLine, IsUnmade};
 ghost use Rattle.command_pages.specs.Page.{IsFitToWrite, text_of_page};
-ghost use Rattle.command_pages.specs.Run.{ReadsTo, limit_of};
-ghost use Rattle.command_pages.specs.Statuses.{IsToldLine};
+ghost use Rattle.command_pages.specs.Run.{ReadsTo};
 ghost use Rattle.command_words.specs.Stops.{line_of_end, status_of_end, status_of_made};
 ghost use Rattle.command_words.specs.Words.{DrawsFile, ReadsSource, kind_of_words};
 
@@ -47,8 +47,7 @@ fn make<R: Threads + Sync, S: Source, G: Gate + Sync>(
     ensures sound { IfOk result IsFitToWrite }
     ensures stop { IfErr result (IsUnmade words.now (S.left src.old) (Rose (S.faults src.old) (S.faults src.new))) }
     ensures reads { ReadsSource words.now →
-        ReadsTo (limit_of (kind_of_words words.now)) (S.left src.old) (S.left src.new)
-        (status_of_made result) }
+        ReadsTo (command_of_words words.now).limit (S.left src.old) (S.left src.new) (status_of_made result) }
     ensures to_its_end { ReadsSource words.now → IsOk result → IsAtEnd (S.left src.new) }
     ensures source { DrawsFile words.now → src.new ≡ src.old }
     ensures unread { status_of_made result ≡ 2 → src.new ≡ src.old }

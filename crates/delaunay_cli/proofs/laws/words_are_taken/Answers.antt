@@ -1,9 +1,8 @@
-use Rattle.std.proofs.Common.{true, false}
-use Rattle.command_words.proofs.Cited.{check_words, default_words, mesh_words, mesh_order_words, near_words}
-use Rattle.command_words.proofs.Cited.{shape_words, shape_order_words, steps_words, parts_asked, parts_words}
-use Rattle.delaunay_cli.proofs.MadeAsAsked.{checks_kind, mesh_reading, parts_kind, read_kind, reading, steps_kind}
-use Rattle.command_words.proofs.Cited.{gen_words, gen_text_words, mesh_workers_words, near_workers_words}
-use Rattle.command_words.proofs.Cited.{shape_workers_words, steps_workers_words, parts_at_words, parts_workers_words}
+use Rattle.command_words.proofs.Cited.{check_words, default_words, gen_text_words, gen_words, mesh_order_words}
+use Rattle.command_words.proofs.Cited.{mesh_words, mesh_workers_words, near_words, near_workers_words, parts_asked}
+use Rattle.command_words.proofs.Cited.{parts_at_words, parts_words, parts_workers_words, shape_order_words}
+use Rattle.command_words.proofs.Cited.{shape_words, shape_workers_words, steps_words, steps_workers_words}
+use Rattle.delaunay_cli.proofs.MadeAsAsked.{mesh_reading, reading}
 use Rattle.delaunay_cli.proofs.laws.words_are_taken.Goals as goal
 
 pub returns-clause-mesh : goal.returns-clause-mesh
@@ -22,66 +21,56 @@ pub returns-clause-one_worker : goal.returns-clause-one_worker
 returns-clause-one_worker c = λ words w. (default_words words w).0
 
 pub returns-clause-report : goal.returns-clause-report
-returns-clause-report c = λ words w. let a = default_words words w in read_kind words false a.1 a.2 a.3 a.4
+returns-clause-report c = λ words w. (default_words words w).1
 
 pub returns-clause-steps : goal.returns-clause-steps
-returns-clause-steps c = λ words w. let a = steps_words words w in (a.0.0, steps_kind words a.2 a.3, a.1.0, a.1.1)
+returns-clause-steps c = λ words w. let a = steps_words words w in (a.0.0, a.2, a.1.0, a.1.1)
 
 pub returns-clause-parts : goal.returns-clause-parts
 returns-clause-parts c =
     λ words w.
     let a = parts_words words w in
     let d = parts_asked words w in
-    (a.0.0, parts_kind words a.2 a.3 a.4, a.1.0, a.1.1, d.0, d.1, d.2)
+    (a.0.0, a.2, a.1.0, a.1.1, d.0, d.1, d.2)
 
 pub returns-clause-near : goal.returns-clause-near
-returns-clause-near c =
-    λ words w. let a = near_words words w in (a.0.0, read_kind words true a.2 a.3 a.4 a.5, a.1.0, a.1.1)
+returns-clause-near c = λ words w. let a = near_words words w in (a.0.0, a.2, a.1.0, a.1.1)
 
 pub returns-clause-check : goal.returns-clause-check
-returns-clause-check c = λ words w. let a = check_words words w in (a.0, checks_kind words a.1 a.2)
+returns-clause-check c = check_words
 
 pub returns-clause-parts_at : goal.returns-clause-parts_at
-returns-clause-parts_at c =
-    λ words alpha most index s t u w.
-    let a = parts_at_words words alpha most index s t u w in
-    (a.0, parts_kind words a.3 a.4 a.5, a.1, a.2, a.6, a.7, a.8)
+returns-clause-parts_at c = parts_at_words
 
 pub returns-clause-mesh_workers : goal.returns-clause-mesh_workers
-returns-clause-mesh_workers c =
-    λ words workers grid some few size w.
-    let a = mesh_workers_words words workers grid some few size w in
-    (a.0, a.1, a.2, a.3, read_kind words false a.4 a.5 a.6 a.7)
+returns-clause-mesh_workers c = mesh_workers_words
 
 pub returns-clause-shape_workers : goal.returns-clause-shape_workers
-returns-clause-shape_workers c =
-    λ words workers grid some few size w.
-    let a = shape_workers_words words workers grid some few size w in
-    (a.0, a.1, a.2, a.3, read_kind words false a.4 a.5 a.6 a.7)
+returns-clause-shape_workers c = shape_workers_words
 
 pub returns-clause-steps_workers : goal.returns-clause-steps_workers
 returns-clause-steps_workers c =
     λ words workers grid some few size w.
     let a = steps_workers_words words workers grid some few size w in
-    (a.0, a.1, a.2, steps_kind words a.4 a.5)
+    (a.0, a.1, a.2, a.4)
 
 pub returns-clause-parts_workers : goal.returns-clause-parts_workers
 returns-clause-parts_workers c =
     λ words workers grid some few size w.
     let a = parts_workers_words words workers grid some few size w in
-    (a.0, a.1, a.2, parts_kind words a.4 a.5 a.6)
+    (a.0, a.1, a.2, a.4)
 
 pub returns-clause-near_workers : goal.returns-clause-near_workers
 returns-clause-near_workers c =
     λ words workers grid some few size w.
     let a = near_workers_words words workers grid some few size w in
-    (a.0, a.1, a.2, read_kind words true a.4 a.5 a.6 a.7)
+    (a.0, a.1, a.2, a.4)
 
 pub returns-clause-generator : goal.returns-clause-generator
-returns-clause-generator c = λ words count start few small w. gen_words words count start few small w
+returns-clause-generator c = gen_words
 
 pub returns-clause-generator_text : goal.returns-clause-generator_text
-returns-clause-generator_text c = λ words count start few small w. gen_text_words words count start few small w
+returns-clause-generator_text c = gen_text_words
 
 pub returns-clause-read : goal.returns-clause-read
 returns-clause-read c = reading
