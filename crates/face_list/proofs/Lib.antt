@@ -7,4 +7,5 @@ pub mod Growing
 pub mod FaceLists
 pub mod FaceLaws
 pub mod FullCells
+pub mod Apart
 pub mod Cited

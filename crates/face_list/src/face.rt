@@ -1,7 +1,7 @@
 //! Faces, each with the cells that contain it.
 
 ghost use Rattle.std.specs.Prelude.{◌≡◌, ◌<◌, All, length, map, slice_index_or};
-ghost use Rattle.face_list.specs.Tables.{cells_numbered};
+ghost use Rattle.face_list.specs.Tables.{IsTable, cells_numbered, table_seen};
 
 use crate::table::Table;
 use point_order::{Cell, Pair, Point, Tri};
@@ -93,5 +93,24 @@ impl<'a> Faces<'a> {
         ensures numbers { All (λ n. n < length self.now.cells) result.1.now }
     {
         self.triples.face(index)
+    }
+
+    /// The tables of the points, of the pairs and of the triples, each by itself, so that one can be let go before the
+    /// others.
+    pub fn apart(self) -> (Table<Point>, Table<Pair>, Table<Tri>)
+        ensures points { table_seen self.entry.cells result.0 ≡ self.entry.points }
+        ensures pairs { table_seen self.entry.cells result.1 ≡ self.entry.pairs }
+        ensures triples { table_seen self.entry.cells result.2 ≡ self.entry.triples }
+        ensures point_table { IsTable (length self.entry.cells) result.0 }
+        ensures pair_table { IsTable (length self.entry.cells) result.1 }
+        ensures triple_table { IsTable (length self.entry.cells) result.2 }
+    {
+        let Faces {
+            points,
+            pairs,
+            triples,
+            ..
+        } = self;
+        (points, pairs, triples)
     }
 }

@@ -35,6 +35,7 @@ pub use face::Faces;
 use point_order::Cell;
 use std::alloc::{AllocError, Global};
 use std::thread::Threads;
+pub use table::Table;
 
 /// The faces of the cells: the points, pairs and triples inside Full cells, each with the cells
 /// that contain it, and the cells themselves.
