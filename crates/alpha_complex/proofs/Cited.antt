@@ -1,5 +1,5 @@
 -- The lemmas that other crates cite.
-pub use Rattle.alpha_complex.proofs.Leasts.{AllLeft, all_step, zip_places}
+pub use Rattle.alpha_complex.proofs.Leasts.{AllLeft, AnyLeft, all_step, any_step, zip_at, zip_places}
 pub use Rattle.alpha_complex.proofs.Searches.{mapped_at}
 pub use Rattle.alpha_complex.proofs.Shaped.{cells_are}
 pub use Rattle.alpha_complex.proofs.Admission.{triple_facet}

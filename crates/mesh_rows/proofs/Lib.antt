@@ -4,3 +4,4 @@ mod Clouds
 mod RowLaws
 mod Alphas
 mod RankAt
+mod LeastsAround

@@ -4,7 +4,7 @@ ghost use Rattle.std.specs.Prelude.{◌≡◌, length, IfErr, IfOk};
 ghost use Rattle.mesh_rows.specs.Meshes.{AreFiltered, IsMesh, IsStopCause};
 
 use crate::cloud::cloud_of;
-use crate::levels::{Levels, face_rows};
+use crate::levels::{Levels, face_rows, held_of};
 use crate::mesh::{Made, rows_of};
 use crate::rows::Place;
 use crate::stop::Stop;
@@ -34,7 +34,8 @@ pub fn filtered_of(alloc: Global, given: &[Place]) -> Result<Filtered, Stop>
 {
     let cloud = cloud_of(alloc, given)?;
     // The faces first, beside which much more is made for the time being than beside the mesh.
-    let faces = face_rows(alloc, &cloud.points, &cloud.cells)?;
+    let held = held_of(alloc, &cloud.points, &cloud.cells)?;
+    let faces = face_rows(alloc, &cloud.points, held)?;
     let mesh = rows_of(alloc, &cloud.points, &cloud.cells)?;
     Ok(Filtered { mesh, faces })
 }

@@ -1,21 +1,27 @@
 //! The faces of a complex, and the least alphas of each.
 
-ghost use Rattle.std.specs.Prelude.{◌≡◌, ◌≤◌, ◌∷◌, [], ℕ, List, length, IfErr, IfOk};
+ghost use Rattle.std.specs.Prelude.{◌≡◌, ◌≤◌, ◌<◌, ◌^◌, ◌∷◌, [], ℕ, List, length, map, IfErr, IfOk};
 ghost use Rattle.std.specs.List.{AllZip};
-ghost use Rattle.point_order.specs.Complex.{complex};
+ghost use Rattle.point_order.specs.Sets.{IsAscending};
 ghost use Rattle.alpha_complex.specs.Condition.{AreFacesOf};
 ghost use Rattle.alpha_complex.specs.Leasts.{AreKnown};
 ghost use Rattle.alpha_complex.specs.Told.{TellsFace};
-ghost use Rattle.face_list.specs.Faces.{full_cells, parts_in};
+ghost use Rattle.face_list.specs.Faces.{full_cells};
+ghost use Rattle.face_list.specs.Tables.{IsTable, table_seen};
+ghost use Rattle.hole_laws.specs.Edits.{IsSet};
+ghost use Rattle.mesh_rows.specs.Around.{AreAround};
+ghost use Rattle.mesh_rows.specs.Held.{AreHeld};
 ghost use Rattle.mesh_rows.specs.Meshes.{AreFaceRows, AreFiltered, IsStopCause, IsCloud};
+ghost use Rattle.mesh_rows.specs.Rows.{edge_row, triangle_row};
 
-use crate::cloud::cloud_of;
+use crate::around::alphas_around;
+use crate::cloud::{Cloud, cloud_of};
 use crate::numbers::{edges, triangles};
-use crate::rows::{EdgeRow, FaceSizes, Place, TriangleRow};
+use crate::rows::{EdgeRow, Place, TriangleRow};
 use crate::stop::Stop;
 use alpha_complex::{Alphas, FaceAlphas, alphas_alone};
-use face_list::few_faces;
-use point_order::{Cell, Point};
+use face_list::{Faces, Table, few_faces};
+use point_order::{Cell, Pair, Point, Tri};
 use std::alloc::{AllocError, Global};
 
 /// The rows of the faces of a complex, and the least alphas of each.
@@ -65,67 +71,152 @@ fn alphas_of_points(alloc: Global, known: &Alphas) -> Result<Vec<FaceAlphas>, Al
     Ok(alphas)
 }
 
-// The numbers of the pairs.
-fn alphas_of_pairs(alloc: Global, known: &Alphas) -> Result<Vec<FaceAlphas>, AllocError>
-    requires { AreKnown known.now }
-    ensures { IfOk result (λ v. (s : List ℕ) → AreFacesOf s known.now.faces.now →
-        AllZip (TellsFace s) (parts_in 2 (complex s)) v.items) }
+// The numbers of pairs, of triples and of cells, without the faces.
+fn without_faces(known: Alphas) -> (Vec<u64>, Vec<u64>, Vec<u64>)
+    ensures pairs { result.0 ≡ known.entry.pairs }
+    ensures triples { result.1 ≡ known.entry.triples }
+    ensures cells { result.2 ≡ known.entry.cells }
 {
-    let count = known.faces.pairs().len();
-    let mut alphas = Vec::with_capacity(alloc, count)?;
-    for index in 0..count {
-        alphas.push(known.pair(index))?;
-    }
-    Ok(alphas)
+    let Alphas {
+        pairs,
+        triples,
+        cells,
+        ..
+    } = known;
+    (pairs, triples, cells)
 }
 
-// The numbers of the triples.
-fn alphas_of_triples(alloc: Global, known: &Alphas) -> Result<Vec<FaceAlphas>, AllocError>
-    requires { AreKnown known.now }
-    ensures { IfOk result (λ v. (s : List ℕ) → AreFacesOf s known.now.faces.now →
-        AllZip (TellsFace s) (parts_in 3 (complex s)) v.items) }
+// The tables of the pairs and of the triples, without that of the points.
+fn without_points(faces: Faces) -> (Table<Pair>, Table<Tri>)
+    ensures pairs { table_seen faces.entry.cells result.0 ≡ faces.entry.pairs }
+    ensures triples { table_seen faces.entry.cells result.1 ≡ faces.entry.triples }
+    ensures pair_table { IsTable (length faces.entry.cells) result.0 }
+    ensures triple_table { IsTable (length faces.entry.cells) result.1 }
 {
-    let count = known.faces.triples().len();
-    let mut alphas = Vec::with_capacity(alloc, count)?;
-    for index in 0..count {
-        alphas.push(known.triple(index))?;
-    }
-    Ok(alphas)
+    let (_, pairs, triples) = faces.apart();
+    (pairs, triples)
 }
 
-// The numbers of the cells, of which the others are let go.
-fn alphas_of_cells(known: Alphas) -> Vec<u64>
-    ensures { result ≡ known.entry.cells }
-{
-    let Alphas { cells, .. } = known;
-    cells
+// What the rows and numbers of faces are made of, when those of the points are made.
+#[derive(Drop)]
+pub(crate) struct Held {
+    point_alphas: Vec<FaceAlphas>,
+    pairs: Table<Pair>,
+    triples: Table<Tri>,
+    of_pairs: Vec<u64>,
+    of_triples: Vec<u64>,
+    of_cells: Vec<u64>,
+    full: usize,
 }
 
-// Those of a set and its cells. The numbers come first, since most is held beside them.
-pub(crate) fn face_rows(alloc: Global, set: &[Point], all: &[Cell]) -> Result<Levels, AllocError>
+// Of a set and its cells, which are not looked at again.
+pub(crate) fn held_of(alloc: Global, set: &[Point], all: &[Cell]) -> Result<Held, AllocError>
     requires { IsCloud set.now all.now }
+    ensures { IfOk result (AreHeld set.now) }
+{
+    let faces = few_faces(alloc, all)?;
+    let known = alphas_alone(alloc, &faces)?;
+    let point_alphas = alphas_of_points(alloc, &known)?;
+    let (of_pairs, of_triples, of_cells) = without_faces(known);
+    let (pairs, triples) = without_points(faces);
+    Ok(Held {
+        point_alphas,
+        pairs,
+        triples,
+        of_pairs,
+        of_triples,
+        of_cells,
+        full: full_count(all),
+    })
+}
+
+// The keys of a table, of which the rest is let go.
+fn keys_of<K: Copy>(table: Table<K>) -> Vec<K>
+    ensures { result ≡ table.keys }
+{
+    let Table { keys, .. } = table;
+    keys
+}
+
+// The rows of pairs and their numbers. What these were made of is let go on the way.
+fn edge_levels(
+    alloc: Global,
+    set: &[Point],
+    pairs: Table<Pair>,
+    admitted: Vec<u64>,
+    cells: &[u64],
+) -> Result<(Vec<EdgeRow>, Vec<FaceAlphas>), AllocError>
+    requires few { length set.now < 2 ^ 32 }
+    requires ascending { IsAscending set.now }
+    requires table { IsTable (length cells.now) pairs }
+    requires admitted { length admitted.items ≡ length pairs.keys.items }
+    ensures rows { IfOk result (λ made. made.0.items ≡ map (edge_row set.now) pairs.keys.items) }
+    ensures alphas { IfOk result (λ made. AreAround cells.now pairs admitted.items made.1.items) }
+{
+    let alphas = alphas_around(alloc, &pairs, admitted, cells)?;
+    let rows = edges(alloc, set, &keys_of(pairs))?;
+    Ok((rows, alphas))
+}
+
+// So of triples.
+fn triangle_levels(
+    alloc: Global,
+    set: &[Point],
+    triples: Table<Tri>,
+    admitted: Vec<u64>,
+    cells: &[u64],
+) -> Result<(Vec<TriangleRow>, Vec<FaceAlphas>), AllocError>
+    requires few { length set.now < 2 ^ 32 }
+    requires ascending { IsAscending set.now }
+    requires table { IsTable (length cells.now) triples }
+    requires admitted { length admitted.items ≡ length triples.keys.items }
+    ensures rows { IfOk result (λ made. made.0.items ≡ map (triangle_row set.now) triples.keys.items) }
+    ensures alphas { IfOk result (λ made. AreAround cells.now triples admitted.items made.1.items) }
+{
+    let alphas = alphas_around(alloc, &triples, admitted, cells)?;
+    let rows = triangles(alloc, set, &keys_of(triples))?;
+    Ok((rows, alphas))
+}
+
+// The rows and numbers of the faces of a set. Each kind of faces is let go before the next: so least is held.
+pub(crate) fn face_rows(alloc: Global, set: &[Point], held: Held) -> Result<Levels, AllocError>
+    requires few { length set.now < 2 ^ 32 }
+    requires set { IsSet set.now }
+    requires held { AreHeld set.now held }
     ensures rows { IfOk result (λ l. AreFaceRows set.now l.point_alphas.items l.edges.items l.edge_alphas.items
         l.triangles.items l.triangle_alphas.items l.cell_alphas.items) }
     ensures edge_count { IfOk result (λ l. length l.edge_alphas.items ≡ length l.edges.items) }
     ensures triangle_count { IfOk result (λ l. length l.triangle_alphas.items ≡ length l.triangles.items) }
 {
-    let faces = few_faces(alloc, all)?;
-    let known = alphas_alone(alloc, &faces)?;
-    let point_alphas = alphas_of_points(alloc, &known)?;
-    let edge_alphas = alphas_of_pairs(alloc, &known)?;
-    let triangle_alphas = alphas_of_triples(alloc, &known)?;
-    let mut cell_alphas = alphas_of_cells(known);
-    cell_alphas.truncate(full_count(all));
-    let pairs = edges(alloc, set, faces.pairs())?;
-    let triples = triangles(alloc, set, faces.triples())?;
+    let Held {
+        point_alphas,
+        pairs,
+        triples,
+        of_pairs,
+        of_triples,
+        of_cells,
+        full,
+    } = held;
+    let (edges, edge_alphas) = edge_levels(alloc, set, pairs, of_pairs, &of_cells)?;
+    let (triangles, triangle_alphas) = triangle_levels(alloc, set, triples, of_triples, &of_cells)?;
+    let mut cell_alphas = of_cells;
+    cell_alphas.truncate(full);
     Ok(Levels {
         point_alphas,
-        edges: pairs,
+        edges,
         edge_alphas,
-        triangles: triples,
+        triangles,
         triangle_alphas,
         cell_alphas,
     })
+}
+
+// The points of a cloud, of which the cells are let go.
+fn points_of(cloud: Cloud) -> Vec<Point>
+    ensures { result ≡ cloud.points }
+{
+    let Cloud { points, .. } = cloud;
+    points
 }
 
 /// The faces of the complex of the points at the given places.
@@ -140,6 +231,7 @@ pub fn levels_of(alloc: Global, given: &[Place]) -> Result<Levels, Stop>
     ensures refused { IfErr result (λ stop. IsStopCause given.now stop) }
 {
     let cloud = cloud_of(alloc, given)?;
-    let levels = face_rows(alloc, &cloud.points, &cloud.cells)?;
+    let held = held_of(alloc, &cloud.points, &cloud.cells)?;
+    let levels = face_rows(alloc, &points_of(cloud), held)?;
     Ok(levels)
 }

@@ -18,6 +18,7 @@
 #![tactic(auto)]
 
 mod across;
+mod around;
 mod cloud;
 mod filtered;
 mod hints;

@@ -1,63 +1,60 @@
-use Rattle.std.proofs.Common.{ℕ, ◌∙◌, ap, sym, subst, List, length, map, take}
+use Rattle.std.proofs.Common.{ℕ, ◌∙◌, ap, sym, subst, length, map, take}
 use Rattle.std.proofs.lemmas.List.{length-map}
-use Rattle.list_laws.proofs.Cited.{length_zip}
-use Rattle.point_order.specs.Complex.{complex}
-use Rattle.point_order.specs.declared.cell.Cell.{Cell}
-use Rattle.face_list.specs.Faces.{full_cells, parts_in}
 use Rattle.mesh_rows.specs.Meshes.{AreCellAlphas}
-use Rattle.face_list.specs.Seen.{FaceLists}
-use Rattle.alpha_complex.specs.Condition.{AreFacesOf}
-use Rattle.alpha_complex.specs.Told.{TellsFace}
 use Rattle.mesh_rows.specs.Rows.{edge_row, triangle_row}
-use Rattle.mesh_rows.proofs.Alphas.{faces_of, full_alphas, parts_mapped}
+use Rattle.mesh_rows.proofs.Alphas.{full_alphas, held_counts, keys_told, parts_told}
 use Rattle.mesh_rows.proofs.levels.face_rows.Goals as goal
 
-pub alphas_alone-requires : goal.alphas_alone-requires
-alphas_alone-requires c = (
-  c.args.set.now,
-  faces_of c.args.set.now c.args.all.now _ c.requires c.in_ok-faces.ensures.cells
-      c.in_ok-faces.ensures.points c.in_ok-faces.ensures.pairs c.in_ok-faces.ensures.triples,
-)
+pub edge_levels-requires-clause-table : goal.edge_levels-requires-clause-table
+edge_levels-requires-clause-table c =
+    let h = c.requires.held in
+    rw c.deref.ensures.value (held_counts 2 c.args.set.now c.args.held.pairs _ _ h.pairs h.of_cells h.of_pairs).0
+
+pub edge_levels-requires-clause-admitted : goal.edge_levels-requires-clause-admitted
+edge_levels-requires-clause-admitted c =
+    let h = c.requires.held in
+    (held_counts 2 c.args.set.now c.args.held.pairs _ _ h.pairs h.of_cells h.of_pairs).1
+
+pub triangle_levels-requires-clause-table : goal.triangle_levels-requires-clause-table
+triangle_levels-requires-clause-table c =
+    let h = c.requires.held in
+    rw c.deref-2.ensures.value
+    (held_counts 3 c.args.set.now c.args.held.triples _ _ h.triples h.of_cells h.of_triples).0
+
+pub triangle_levels-requires-clause-admitted : goal.triangle_levels-requires-clause-admitted
+triangle_levels-requires-clause-admitted c =
+    let h = c.requires.held in
+    (held_counts 3 c.args.set.now c.args.held.triples _ _ h.triples h.of_cells h.of_triples).1
 
 -- each face has its row and the numbers that tell of it
 pub returns-clause-rows : goal.returns-clause-rows
 returns-clause-rows c =
     let s = c.args.set.now in
-    let f = faces_of s c.args.all.now _ c.requires c.in_ok-faces.ensures.cells c.in_ok-faces.ensures.points
-    c.in_ok-faces.ensures.pairs c.in_ok-faces.ensures.triples in
-    let k = subst (λ (v : FaceLists). AreFacesOf s v) (sym c.in_ok-known.ensures.faces) f in
-    let t = c.in_ok-known.ensures.told s f in
-    let same = c.alphas_of_cells-cell_alphas.ensures in
-    let many = c.full_count.ensures ∙ ap (λ (l : List Cell). length (full_cells l)) c.requires.cells_are in
+    let h = c.requires.held in
+    let cells = c.args.held.of_cells.items in
     record {
-      of_points = c.in_ok-point_alphas.ensures s k;
-      edges_are = c.in_ok-pairs.ensures ∙ ap (map (edge_row s)) (c.pairs.ensures ∙ parts_mapped 2 s _ f.pairs);
-      of_edges = c.in_ok-edge_alphas.ensures s k;
-      triangles_are =
-          c.in_ok-triples.ensures ∙ ap (map (triangle_row s)) (c.triples.ensures ∙ parts_mapped 3 s _ f.triples);
-      of_triangles = c.in_ok-triangle_alphas.ensures s k;
+      of_points = h.of_points;
+      edges_are = c.in_ok-edges.ensures.rows ∙ ap (map (edge_row s)) (keys_told 2 s c.args.held.pairs h.pairs);
+      of_edges = parts_told 2 s c.args.held.pairs cells _ _ h.pairs h.of_cells h.of_pairs
+          (rw c.deref.ensures.value at c.in_ok-edges.ensures.alphas);
+      triangles_are = c.in_ok-triangles.ensures.rows
+          ∙ ap (map (triangle_row s)) (keys_told 3 s c.args.held.triples h.triples);
+      of_triangles = parts_told 3 s c.args.held.triples cells _ _ h.triples h.of_cells h.of_triples
+          (rw c.deref-2.ensures.value at c.in_ok-triangles.ensures.alphas);
       of_cells = subst (AreCellAlphas s) (sym c.truncate.ensures.items)
-          (subst (λ (k : ℕ). AreCellAlphas s (take k c.alphas_of_cells-cell_alphas.result.items)) (sym many)
-          (subst (λ v. AreCellAlphas s (take (length (full_cells (complex s))) v.items)) (sym same)
-          (full_alphas s c.requires.set c.in_ok-known.known.cells.items t.cells)));
+          (subst (λ (k : ℕ). AreCellAlphas s (take k cells)) (sym h.full)
+          (full_alphas s c.requires.set cells h.of_cells));
     }
 
 pub returns-clause-edge_count : goal.returns-clause-edge_count
 returns-clause-edge_count c =
     let s = c.args.set.now in
-    let f = faces_of s c.args.all.now _ c.requires c.in_ok-faces.ensures.cells c.in_ok-faces.ensures.points
-    c.in_ok-faces.ensures.pairs c.in_ok-faces.ensures.triples in
-    let k = subst (λ (v : FaceLists). AreFacesOf s v) (sym c.in_ok-known.ensures.faces) f in
-    let p = c.pairs.ensures ∙ parts_mapped 2 s _ f.pairs in
-    sym (length_zip (TellsFace s) (parts_in 2 (complex s)) _ (c.in_ok-edge_alphas.ensures s k))
-    ∙ sym (ap length c.in_ok-pairs.ensures ∙ length-map _ (edge_row s) ∙ ap length p)
+    c.in_ok-edges.ensures.alphas.count
+    ∙ sym (ap length c.in_ok-edges.ensures.rows ∙ length-map c.args.held.pairs.keys.items (edge_row s))
 
 pub returns-clause-triangle_count : goal.returns-clause-triangle_count
 returns-clause-triangle_count c =
     let s = c.args.set.now in
-    let f = faces_of s c.args.all.now _ c.requires c.in_ok-faces.ensures.cells c.in_ok-faces.ensures.points
-    c.in_ok-faces.ensures.pairs c.in_ok-faces.ensures.triples in
-    let k = subst (λ (v : FaceLists). AreFacesOf s v) (sym c.in_ok-known.ensures.faces) f in
-    let p = c.triples.ensures ∙ parts_mapped 3 s _ f.triples in
-    sym (length_zip (TellsFace s) (parts_in 3 (complex s)) _ (c.in_ok-triangle_alphas.ensures s k))
-    ∙ sym (ap length c.in_ok-triples.ensures ∙ length-map _ (triangle_row s) ∙ ap length p)
+    c.in_ok-triangles.ensures.alphas.count
+    ∙ sym (ap length c.in_ok-triangles.ensures.rows
+    ∙ length-map c.args.held.triples.keys.items (triangle_row s))
