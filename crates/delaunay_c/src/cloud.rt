@@ -55,7 +55,7 @@ pub extern "C" fn delaunay_c_mesh(
             if lacks_mesh_room(sizes, points, cells, neighbours, hull) {
                 return 4;
             }
-            put_mesh(&made, points, cells, neighbours, hull);
+            put_mesh(made, points, cells, neighbours, hull);
             0
         }
         Err(Stop::Memory) => 1,
@@ -129,7 +129,7 @@ pub extern "C" fn delaunay_c_alphas(
                 return 4;
             }
             put_faces(
-                &levels,
+                levels,
                 point_alphas,
                 edges,
                 edge_alphas,

@@ -7,8 +7,8 @@ ghost use Rattle.mesh_rows.specs.Rooms.{LacksFaceRoom, LacksMeshRoom};
 
 use alpha_complex::FaceAlphas;
 use mesh_rows::{
-    CellRow, EdgeRow, FaceSizes, MeshSizes, Place, Stop, TriangleRow, face_sizes, filtered_of,
-    lacks_face_room, lacks_mesh_room, mesh_sizes, put_faces, put_mesh,
+    CellRow, EdgeRow, FaceSizes, Filtered, MeshSizes, Place, Stop, TriangleRow, face_sizes,
+    filtered_of, lacks_face_room, lacks_mesh_room, mesh_sizes, put_faces, put_mesh,
 };
 use std::alloc::Global;
 
@@ -78,9 +78,9 @@ pub extern "C" fn delaunay_c_filtered(
         ≡ drop face_counts.new.cells cell_alphas.old }
 {
     match filtered_of(alloc, given) {
-        Ok(made) => {
-            *sizes = mesh_sizes(&made.mesh);
-            *face_counts = face_sizes(&made.faces);
+        Ok(Filtered { mesh, faces }) => {
+            *sizes = mesh_sizes(&mesh);
+            *face_counts = face_sizes(&faces);
             if lacks_mesh_room(sizes, points, cells, neighbours, hull)
                 || lacks_face_room(
                     face_counts,
@@ -94,9 +94,9 @@ pub extern "C" fn delaunay_c_filtered(
             {
                 return 4;
             }
-            put_mesh(&made.mesh, points, cells, neighbours, hull);
+            put_mesh(mesh, points, cells, neighbours, hull);
             put_faces(
-                &made.faces,
+                faces,
                 point_alphas,
                 edges,
                 edge_alphas,

@@ -78,7 +78,7 @@ pub extern "C" fn delaunay_c_complex(
             if lacks_mesh_room(sizes, points, cells, neighbours, hull) {
                 return 4;
             }
-            put_mesh(&made, points, cells, neighbours, hull);
+            put_mesh(made, points, cells, neighbours, hull);
             0
         }
         Err(refusal) => status_of(refusal),

@@ -8,7 +8,7 @@
 //! let made = mesh_of(alloc, &places)?;       // places in any order, of which some may be equal
 //! let sizes = mesh_sizes(&made);
 //! if !lacks_mesh_room(&sizes, points, cells, neighbours, hull) {
-//!     put_mesh(&made, points, cells, neighbours, hull);
+//!     put_mesh(made, points, cells, neighbours, hull);
 //! }
 //! let levels = levels_of(alloc, &places)?;   // every face with its least alphas
 //! let both = filtered_of(alloc, &places)?;   // the mesh and its faces, by one triangulation

@@ -16,6 +16,14 @@ pub fn put<T: Copy>(room: &mut [T], rows: &[T])
     room[..rows.len()].copy_from_slice(rows);
 }
 
+// The same, and lets the rows go.
+fn put_away<T: Copy>(room: &mut [T], rows: Vec<T>)
+    requires { length rows.items ≤ length room.old }
+    ensures { IsPut rows.items room.old room.new }
+{
+    put(room, &rows);
+}
+
 /// How many rows a mesh has.
 pub fn mesh_sizes(made: &Made) -> MeshSizes
     ensures { AreMeshCounts made.now result }
@@ -44,27 +52,27 @@ pub fn lacks_mesh_room(
         || (hull.len() as u64) < sizes.hull
 }
 
-/// Puts a mesh to the fronts of rooms. What is behind its rows stays as it was.
+/// Puts a mesh to the fronts of rooms, and lets each list go once it is put. What is behind its rows stays as it was.
 pub fn put_mesh(
-    made: &Made,
+    made: Made,
     points: &mut [Place],
     cells: &mut [CellRow],
     neighbours: &mut [CellRow],
     hull: &mut [TriangleRow],
 )
-    requires points { length made.now.points.items ≤ length points.old }
-    requires cells { length made.now.cells.items ≤ length cells.old }
-    requires neighbours { length made.now.neighbours.items ≤ length neighbours.old }
-    requires hull { length made.now.hull.items ≤ length hull.old }
-    ensures points { IsPut made.now.points.items points.old points.new }
-    ensures cells { IsPut made.now.cells.items cells.old cells.new }
-    ensures neighbours { IsPut made.now.neighbours.items neighbours.old neighbours.new }
-    ensures hull { IsPut made.now.hull.items hull.old hull.new }
+    requires points { length made.points.items ≤ length points.old }
+    requires cells { length made.cells.items ≤ length cells.old }
+    requires neighbours { length made.neighbours.items ≤ length neighbours.old }
+    requires hull { length made.hull.items ≤ length hull.old }
+    ensures points { IsPut made.points.items points.old points.new }
+    ensures cells { IsPut made.cells.items cells.old cells.new }
+    ensures neighbours { IsPut made.neighbours.items neighbours.old neighbours.new }
+    ensures hull { IsPut made.hull.items hull.old hull.new }
 {
-    put(points, &made.points);
-    put(cells, &made.cells);
-    put(neighbours, &made.neighbours);
-    put(hull, &made.hull);
+    put_away(points, made.points);
+    put_away(cells, made.cells);
+    put_away(neighbours, made.neighbours);
+    put_away(hull, made.hull);
 }
 
 /// How many rows faces have.
@@ -100,9 +108,9 @@ pub fn lacks_face_room(
         || (cell_alphas.len() as u64) < sizes.cells
 }
 
-/// Puts faces to the fronts of rooms. What is behind their rows stays as it was.
+/// Puts faces to the fronts of rooms, and lets each list go once it is put. What is behind their rows stays as it was.
 pub fn put_faces(
-    levels: &Levels,
+    levels: Levels,
     point_alphas: &mut [FaceAlphas],
     edges: &mut [EdgeRow],
     edge_alphas: &mut [FaceAlphas],
@@ -110,23 +118,23 @@ pub fn put_faces(
     triangle_alphas: &mut [FaceAlphas],
     cell_alphas: &mut [u64],
 )
-    requires point_alphas { length levels.now.point_alphas.items ≤ length point_alphas.old }
-    requires edges { length levels.now.edges.items ≤ length edges.old }
-    requires edge_alphas { length levels.now.edge_alphas.items ≤ length edge_alphas.old }
-    requires triangles { length levels.now.triangles.items ≤ length triangles.old }
-    requires triangle_alphas { length levels.now.triangle_alphas.items ≤ length triangle_alphas.old }
-    requires cell_alphas { length levels.now.cell_alphas.items ≤ length cell_alphas.old }
-    ensures point_alphas { IsPut levels.now.point_alphas.items point_alphas.old point_alphas.new }
-    ensures edges { IsPut levels.now.edges.items edges.old edges.new }
-    ensures edge_alphas { IsPut levels.now.edge_alphas.items edge_alphas.old edge_alphas.new }
-    ensures triangles { IsPut levels.now.triangles.items triangles.old triangles.new }
-    ensures triangle_alphas { IsPut levels.now.triangle_alphas.items triangle_alphas.old triangle_alphas.new }
-    ensures cell_alphas { IsPut levels.now.cell_alphas.items cell_alphas.old cell_alphas.new }
+    requires point_alphas { length levels.point_alphas.items ≤ length point_alphas.old }
+    requires edges { length levels.edges.items ≤ length edges.old }
+    requires edge_alphas { length levels.edge_alphas.items ≤ length edge_alphas.old }
+    requires triangles { length levels.triangles.items ≤ length triangles.old }
+    requires triangle_alphas { length levels.triangle_alphas.items ≤ length triangle_alphas.old }
+    requires cell_alphas { length levels.cell_alphas.items ≤ length cell_alphas.old }
+    ensures point_alphas { IsPut levels.point_alphas.items point_alphas.old point_alphas.new }
+    ensures edges { IsPut levels.edges.items edges.old edges.new }
+    ensures edge_alphas { IsPut levels.edge_alphas.items edge_alphas.old edge_alphas.new }
+    ensures triangles { IsPut levels.triangles.items triangles.old triangles.new }
+    ensures triangle_alphas { IsPut levels.triangle_alphas.items triangle_alphas.old triangle_alphas.new }
+    ensures cell_alphas { IsPut levels.cell_alphas.items cell_alphas.old cell_alphas.new }
 {
-    put(point_alphas, &levels.point_alphas);
-    put(edges, &levels.edges);
-    put(edge_alphas, &levels.edge_alphas);
-    put(triangles, &levels.triangles);
-    put(triangle_alphas, &levels.triangle_alphas);
-    put(cell_alphas, &levels.cell_alphas);
+    put_away(point_alphas, levels.point_alphas);
+    put_away(edges, levels.edges);
+    put_away(edge_alphas, levels.edge_alphas);
+    put_away(triangles, levels.triangles);
+    put_away(triangle_alphas, levels.triangle_alphas);
+    put_away(cell_alphas, levels.cell_alphas);
 }
