@@ -98,7 +98,8 @@ static int nulls(void) {
     CHECK(mesh.points == COUNT && mesh.hull > 0 && faces.points == COUNT && faces.cells == mesh.cells);
     CHECK(delaunay_c_filtered(given, COUNT, r.points, ROOM, r.cells, ROOM, r.neighbours, ROOM, r.hull, ROOM,
                               r.point_alphas, ROOM, r.edges, ROOM, r.edge_alphas, ROOM, r.triangles, ROOM,
-                              r.triangle_alphas, ROOM, r.cell_alphas, mesh.cells - 1, &mesh, &faces) == DELAUNAY_C_ROOM);
+                              r.triangle_alphas, ROOM, r.cell_alphas, mesh.cells - 1, &mesh, &faces)
+          == DELAUNAY_C_ROOM);
     CHECK(delaunay_c_solid_parts(NULL, 0, 0, NULL, 0, NULL, 0, &parts) == DELAUNAY_C_FLAT);
     CHECK(delaunay_c_solid_parts(given, COUNT, 0, NULL, 0, NULL, 0, &parts) == DELAUNAY_C_OK && parts.cells == 0);
     CHECK(delaunay_c_solid_parts(given, COUNT, UINT64_MAX, NULL, 0, NULL, 0, &parts) == DELAUNAY_C_ROOM);

@@ -214,8 +214,9 @@ class Arrays:
 
     @property
     def hull_vertices(self) -> Rows:
-        """(k,) the points on the hull, ascending: of those that fell together the first. As scipy's ConvexHull.vertices,
-        but that points within a face or an edge of the hull, which it leaves out, are among them."""
+        """(k,) the points on the hull, ascending: of those that fell together the first. As scipy's
+        ConvexHull.vertices, but that points within a face or an edge of the hull, which it leaves out, are among
+        them."""
         return np.unique(self.convex_hull)
 
     @kept

@@ -14,8 +14,8 @@ kit: the old text stands once in that file). Of each it tells in a line what cam
     bad       it cannot be applied or read
 
 Those stored were must-fail edits once, and were refused; the gate tries fewer, since each costs it a check. The crate
-is proved on a copy of the repository, over what earlier runs of the kit kept; so this takes minutes a crate. By hand. The
-status is 1 where one stays or is bad.
+is proved on a copy of the repository, over what earlier runs of the kit kept; so this takes minutes a crate. By hand.
+The status is 1 where one stays or is bad.
 """
 import os
 import re

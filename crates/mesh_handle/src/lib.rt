@@ -1,5 +1,5 @@
-//! A mesh of one thread that a caller in another language holds by a pointer, its edits and looks, one by one or many at
-//! once.
+//! A mesh of one thread that a caller in another language holds by a pointer, its edits and looks, one by one or many
+//! at once.
 //!
 //! The caller keeps a `MeshHandle`, which is one pointer: null, or a mesh on the heap. A call takes the mesh out, works
 //! on it and puts it back, so every call but `open` and `close` finds a mesh there or says that there is none. Only
