@@ -119,7 +119,8 @@ mesh_words words m = asked words (m.0 ∷ codes "mesh" ∷ []) false false Repor
 
 -- `mesh --order` for the order too
 pub mesh_order_words : (words : List (String Global)) → SayMeshOrder words → AreAsked words false true Reports
-mesh_order_words words m = asked words (m.0 ∷ codes "mesh" ∷ codes "--order" ∷ []) false true Reports m.1 (mesh_order_found m.0)
+mesh_order_words words m = asked words (m.0 ∷ codes "mesh" ∷ codes "--order" ∷ []) false true Reports
+    m.1 (mesh_order_found m.0)
 
 -- `shape` for the shapes
 pub shape_words : (words : List (String Global)) → SayShape words → AreAsked words true false Reports
@@ -127,7 +128,8 @@ shape_words words m = asked words (m.0 ∷ codes "shape" ∷ []) true false Repo
 
 -- `shape --order` for both
 pub shape_order_words : (words : List (String Global)) → SayShapeOrder words → AreAsked words true true Reports
-shape_order_words words m = asked words (m.0 ∷ codes "shape" ∷ codes "--order" ∷ []) true true Reports m.1 (shape_order_found m.0)
+shape_order_words words m = asked words (m.0 ∷ codes "shape" ∷ codes "--order" ∷ []) true true Reports
+    m.1 (shape_order_found m.0)
 
 -- `steps` for the least alphas
 pub steps_words : (words : List (String Global)) → SaySteps words → AreAsked words false false Steps

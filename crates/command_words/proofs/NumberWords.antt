@@ -329,31 +329,36 @@ meshing_asked words texts workers grid shape kind some few size e found =
 module _ (words : List (String Global)) (workers grid : ℕ) (some : 0 < workers) (few : workers ≤ most_workers)
     (size : is_grid_size grid ≡ true) where
   -- `mesh` with workers and a grid
-  pub mesh_workers_words : SayMeshing (codes "mesh") workers grid words → AreAskedMeshing words workers grid false Reports
+  pub mesh_workers_words : SayMeshing (codes "mesh") workers grid words →
+      AreAskedMeshing words workers grid false Reports
   unfolding meshing_texts
   mesh_workers_words m = meshing_asked words (meshing_texts m.0 (codes "mesh") (decimal workers) (decimal grid))
       workers grid false Reports some few size m.1 (mesh_found m.0 (decimal workers) (decimal grid))
 
   -- `shape`
-  pub shape_workers_words : SayMeshing (codes "shape") workers grid words → AreAskedMeshing words workers grid true Reports
+  pub shape_workers_words : SayMeshing (codes "shape") workers grid words →
+      AreAskedMeshing words workers grid true Reports
   unfolding meshing_texts
   shape_workers_words m = meshing_asked words (meshing_texts m.0 (codes "shape") (decimal workers) (decimal grid))
       workers grid true Reports some few size m.1 (shape_found m.0 (decimal workers) (decimal grid))
 
   -- `steps`
-  pub steps_workers_words : SayMeshing (codes "steps") workers grid words → AreAskedMeshing words workers grid false Steps
+  pub steps_workers_words : SayMeshing (codes "steps") workers grid words →
+      AreAskedMeshing words workers grid false Steps
   unfolding meshing_texts
   steps_workers_words m = meshing_asked words (meshing_texts m.0 (codes "steps") (decimal workers) (decimal grid))
       workers grid false Steps some few size m.1 (steps_found m.0 (decimal workers) (decimal grid))
 
   -- `parts`
-  pub parts_workers_words : SayMeshing (codes "parts") workers grid words → AreAskedMeshing words workers grid false Parts
+  pub parts_workers_words : SayMeshing (codes "parts") workers grid words →
+      AreAskedMeshing words workers grid false Parts
   unfolding meshing_texts
   parts_workers_words m = meshing_asked words (meshing_texts m.0 (codes "parts") (decimal workers) (decimal grid))
       workers grid false Parts some few size m.1 (parts_found m.0 (decimal workers) (decimal grid))
 
   -- `near`
-  pub near_workers_words : SayMeshing (codes "near") workers grid words → AreAskedMeshing words workers grid false Queries
+  pub near_workers_words : SayMeshing (codes "near") workers grid words →
+      AreAskedMeshing words workers grid false Queries
   unfolding meshing_texts
   near_workers_words m = meshing_asked words (meshing_texts m.0 (codes "near") (decimal workers) (decimal grid))
       workers grid false Queries some few size m.1 (near_found m.0 (decimal workers) (decimal grid))

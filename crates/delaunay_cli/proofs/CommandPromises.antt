@@ -32,7 +32,8 @@ draw_carried =
 
 -- each is carried
 pub carried : (kind : Kind) → IsCarried (command_of kind)
-carried Reports = file_carried (λ words h text file. text ≡ text_of_history (asks_shape words) (asks_order words) file h)
+carried Reports =
+    file_carried (λ words h text file. text ≡ text_of_history (asks_shape words) (asks_order words) file h)
 carried Steps = file_carried (λ words h text file. IsStepped (replay h) text)
 carried Parts = part_carried
 carried Queries = file_carried (λ words h text file. IsQueried (replay h) file.queries text)

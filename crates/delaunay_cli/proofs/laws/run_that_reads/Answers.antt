@@ -16,5 +16,5 @@ returns-clause-bad_line c = λ r w late n. of_verdict r.ends (λ bytes. (r.statu
     (λ bytes v. v.bad_line n) w late
 
 pub returns-clause-not_solid : goal.returns-clause-not_solid
-returns-clause-not_solid c = λ r w late n. of_verdict r.ends (λ bytes. (file : Content) → IsFile file_limits bytes file →
-    (r.status ≡ 6) ↔ (is_solid file.points ≡ false)) (λ bytes v. v.not_solid n) w late
+returns-clause-not_solid c = λ r w late n. of_verdict r.ends (λ bytes. (file : Content) →
+    IsFile file_limits bytes file → (r.status ≡ 6) ↔ (is_solid file.points ≡ false)) (λ bytes v. v.not_solid n) w late

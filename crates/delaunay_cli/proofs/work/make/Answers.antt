@@ -21,15 +21,19 @@ pub returns-in-Report-clause-stop : goal.returns-in-Report-clause-stop
 returns-in-Report-clause-stop g c =
     let words = c.args.words.now in
     let t = subst (IsTask words) c.in-Report.is c.in_ok-making.ensures.task in
-    unmade_as words (g.S.Source.left c.args.src.now) (Rose (g.S.Source.faults c.args.src.now) (g.S.Source.faults c.report.new.src))
-    c.in_ok-making.ensures.taken Reports (report_task words c.in-Report.making c.in-Report.asked t).0 c.report.result c.report.ensures.stop
+    unmade_as words (g.S.Source.left c.args.src.now)
+    (Rose (g.S.Source.faults c.args.src.now) (g.S.Source.faults c.report.new.src))
+    c.in_ok-making.ensures.taken Reports (report_task words c.in-Report.making c.in-Report.asked t).0
+    c.report.result c.report.ensures.stop
 
 pub returns-in-Report-clause-reads : goal.returns-in-Report-clause-reads
 returns-in-Report-clause-reads g c =
     let words = c.args.words.now in
     let t = subst (IsTask words) c.in-Report.is c.in_ok-making.ensures.task in
-    λ s. reads_as words (g.S.Source.left c.args.src.now) (Rose (g.S.Source.faults c.args.src.now) (g.S.Source.faults c.report.new.src))
-    c.in_ok-making.ensures.taken Reports (report_task words c.in-Report.making c.in-Report.asked t).0 _ _ c.report.ensures.reads
+    λ s. reads_as words (g.S.Source.left c.args.src.now)
+    (Rose (g.S.Source.faults c.args.src.now) (g.S.Source.faults c.report.new.src))
+    c.in_ok-making.ensures.taken Reports (report_task words c.in-Report.making c.in-Report.asked t).0
+    _ _ c.report.ensures.reads
 
 pub returns-in-Report-clause-source : goal.returns-in-Report-clause-source
 returns-in-Report-clause-source g c =
@@ -50,14 +54,16 @@ pub returns-in-Step-clause-stop : goal.returns-in-Step-clause-stop
 returns-in-Step-clause-stop g c =
     let words = c.args.words.now in
     let t = subst (IsTask words) c.in-Step.is c.in_ok-making.ensures.task in
-    unmade_as words (g.S.Source.left c.args.src.now) (Rose (g.S.Source.faults c.args.src.now) (g.S.Source.faults c.step.new.src))
+    unmade_as words (g.S.Source.left c.args.src.now)
+    (Rose (g.S.Source.faults c.args.src.now) (g.S.Source.faults c.step.new.src))
     c.in_ok-making.ensures.taken Steps (step_task words c.in-Step.making t).0 c.step.result c.step.ensures.stop
 
 pub returns-in-Step-clause-reads : goal.returns-in-Step-clause-reads
 returns-in-Step-clause-reads g c =
     let words = c.args.words.now in
     let t = subst (IsTask words) c.in-Step.is c.in_ok-making.ensures.task in
-    λ s. reads_as words (g.S.Source.left c.args.src.now) (Rose (g.S.Source.faults c.args.src.now) (g.S.Source.faults c.step.new.src))
+    λ s. reads_as words (g.S.Source.left c.args.src.now)
+    (Rose (g.S.Source.faults c.args.src.now) (g.S.Source.faults c.step.new.src))
     c.in_ok-making.ensures.taken Steps (step_task words c.in-Step.making t).0 _ _ c.step.ensures.reads
 
 pub returns-in-Step-clause-source : goal.returns-in-Step-clause-source
@@ -79,14 +85,17 @@ pub returns-in-Part-clause-stop : goal.returns-in-Part-clause-stop
 returns-in-Part-clause-stop g c =
     let words = c.args.words.now in
     let t = subst (IsTask words) c.in-Part.is c.in_ok-making.ensures.task in
-    unmade_as words (g.S.Source.left c.args.src.now) (Rose (g.S.Source.faults c.args.src.now) (g.S.Source.faults c.part.new.src))
-    c.in_ok-making.ensures.taken Parts (part_task words c.in-Part.making c.in-Part.wanted t).0 c.part.result c.part.ensures.stop
+    unmade_as words (g.S.Source.left c.args.src.now)
+    (Rose (g.S.Source.faults c.args.src.now) (g.S.Source.faults c.part.new.src))
+    c.in_ok-making.ensures.taken Parts (part_task words c.in-Part.making c.in-Part.wanted t).0
+    c.part.result c.part.ensures.stop
 
 pub returns-in-Part-clause-reads : goal.returns-in-Part-clause-reads
 returns-in-Part-clause-reads g c =
     let words = c.args.words.now in
     let t = subst (IsTask words) c.in-Part.is c.in_ok-making.ensures.task in
-    λ s. reads_as words (g.S.Source.left c.args.src.now) (Rose (g.S.Source.faults c.args.src.now) (g.S.Source.faults c.part.new.src))
+    λ s. reads_as words (g.S.Source.left c.args.src.now)
+    (Rose (g.S.Source.faults c.args.src.now) (g.S.Source.faults c.part.new.src))
     c.in_ok-making.ensures.taken Parts (part_task words c.in-Part.making c.in-Part.wanted t).0 _ _ c.part.ensures.reads
 
 pub returns-in-Part-clause-source : goal.returns-in-Part-clause-source
@@ -108,14 +117,16 @@ pub returns-in-Query-clause-stop : goal.returns-in-Query-clause-stop
 returns-in-Query-clause-stop g c =
     let words = c.args.words.now in
     let t = subst (IsTask words) c.in-Query.is c.in_ok-making.ensures.task in
-    unmade_as words (g.S.Source.left c.args.src.now) (Rose (g.S.Source.faults c.args.src.now) (g.S.Source.faults c.query.new.src))
+    unmade_as words (g.S.Source.left c.args.src.now)
+    (Rose (g.S.Source.faults c.args.src.now) (g.S.Source.faults c.query.new.src))
     c.in_ok-making.ensures.taken Queries (query_task words c.in-Query.making t).0 c.query.result c.query.ensures.stop
 
 pub returns-in-Query-clause-reads : goal.returns-in-Query-clause-reads
 returns-in-Query-clause-reads g c =
     let words = c.args.words.now in
     let t = subst (IsTask words) c.in-Query.is c.in_ok-making.ensures.task in
-    λ s. reads_as words (g.S.Source.left c.args.src.now) (Rose (g.S.Source.faults c.args.src.now) (g.S.Source.faults c.query.new.src))
+    λ s. reads_as words (g.S.Source.left c.args.src.now)
+    (Rose (g.S.Source.faults c.args.src.now) (g.S.Source.faults c.query.new.src))
     c.in_ok-making.ensures.taken Queries (query_task words c.in-Query.making t).0 _ _ c.query.ensures.reads
 
 pub returns-in-Query-clause-source : goal.returns-in-Query-clause-source
@@ -138,14 +149,16 @@ pub returns-in-Check-clause-stop : goal.returns-in-Check-clause-stop
 returns-in-Check-clause-stop g c =
     let words = c.args.words.now in
     let t = subst (IsTask words) c.in-Check.is c.in_ok-making.ensures.task in
-    unmade_as words (g.S.Source.left c.args.src.now) (Rose (g.S.Source.faults c.args.src.now) (g.S.Source.faults c.check_source.new.src))
+    unmade_as words (g.S.Source.left c.args.src.now)
+    (Rose (g.S.Source.faults c.args.src.now) (g.S.Source.faults c.check_source.new.src))
     c.in_ok-making.ensures.taken Checks (check_task words t) c.check_source.result c.check_source.ensures.stop
 
 pub returns-in-Check-clause-reads : goal.returns-in-Check-clause-reads
 returns-in-Check-clause-reads g c =
     let words = c.args.words.now in
     let t = subst (IsTask words) c.in-Check.is c.in_ok-making.ensures.task in
-    λ s. reads_as words (g.S.Source.left c.args.src.now) (Rose (g.S.Source.faults c.args.src.now) (g.S.Source.faults c.check_source.new.src))
+    λ s. reads_as words (g.S.Source.left c.args.src.now)
+    (Rose (g.S.Source.faults c.args.src.now) (g.S.Source.faults c.check_source.new.src))
     c.in_ok-making.ensures.taken Checks (check_task words t) _ _ c.check_source.ensures.reads
 
 pub returns-in-Check-clause-source : goal.returns-in-Check-clause-source
