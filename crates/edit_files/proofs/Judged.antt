@@ -39,7 +39,8 @@ file_decided limits = record {
 
 -- what a call gives that gives what judging does is the file of the text
 pub given_is_file : (limits : Limits) (bytes : List ℕ) (r : Result File ReadRefused) →
-    Gives whole r (judge (file_judge limits) 1 at_title (lines_of bytes)) → IfOk r (λ f. IsFile limits bytes (content f))
+    Gives whole r (judge (file_judge limits) 1 at_title (lines_of bytes)) →
+    IfOk r (λ f. IsFile limits bytes (content f))
 given_is_file limits bytes r h =
     given_right (file_reading limits) (file_judge limits) (file_decided limits) whole at_title (lines_of bytes) r h
 

@@ -214,7 +214,8 @@ at_reason Title f line why h =
     let k = word_err line (codes "mesh3-out 1") (record { due = Head Replies; taken = f }) why h in
     subst (λ (w : Why). IsMeshReason Title f line w) (sym k.1) k.0
 at_reason (Head p) f line why h = head_reason p f line why h
-at_reason (Body p n) f line why h = body_reason p n f line why (then_err (due_then (lines_due p n)) (taken p f line) why h)
+at_reason (Body p n) f line why h =
+    body_reason p n f line why (then_err (due_then (lines_due p n)) (taken p f line) why h)
 at_reason Last f line why h =
     let k = word_err line (codes "end") (record { due = Nothing; taken = f }) why h in
     subst (λ (w : Why). IsMeshReason Last f line w) (sym k.1) k.0
@@ -255,12 +256,16 @@ reason_at Last f line TooMany h = absurd h
 reason_at Nothing f line TooMany h = absurd h
 reason_at Title f line Field h = absurd h
 reason_at (Head p) f line Field h = absurd h
-reason_at (Body p n) f line Field h = ap (then_due (lines_due p n)) (off_form (taken p f) (IsTaken p f) (HasFormOf p) (taken_decided p f) (taken_form p f) line (taken p f line) refl h)
+reason_at (Body p n) f line Field h =
+    ap (then_due (lines_due p n)) (off_form (taken p f) (IsTaken p f) (HasFormOf p) (taken_decided p f) (taken_form p f)
+    line (taken p f line) refl h)
 reason_at Last f line Field h = absurd h
 reason_at Nothing f line Field h = absurd h
 reason_at Title f line Range h = absurd h
 reason_at (Head p) f line Range h = absurd h
-reason_at (Body p n) f line Range h = ap (then_due (lines_due p n)) (off_range (taken p f) (IsTaken p f) (HasFormOf p) (taken_decided p f) line (taken p f line) refl h.0 h.1)
+reason_at (Body p n) f line Range h =
+    ap (then_due (lines_due p n)) (off_range (taken p f) (IsTaken p f) (HasFormOf p) (taken_decided p f) line
+    (taken p f line) refl h.0 h.1)
 reason_at Last f line Range h = absurd h
 reason_at Nothing f line Range h = absurd h
 reason_at due f line Truncated h = absurd h

@@ -1,6 +1,6 @@
 -- The numbers of faces by the cells around them.
 use Rattle.std.proofs.Common.{◌≡◌, ◌∙◌, ℕ, ◌<◌, ◌+◌, ◌^◌, min, max, ap, sym, subst, arith, Bool, true, false, List, []}
-use Rattle.std.proofs.Common.{length, map, drop, get_or, nat_le}
+use Rattle.std.proofs.Common.{length, map, get_or, nat_le}
 use Rattle.std.specs.Prelude.{◌&&◌, ◌||◌}
 use Rattle.std.specs.List.{All, list_all, list_any}
 use Rattle.std.proofs.lemmas.Bool.Decides.{nat_tests}

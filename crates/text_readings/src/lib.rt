@@ -1,8 +1,8 @@
 //! Readings of texts, line by line: what a fault is, lines, fields, numbers and points, and what a reading is.
 //!
 //! Both readers, of edit files and of meshes, stand on it. A reading tells which line leads from where to where, why a
-//! line is wrong where it stands, and where a text may end (`specs/Readings.antt`). So a text leads to an end or has one
-//! fault, and one not both.
+//! line is wrong where it stands, and where a text may end (`specs/Readings.antt`). So a text leads to an end or has
+//! one fault, and not both.
 //!
 //! ```
 //! let (line, rest) = first_line(&text)?;       // a line of a text, and what follows it
