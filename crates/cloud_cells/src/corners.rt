@@ -253,7 +253,6 @@ impl Corners {
 
     // Whether the two differ. Cells on one facet do in the sums of their keys, so that there no branch is taken that a
     // processor would have to guess.
-    #[inline(always)]
     fn differs(&self, other: &Corners) -> bool
         ensures { IsTrue result ↔ ¬ (self.now ≡ other.now) }
     {
@@ -262,7 +261,6 @@ impl Corners {
     }
 
     // Which of its facets the facet is, where it is another cell on it than the given one, else 4.
-    #[inline(always)]
     pub(crate) fn number_across(&self, cell: &Corners, facet: &Face) -> usize
         ensures { (result < 4) ↔ IsOtherOn cell.now facet.now self.now }
     {

@@ -35,14 +35,12 @@ fn place_on_curve(x: u64, y: u64, z: u64) -> u64 {
 }
 
 // All bits where a bit of the number is set, else none.
-#[inline(always)]
 fn bit_at(x: u64, at: u32) -> u64 {
     0u64.wrapping_sub((x >> (at & 63)) & 1)
 }
 
 // The low bits of x are turned where they are to be, and else those of the two are swapped. No branch is taken that a
 // processor would have to guess.
-#[inline(always)]
 fn turned_or_swapped(x: u64, y: u64, turn: u64, low: u64) -> (u64, u64) {
     let swapped = (x ^ y) & low & !turn;
     (x ^ swapped ^ (low & turn), y ^ swapped)

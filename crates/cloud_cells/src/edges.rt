@@ -91,7 +91,6 @@ impl Edges {
 
     // The facet that waits on the edge, or this one itself, where none does; then this one waits. Whether one waits is
     // nothing that a processor could guess, so no branch is taken on it.
-    #[inline(always)]
     pub(crate) fn meet(&mut self, edge: &Edge, place: usize) -> Door {
         let own = short(place << 2 | edge.number) as u64;
         let mask = self.entries.len().wrapping_sub(1);
@@ -119,7 +118,6 @@ impl Edges {
 
 impl Door {
     // The facet of a number of an entry.
-    #[inline(always)]
     fn of(number: u64) -> Door {
         Door {
             place: (number >> 2) as usize,
@@ -140,7 +138,6 @@ fn length_for(most: usize) -> usize {
 }
 
 impl Edge {
-    #[inline(always)]
     fn new(first: u64, second: u64, number: usize) -> Edge {
         let mixed = first
             .wrapping_mul(0x9E3779B97F4A7C15)
@@ -152,7 +149,6 @@ impl Edge {
     }
 
     // The facet on it of the new cell in a slot.
-    #[inline(always)]
     pub(crate) fn door(&self, place: usize) -> Door {
         Door {
             place,
