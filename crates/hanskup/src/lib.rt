@@ -7,7 +7,7 @@
 //! | I want | call |
 //! |---|---|
 //! | a point; the side of a plane, of a sphere | `Point::new`; `orient`, `outside` |
-//! | a mesh of points | `find_four`, then `begin_cloud`, which puts them in at once |
+//! | a mesh of points | `find_four`, then `begin_cloud`, which puts them in at once; `begin_cloud_by_threads` |
 //! | a mesh of four points | `opening_points`, `begin`, then `apply` of `Edit::Add` for each other point |
 //! | to add, take or move a point | `apply`, which answers the reply and the number of the entry |
 //! | the cells; the points; what was done | `complex`, `points`, `history`; at the end of a mesh `into_parts` |
@@ -17,7 +17,7 @@
 //! | an alpha complex, with kinds of faces | `alpha`; for several alphas `alphas`, then `Alphas::shape` |
 //! | the least alpha of every face | `thresholds`, and `put_steps` for its text |
 //! | solid parts, their boundaries, the least alpha for so many | `parts`, `boundary`, `least_alpha` |
-//! | the cells of a cloud, without a mesh | `complex_of_points` |
+//! | the cells of a cloud, without a mesh | `complex_of_points`; `complex_by_threads` |
 //! | to judge cells from elsewhere | `read_mesh` of a report, in pieces `MeshReader`; `check`, `verdict_text` |
 //! | several threads on one mesh | `table::MeshTable`: `open`, `split`, `try_edit`, `try_snapshot`, `close` |
 //! | texts | `mesh_text`, `shape_text`, `off_text`, and `put_report` to a sink |
@@ -43,7 +43,7 @@ pub use alpha_steps::{Threshold, Thresholds, put_steps, thresholds};
 pub use byte_ends::{Failed, MemSink, MemSource, Sink, Source, StdSink, StdSource};
 pub use cell_lists::{Places, QuadList};
 pub use cell_store::{BadGrid, Grid, Hold, Mesh};
-pub use cloud_cells::complex_of_points;
+pub use cloud_cells::{complex_by_threads, complex_of_points};
 pub use edit_files::{File, ReadRefused, Version, file_text, read_file, read_file_up_to};
 pub use edit_history::{Edit, Entry, NotSolid, PointSet, Reply};
 pub use exact_orient::{collinear, orient};
@@ -57,8 +57,8 @@ pub use mesh_files::{
 pub use mesh_handle::{Location, locate};
 pub use near_vertex::{Near, NearStart, NearTurn, NearWalk, nearest, nearest_to_each, put_near};
 pub use one_mesh::{
-    Receipt, apply, begin, begin_cloud, complex, find_four, grid_for, history, into_parts,
-    opening_points, points,
+    Receipt, apply, begin, begin_cloud, begin_cloud_by_threads, complex, find_four, grid_for,
+    history, into_parts, opening_points, points,
 };
 pub use point_order::{Cell, Facet, OutOfRange, Pair, Point, Quad, Tri};
 pub use solid_parts::{Part, PartSize, boundary, least_alpha, parts, put_parts, sizes};
