@@ -73,9 +73,9 @@ SPEED = {
         Row('a point of a cloud of 4,000 to 12,000', 'instructions', 'point'),
         Row('a face of `steps`', 'instructions', 'face')])}
 FIRST_PAGE = [
-    Row("a cloud of 262,144 drawn points, beside CGAL's insertion of a range", 'cloud', 'spread-262144'),
-    Row("the same by four workers, by the clock, beside CGAL's Parallel_tag with four threads", 'threads',
-        'spread-262144 by 4'),
+    Row("262,144 drawn points by 4 workers, by the clock, beside CGAL's Parallel_tag by 4 threads",
+        'threads', 'spread-262144 by 4'),
+    Row("the same by one, beside CGAL's insertion of a range", 'cloud', 'spread-262144'),
     Row('65,536 drawn edits, every fourth a take, beside CGAL edit by edit', 'mesh', 'drawn-65536'),
     Row("least alphas of all faces after the mesh, beside CGAL's alpha spectrum", 'steps', 'double'),
     Row("shapes of three radii after the mesh, beside CGAL's", 'shape', '3'),

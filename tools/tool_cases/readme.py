@@ -106,8 +106,8 @@ def run(work):
             expect(f'{word} is in ./delaunay --help', f'\n  {word} ' in helped)
     for name in ('README.md', 'docs/SPEED.md'):
         expect(f'each figure of {name} is there', 'FILL' not in read(os.path.join(TOP, name)))
-    words = [word for word in read(os.path.join(TOP, 'docs/SPEED.md')).split() if re.search(r'\w', word)]
-    expect(f'docs/SPEED.md has at most 900 words: {len(words)}', len(words) <= 900)
+    words = [word for word in read(os.path.join(TOP, 'docs/SPEED.md')).split() if re.search(r'[A-Za-z]', word)]
+    expect(f'docs/SPEED.md has at most 900 words, figures aside: {len(words)}', len(words) <= 900)
     checked = made('decisions', '--check')
     expect(f'each decision has a number: {checked.stdout.decode()}', checked.returncode == 0)
     expect('the owners are those of crates.txt', made('owners').stdout.decode() == read(f'{TOP}/.github/CODEOWNERS'))
