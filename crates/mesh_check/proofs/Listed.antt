@@ -13,7 +13,8 @@ use Rattle.point_order.specs.declared.cell.Cell.TheVariants.{Full, Open}
 use Rattle.point_order.specs.CellOrder.{cell_cmp}
 use Rattle.point_order.specs.Sets.{IsIn, IsAscending}
 use Rattle.point_order.specs.Facets.{points_of}
-use Rattle.mesh_check.specs.Flaws.{AreCells, as_cells}
+use Rattle.mesh_check.specs.Flaws.{as_cells}
+use Rattle.mesh_check.specs.Laws.{AreCells}
 
 -- a fact of all listed cells
 of_each : (P : Cell → Type 0) (cells hull : List (List ℕ)) → ((q : List ℕ) → IsIn q cells → P (Full q)) →

@@ -6,7 +6,8 @@ use Rattle.point_order.specs.declared.cell.Cell.{Cell}
 use Rattle.mesh_check.specs.declared.flaw.Verdict.{Verdict}
 use Rattle.mesh_check.specs.declared.text.Told.{Told}
 use Rattle.mesh_check.specs.Flaws.{IsVerdict}
-use Rattle.mesh_check.specs.Text.{IsTold, is_good, verdict_text}
+use Rattle.mesh_check.specs.Text.{is_good, verdict_text}
+use Rattle.mesh_check.specs.Laws.{IsTold}
 
 -- what a verdict tells is told: whether the lists are good, and the text
 pub told_by : (s : List ℕ) (l : List Cell) (v : Verdict) (r : Result Told AllocError) → IsVerdict s l v →

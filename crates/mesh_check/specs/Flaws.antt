@@ -3,7 +3,6 @@
 use Rattle.std.specs.Prelude.{◌≡◌, ℕ, Bool, true, false, not, ◌||◌, List, [], ◌∷◌, ◌⊎◌, Option, None, Some}
 use Rattle.std.specs.Prelude.{if◌then◌else◌, map, ◌++◌}
 use Rattle.std.specs.List.{find, list_any}
-use Rattle.std.specs.List.Sorted.{IsStrictlySortedBy}
 use Rattle.std.specs.declared.cmp.Ordering.{Ordering}
 use Rattle.std.specs.declared.cmp.Ordering.TheVariants.{Less, Greater}
 use Rattle.std.specs.Cmp.Lexicographic.{slice_cmp}
@@ -12,11 +11,12 @@ use Rattle.point_order.specs.declared.cell.Cell.{Cell}
 use Rattle.point_order.specs.declared.cell.Cell.TheVariants.{Full, Open}
 use Rattle.point_order.specs.declared.cell.Facet.{Facet}
 use Rattle.point_order.specs.declared.cell.Facet.TheVariants.{Three, Two}
-use Rattle.point_order.specs.CellOrder.{cell_cmp}
+use Rattle.point_order.specs.Complex.{complex}
 use Rattle.point_order.specs.Orientation.{is_flat, is_collinear}
 use Rattle.point_order.specs.Conflicts.{are_opposite}
 use Rattle.point_order.specs.Spheres.{is_outside}
-use Rattle.point_order.specs.Sets.{IsIn, IsAscending, is_among}
+use Rattle.point_order.specs.Sets.{IsIn, is_among}
+use Rattle.point_order.specs.Solid.{is_solid}
 use Rattle.point_order.specs.Facets.{facets_of, points_of}
 use Rattle.mesh_check.specs.declared.flaw.Flaw.{Flaw}
 use Rattle.mesh_check.specs.declared.flaw.Flaw.TheVariants.{Empty, FlatCell, Sides, Inside, OpenFacet}
@@ -75,15 +75,6 @@ facet_cmp (Three t) (Two p) = Less
 facet_cmp (Two p) (Three t) = Greater
 facet_cmp (Two p) (Two q) = slice_cmp nat_cmp p q
 
--- ---- flaws
-
--- the flaw is true of the points s and the listed cells
-abbrev pub IsFlaw : List ℕ → List Cell → Flaw → Type 0
-IsFlaw s l Empty = l ≡ []
-IsFlaw s l (FlatCell c) = IsIn c l × (is_flat_cell c ≡ true)
-IsFlaw s l (Sides t e f) = IsIn (Open t) l × IsIn e s × IsIn f s × (are_apart (Open t) e f ≡ true)
-IsFlaw s l (Inside c p) = IsIn c l × IsIn p s × (is_inside s c p ≡ true)
-IsFlaw s l (OpenFacet f) = IsFacet l f × ¬ (IsInTwo l f)
 
 -- ---- the first of them
 
@@ -146,8 +137,6 @@ IsVerdict s l (Bad flaw) = first_flaw s l ≡ Some flaw
 abbrev pub as_cells : List (List ℕ) → List (List ℕ) → List Cell
 as_cells cells hull = map Full cells ++ map Open hull
 
--- the cells are in order, each once, and their points ascend and are points of s
-pub record AreCells (s : List ℕ) (l : List Cell) : Type 0 where
-  pub sorted : IsStrictlySortedBy cell_cmp l
-  pub ascending : (c : Cell) → IsIn c l → IsAscending (points_of c)
-  pub inside : (c : Cell) → IsIn c l → (p : ℕ) → IsIn p (points_of c) → IsIn p s
+-- the set is solid, and the cells are its complex
+abbrev pub IsComplex : List ℕ → List Cell → Type 0
+IsComplex s l = (is_solid s ≡ true) × (l ≡ complex s)

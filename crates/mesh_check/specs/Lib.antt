@@ -1,5 +1,5 @@
 pub mod Boxes
 pub mod Flaws
 pub mod Sides
-pub mod Laws
 pub mod Text
+pub mod Laws

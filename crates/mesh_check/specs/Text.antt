@@ -1,5 +1,5 @@
 -- The text of a verdict, which names points by their indices.
-use Rattle.std.specs.Prelude.{◌≡◌, ℕ, Bool, true, false, List, [], ◌∷◌, ◌++◌, map, codes, decimal}
+use Rattle.std.specs.Prelude.{ℕ, Bool, true, false, List, [], ◌∷◌, ◌++◌, map, codes, decimal}
 use Rattle.std.specs.List.{concat}
 use Rattle.point_order.specs.declared.cell.Cell.{Cell}
 use Rattle.point_order.specs.Facets.{points_of, points_on}
@@ -8,7 +8,6 @@ use Rattle.mesh_check.specs.declared.flaw.Flaw.{Flaw}
 use Rattle.mesh_check.specs.declared.flaw.Flaw.TheVariants.{Empty, FlatCell, Sides, Inside, OpenFacet}
 use Rattle.mesh_check.specs.declared.flaw.Verdict.{Verdict}
 use Rattle.mesh_check.specs.declared.flaw.Verdict.TheVariants.{Good, Bad}
-use Rattle.mesh_check.specs.Flaws.{IsVerdict}
 
 -- points of an ascending list as indices, each with a space before it
 abbrev pub places_text : List ℕ → List ℕ → List ℕ
@@ -34,10 +33,3 @@ is_good (Bad flaw) = false
 -- a title, and the verdict as a line
 abbrev pub verdict_text : List ℕ → Verdict → List ℕ
 verdict_text s verdict = codes "mesh3-check 1\n" ++ verdict_words s verdict ++ codes "\n"
-
--- What is told of listed cells: whether the verdict on them is good, and its text.
-pub record IsTold (s : List ℕ) (l : List Cell) (good : Bool) (text : List ℕ) : Type 0 where
-  pub verdict : Verdict
-  pub is_verdict : IsVerdict s l verdict
-  pub good_is : good ≡ is_good verdict
-  pub text_is : text ≡ verdict_text s verdict
