@@ -5,14 +5,7 @@ use Rattle.point_order.specs.declared.cell.Cell.TheVariants.{Full, Open}
 use Rattle.alpha_steps.specs.declared.threshold.Threshold.{Threshold}
 use Rattle.alpha_steps.specs.declared.threshold.Threshold.TheVariants.{At, Never}
 use Rattle.alpha_steps.specs.declared.steps.Thresholds.TheInside.{Inside}
-
--- The points, the pairs and triples, each with its threshold, and a slot for each cell, with its points and its
--- threshold where it is Full.
-pub record StepSlots : Type 0 where
-  pub points : List ℕ
-  pub pairs : List (List ℕ × Threshold)
-  pub triples : List (List ℕ × Threshold)
-  pub cells : List (Option (List ℕ × Threshold))
+use Rattle.alpha_steps.specs.Thresholds.{StepSlots}
 
 -- the threshold that a least alpha tells: none where it is no alpha
 abbrev pub threshold_of : ℕ → Threshold

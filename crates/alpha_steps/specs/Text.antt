@@ -6,7 +6,7 @@ use Rattle.text_sheets.specs.Lines.{block}
 use Rattle.list_laws.specs.Lists.{held}
 use Rattle.alpha_steps.specs.declared.threshold.Threshold.{Threshold}
 use Rattle.alpha_steps.specs.declared.threshold.Threshold.TheVariants.{At, Never}
-use Rattle.alpha_steps.specs.Seen.{StepSlots}
+use Rattle.alpha_steps.specs.Thresholds.{StepSlots}
 
 abbrev pub threshold_word : Threshold → List ℕ
 threshold_word (At t) = decimal t

@@ -1,5 +1,5 @@
 -- The least alpha at which each face of the complex of a set is admitted. Every alpha is below 2^34.
-use Rattle.std.specs.Prelude.{◌≡◌, ℕ, ◌<◌, ◌^◌, Bool, true, false, List, map, nat_le}
+use Rattle.std.specs.Prelude.{◌≡◌, ℕ, ◌<◌, ◌^◌, Bool, true, false, List, map, nat_le, Option}
 use Rattle.point_order.specs.Complex.{complex}
 use Rattle.point_order.specs.Sets.{IsIn}
 use Rattle.face_list.specs.Faces.{full_cells, parts_in}
@@ -7,7 +7,14 @@ use Rattle.alpha_complex.specs.Admitted.{is_admitted}
 use Rattle.list_laws.specs.Lists.{held}
 use Rattle.alpha_steps.specs.declared.threshold.Threshold.{Threshold}
 use Rattle.alpha_steps.specs.declared.threshold.Threshold.TheVariants.{At, Never}
-use Rattle.alpha_steps.specs.Seen.{StepSlots}
+
+-- The points, the pairs and triples, each with its threshold, and a slot for each cell, with its points and its
+-- threshold where it is Full.
+pub record StepSlots : Type 0 where
+  pub points : List ℕ
+  pub pairs : List (List ℕ × Threshold)
+  pub triples : List (List ℕ × Threshold)
+  pub cells : List (Option (List ℕ × Threshold))
 
 -- The threshold of a face is the least alpha at which it is admitted, or none.
 abbrev pub IsThreshold : List ℕ → List ℕ → Threshold → Type 0

@@ -22,7 +22,8 @@ pub struct Thresholds<'a, 'b> {
 }
 
 impl<'a, 'b> Model for Thresholds<'a, 'b> {
-    ghost use Rattle.alpha_steps.specs.Seen.{StepSlots, AreAsMany, steps_seen};
+    ghost use Rattle.alpha_steps.specs.Seen.{AreAsMany, steps_seen};
+    ghost use Rattle.alpha_steps.specs.Thresholds.{StepSlots};
 
     ghost Value = { StepSlots };
 

@@ -2,7 +2,7 @@
 use Rattle.std.specs.Prelude.{◌≡◌, ℕ, List, Option}
 use Rattle.edit_history.specs.declared.history.Entry.{Entry}
 use Rattle.edit_history.specs.Histories.{replay}
-use Rattle.alpha_steps.specs.Seen.{StepSlots}
+use Rattle.alpha_steps.specs.Thresholds.{StepSlots}
 use Rattle.alpha_steps.specs.Text.{steps_text}
 use Rattle.alpha_steps.specs.Thresholds.{AreThresholds}
 use Rattle.command_pages.specs.Command.{Command}
