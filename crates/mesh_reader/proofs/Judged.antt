@@ -12,7 +12,8 @@ use Rattle.text_readings.proofs.Cited.{one_end, one_fault, right_judged}
 use Rattle.mesh_reader.specs.declared.mesh_file.PackedMesh.{PackedMesh}
 use Rattle.mesh_reader.specs.declared.place.Due.{Due}
 use Rattle.mesh_reader.specs.declared.place.Due.TheVariants.{Title, Head, Body, Last, Nothing}
-use Rattle.mesh_reader.specs.Grammar.{IsMeshText, LeadsOn, MeshParts, Reached, at_end, at_title, parts}
+use Rattle.mesh_reader.specs.Grammar.{IsMeshText, LeadsOn, MeshParts, Reached, at_end, at_title}
+use Rattle.mesh_reader.specs.Packed.{parts}
 use Rattle.mesh_reader.specs.Faults.{IsMeshFault, mesh_reading}
 use Rattle.mesh_reader.specs.Judging.{is_nothing, mesh_judge, whole}
 use Rattle.mesh_reader.proofs.Decided.{reason_step, step_complete, step_reason, step_sound}

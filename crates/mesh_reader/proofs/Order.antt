@@ -20,7 +20,8 @@ use Rattle.text_readings.specs.Readings.{AllLead}
 use Rattle.text_readings.specs.declared.fault.ReadRefused.{ReadRefused}
 use Rattle.mesh_reader.specs.declared.mesh_file.PackedMesh.{PackedMesh}
 use Rattle.mesh_reader.specs.Grammar.{AreIndices, IsAfter, IsIndexLine, IsLess, IsMeshText, IsTaken, Leads, LeadsOn}
-use Rattle.mesh_reader.specs.Grammar.{MeshParts, Reached, at_end, at_title, no_parts, parts}
+use Rattle.mesh_reader.specs.Grammar.{MeshParts, Reached, at_end, at_title, no_parts}
+use Rattle.mesh_reader.specs.Packed.{parts}
 use Rattle.mesh_reader.specs.Order.{AreInOrder, IsInOrder}
 
 -- all of a list in order are before what its last is before

@@ -13,8 +13,6 @@ use Rattle.text_readings.specs.Lines.{lines_of}
 use Rattle.text_readings.specs.Readings.{AllLead}
 use Rattle.text_readings.specs.Numbers.{IsNumber, IsNumberOf}
 use Rattle.text_readings.specs.PointLines.{HasPointForm, IsPointLine}
-use Rattle.mesh_reader.specs.declared.mesh_file.MeshFile.{MeshFile}
-use Rattle.mesh_reader.specs.declared.mesh_file.PackedMesh.{PackedMesh}
 use Rattle.mesh_reader.specs.declared.place.Part.{Part}
 use Rattle.mesh_reader.specs.declared.place.Part.TheVariants.{Replies, Points, Cells, Hull}
 use Rattle.mesh_reader.specs.declared.place.Due.{Due}
@@ -32,16 +30,6 @@ pub record MeshParts : Type 0 where
 -- nothing yet
 abbrev pub no_parts : MeshParts
 no_parts = record { replies = []; points = []; cells = []; hull = [] }
-
--- a mesh without where its lists lie in memory
-abbrev pub parts : PackedMesh → MeshParts
-parts f =
-    record { replies = f.replies.items; points = f.points.items; cells = f.cells; hull = f.hull.items }
-
--- and one whose cells are not packed
-abbrev pub file_parts : MeshFile → MeshParts
-file_parts f =
-    record { replies = f.replies.items; points = f.points.items; cells = f.cells.items; hull = f.hull.items }
 
 -- ---- the lines
 

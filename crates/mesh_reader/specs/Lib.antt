@@ -1,4 +1,5 @@
 pub mod Grammar
+pub mod Packed
 pub mod Faults
 pub mod Judging
 pub mod Order

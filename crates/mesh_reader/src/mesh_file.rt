@@ -1,7 +1,7 @@
 //! What the text of a mesh says.
 
 ghost use Rattle.std.specs.Prelude.{◌≡◌, IfOk};
-ghost use Rattle.mesh_reader.specs.Grammar.{file_parts, parts};
+ghost use Rattle.mesh_reader.specs.Packed.{file_parts, parts};
 
 use cell_lists::QuadList;
 use edit_history::Reply;

@@ -6,7 +6,8 @@ ghost use Rattle.text_readings.specs.declared.fault.ReadRefused.TheVariants.{Bad
 ghost use Rattle.text_readings.specs.Lines.{lines_of};
 ghost use Rattle.list_laws.specs.Lists.{IsAscending};
 ghost use Rattle.mesh_reader.specs.Faults.{IsMeshFault};
-ghost use Rattle.mesh_reader.specs.Grammar.{IsMeshText, MeshParts, file_parts, parts};
+ghost use Rattle.mesh_reader.specs.Grammar.{IsMeshText, MeshParts};
+ghost use Rattle.mesh_reader.specs.Packed.{file_parts, parts};
 ghost use Rattle.text_readings.specs.Judging.{Gives};
 ghost use Rattle.mesh_reader.specs.Judging.{whole};
 ghost use Rattle.mesh_reader.specs.Order.{IsInOrder};

@@ -1,7 +1,7 @@
 //! Texts of meshes, and whether their lists are the complex of their points. In a case a bar stands for a line feed,
 //! and a tilde for a carriage return.
 
-ghost use Rattle.mesh_reader.specs.Grammar.{file_parts};
+ghost use Rattle.mesh_reader.specs.Packed.{file_parts};
 ghost use Rattle.mesh_reader.specs.Order.{IsInOrder};
 
 use crate::files::put_part;

@@ -1,4 +1,4 @@
-use Rattle.mesh_reader.specs.Grammar.{parts}
+use Rattle.mesh_reader.specs.Packed.{parts}
 use Rattle.command_pages.proofs.MeshJudged.{checked_of, tells_of}
 use Rattle.command_pages.proofs.checked.check_source.Goals as goal
 

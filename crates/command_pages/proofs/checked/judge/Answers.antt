@@ -1,5 +1,5 @@
 use Rattle.std.proofs.Common.{refl}
-use Rattle.mesh_reader.specs.Grammar.{parts}
+use Rattle.mesh_reader.specs.Packed.{parts}
 use Rattle.command_pages.proofs.MeshJudged.{cells_of, told_of_mesh}
 use Rattle.command_pages.proofs.checked.judge.Goals as goal
 

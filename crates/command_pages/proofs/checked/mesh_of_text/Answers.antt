@@ -1,6 +1,7 @@
 use Rattle.std.proofs.Common.{◌≡◌, ◌≤◌, List, ℕ, length, subst, sym}
 use Rattle.list_laws.proofs.Cited.{if_some}
-use Rattle.mesh_reader.specs.Grammar.{IsMeshText, parts}
+use Rattle.mesh_reader.specs.Grammar.{IsMeshText}
+use Rattle.mesh_reader.specs.Packed.{parts}
 use Rattle.command_pages.specs.Run.{mesh_limit}
 use Rattle.command_pages.proofs.checked.mesh_of_text.Goals as goal
 
