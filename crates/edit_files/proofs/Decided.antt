@@ -22,7 +22,7 @@ use Rattle.edit_files.specs.declared.place.Due.TheVariants.{Title, Heading, Body
 use Rattle.edit_files.specs.declared.version.Version.{Version}
 use Rattle.edit_files.specs.declared.version.Version.TheVariants.{One, Two, Three, Four}
 use Rattle.edit_files.specs.Content.{Content}
-use Rattle.edit_files.specs.Faults.{IsReason, IsWrongWord, is_word}
+use Rattle.edit_files.specs.Faults.{IsReason, is_word}
 use Rattle.edit_files.specs.Forms.{HasEditForm, IsEditLine, IsRadiusLine}
 use Rattle.edit_files.specs.Grammar.{HasFormOf, IsTaken, IsWithinNewest, Leads, Limits, Reached, due_behind, lines_in}
 use Rattle.edit_files.specs.Grammar.{most_of, word_behind}
@@ -104,7 +104,7 @@ title_err newest f (Some w) why h = by (leb (row w).number (row newest).number) 
     by false k = sym (err_one {A = Reached} Section why k)
 
 -- and a wrong one is refused
-title_wrong : (limits : Limits) (f : Content) (line : List ℕ) → IsWrongWord limits Title f line →
+title_wrong : (limits : Limits) (f : Content) (line : List ℕ) → IsReason limits Title f line Section →
     (o : Option Version) → titled line ≡ o → with_title limits.newest f o ≡ Err Section
 title_wrong limits f line h None e = refl
 title_wrong limits f line h (Some w) e =

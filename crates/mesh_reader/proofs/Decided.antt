@@ -268,7 +268,11 @@ reason_at (Body p n) f line Range h =
     (taken p f line) refl h.0 h.1)
 reason_at Last f line Range h = absurd h
 reason_at Nothing f line Range h = absurd h
-reason_at due f line Truncated h = absurd h
+reason_at Title f line Truncated h = absurd h
+reason_at (Head p) f line Truncated h = absurd h
+reason_at (Body p n) f line Truncated h = absurd h
+reason_at Last f line Truncated h = absurd h
+reason_at Nothing f line Truncated h = absurd h
 
 -- ---- a step
 
