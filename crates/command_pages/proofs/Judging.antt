@@ -3,10 +3,11 @@ use Rattle.std.proofs.Common.{◌≡◌, refl, subst, ap, ◌∙◌, ℕ, ◌+�
 use Rattle.std.specs.Prelude.{Option, None, Some, IfSome, IfErr, IfOk, Result, Ok, Err}
 use Rattle.std.specs.List.{AllByRecursion}
 use Rattle.edit_files.proofs.Cited.{file_is_within}
-use Rattle.edit_files.specs.Content.{Content, content}
+use Rattle.edit_files.specs.Content.{Content}
+use Rattle.edit_files.specs.Held.{content}
 use Rattle.edit_files.specs.declared.file.File.{File}
 use Rattle.edit_files.specs.Grammar.{IsFile, Limits}
-use Rattle.edit_files.specs.Versions.{row}
+use Rattle.edit_files.specs.Content.{row}
 use Rattle.command_pages.specs.Report.{AreRadii}
 use Rattle.command_pages.specs.Taken.{file_limits}
 use Rattle.edit_files.specs.Faults.{IsFault}

@@ -10,7 +10,7 @@ use Rattle.alpha_complex.specs.Shapes.{ShapeParts, shape_of, shape_seen}
 use Rattle.alpha_complex.specs.Slots.{ShapeSlots}
 use Rattle.mesh_files.specs.Report.{AreCountedInOrder, shapes_seen}
 use Rattle.mesh_files.specs.Text.{counted_points}
-use Rattle.edit_files.specs.Versions.{alpha_of}
+use Rattle.edit_files.specs.Content.{alpha_of}
 use Rattle.edit_files.specs.declared.version.Version.{Version}
 
 -- a shape is told by its four lists

@@ -7,7 +7,7 @@ ghost use Rattle.del_laws.specs.Keys.{AreKeys};
 ghost use Rattle.edit_history.specs.Histories.{IsLegal};
 ghost use Rattle.edit_history.specs.OneThread.{places};
 ghost use Rattle.edit_history.specs.Opening.{opening_four};
-ghost use Rattle.edit_files.specs.Content.{content};
+ghost use Rattle.edit_files.specs.Held.{content};
 ghost use Rattle.command_pages.specs.Page.{AreReportParts, report_of_parts};
 ghost use Rattle.command_pages.specs.Report.{AreRadii, report_of};
 ghost use Rattle.command_pages.specs.Run.{IsKept};

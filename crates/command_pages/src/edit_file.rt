@@ -3,7 +3,7 @@
 ghost use Rattle.std.specs.Prelude.{◌≡◌, ◌≤◌, length, Some, IfOk, IfErr, IsOk};
 ghost use Rattle.std.specs.Io.KnownBytes.{IsAtEnd};
 ghost use Rattle.byte_ends.specs.Ends.{Rose};
-ghost use Rattle.edit_files.specs.Content.{content};
+ghost use Rattle.edit_files.specs.Held.{content};
 ghost use Rattle.command_pages.specs.Files.{HasNoMesh, IsFileOf};
 ghost use Rattle.command_pages.specs.Run.{Reads, input_limit};
 ghost use Rattle.command_words.specs.Stops.{status_of_made};

@@ -7,7 +7,7 @@ ghost use Rattle.point_order.specs.Sets.{IsAscending};
 ghost use Rattle.point_order.specs.Solid.{is_solid};
 ghost use Rattle.del_laws.specs.Keys.{AreKeys};
 ghost use Rattle.edit_history.specs.Histories.{replay};
-ghost use Rattle.edit_files.specs.Content.{content};
+ghost use Rattle.edit_files.specs.Held.{content};
 ghost use Rattle.command_pages.specs.Page.{AreReportParts, radii_of as radii_of_it, report_of_parts};
 ghost use Rattle.command_pages.specs.Report.{AreRadii, order_of as order_of_it, report_of, tags_of};
 

@@ -5,7 +5,8 @@ use Rattle.std.specs.declared.alloc.Global.{Global}
 use Rattle.list_laws.proofs.Cited.{if_some}
 use Rattle.edit_history.specs.declared.history.Entry.{Entry}
 use Rattle.edit_files.specs.declared.file.File.{File}
-use Rattle.edit_files.specs.Content.{Content, content}
+use Rattle.edit_files.specs.Content.{Content}
+use Rattle.edit_files.specs.Held.{content}
 use Rattle.command_pages.specs.declared.made.Parts.{Parts}
 use Rattle.command_words.specs.declared.stop.Stop.{Stop}
 use Rattle.command_pages.specs.Files.{HasNoMesh, IsFileOf, IsFileWithin, IsFlatFile}

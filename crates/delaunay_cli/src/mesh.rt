@@ -1,7 +1,7 @@
 //! From an accepted file to its history, and to the parts of its report.
 
 ghost use Rattle.std.specs.Prelude.{◌≡◌, ◌<◌, ◌+◌, ◌^◌, false, length, All, IfOk, IfErr};
-ghost use Rattle.edit_files.specs.Content.{content};
+ghost use Rattle.edit_files.specs.Held.{content};
 ghost use Rattle.command_pages.specs.Page.{AreReportParts, report_of_parts};
 ghost use Rattle.command_pages.specs.Report.{AreRadii, report_of};
 ghost use Rattle.delaunay_cli.specs.Reported.{IsMeshed, IsUnmeshed};

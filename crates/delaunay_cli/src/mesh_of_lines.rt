@@ -4,7 +4,7 @@ ghost use Rattle.std.specs.Prelude.{◌≡◌, ◌<◌, ◌+◌, ◌^◌, Some, 
 ghost use Rattle.edit_history.specs.OneThread.{one_thread, places};
 ghost use Rattle.edit_history.specs.Opening.{opening_four};
 ghost use Rattle.edit_history.specs.Histories.{IsLegal};
-ghost use Rattle.edit_files.specs.Content.{content};
+ghost use Rattle.edit_files.specs.Held.{content};
 ghost use Rattle.command_pages.specs.Run.{IsKept};
 ghost use Rattle.delaunay_cli.specs.MeshLists.{AreLists};
 

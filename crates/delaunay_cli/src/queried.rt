@@ -4,7 +4,7 @@ ghost use Rattle.std.specs.Prelude.{◌≡◌, ◌<◌, ◌≤◌, ◌+◌, ◌^
 ghost use Rattle.std.specs.Io.KnownBytes.{IsAtEnd};
 ghost use Rattle.byte_ends.specs.Ends.{Rose};
 ghost use Rattle.edit_history.specs.Histories.{replay};
-ghost use Rattle.edit_files.specs.Content.{content};
+ghost use Rattle.edit_files.specs.Held.{content};
 ghost use Rattle.command_pages.specs.Files.{HasNoMesh};
 ghost use Rattle.command_pages.specs.Page.{IsFitToWrite, text_of_page};
 ghost use Rattle.delaunay_cli.specs.Queried.{IsAnswered, IsQueried, IsQueriedFile};

@@ -23,11 +23,12 @@ use Rattle.edit_files.specs.declared.version.Version.{Version}
 use Rattle.edit_files.specs.declared.version.Version.TheVariants.{One, Two, Three, Four}
 use Rattle.edit_files.specs.Content.{Content}
 use Rattle.edit_files.specs.Faults.{IsReason, is_word}
-use Rattle.edit_files.specs.Forms.{HasEditForm, IsEditLine, IsRadiusLine}
+use Rattle.edit_files.specs.Grammar.{HasEditForm, IsEditLine, IsRadiusLine}
 use Rattle.edit_files.specs.Grammar.{HasFormOf, IsTaken, IsWithinNewest, Leads, Limits, Reached, due_behind, lines_in}
 use Rattle.edit_files.specs.Grammar.{most_of, word_behind}
 use Rattle.edit_files.specs.Judging.{after_line, edit, is_full, radius, step_at, taken, with_title}
-use Rattle.edit_files.specs.Versions.{row, titled}
+use Rattle.edit_files.specs.Content.{row}
+use Rattle.edit_files.specs.Judging.{titled}
 use Rattle.edit_files.proofs.DecidedEdits.{edits_decided, radii_decided}
 use Rattle.edit_files.proofs.Words.{none_behind, none_word, not_behind, taken_none}
 

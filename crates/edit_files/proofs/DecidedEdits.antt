@@ -10,10 +10,10 @@ use Rattle.text_readings.specs.declared.fault.Why.{Why}
 use Rattle.text_readings.specs.declared.fault.Why.TheVariants.{Field, Range}
 use Rattle.edit_files.specs.declared.version.Version.{Version}
 use Rattle.edit_files.specs.declared.version.Version.TheVariants.{One, Two, Three, Four}
-use Rattle.edit_files.specs.Versions.{row}
+use Rattle.edit_files.specs.Content.{row}
 use Rattle.text_readings.specs.Numbers.{IsNumber}
 use Rattle.text_readings.specs.PointLines.{HasPointForm}
-use Rattle.edit_files.specs.Forms.{HasPairForm, HasEditForm, IsEditLine, IsRadiusLine}
+use Rattle.edit_files.specs.Grammar.{HasPairForm, HasEditForm, IsEditLine, IsRadiusLine}
 use Rattle.text_readings.specs.Scanning.{far, number, point}
 use Rattle.edit_files.specs.Judging.{edit, edit_from, radius, radius_from}
 use Rattle.text_readings.proofs.Cited.{number_some, number_none_not, number_of, of_number, Decides, point_sound}

@@ -1,7 +1,7 @@
 -- The lines of a generated file, one after another, and its laws.
 use Rattle.std.proofs.Common.{◌≡◌, ◌≢◌, ◌∙◌, refl, sym, ap, subst, ℕ, suc, ◌+◌, ◌-◌, ◌*◌, ◌/◌, ◌%◌, ◌<◌, ◌≤◌, Bool}
 use Rattle.std.proofs.Common.{true, false, cond, eqb, List, [], ◌∷◌, ◌++◌, map, get_or, length, arith, eq-eqb, inl, inr}
-use Rattle.std.proofs.Common.{Some, lit<, lit≤, slice_index, add-one}
+use Rattle.std.proofs.Common.{Some, lit<, lit≤, slice_index}
 use Rattle.std.specs.List.{range_with_len, AllByRecursion}
 use Rattle.std.proofs.lemmas.Bool.{both_ways, ne_eqb}
 use Rattle.std.proofs.lemmas.List.FromFn.{map-range_with_len_more, get_or-map-range_with_len, length-map-range_with_len}
@@ -17,27 +17,10 @@ use Rattle.edit_history.specs.Opening.{opening_four}
 use Rattle.plain_laws.specs.Plain.{IsAnchored}
 use Rattle.edit_files.specs.Grammar.{up_to}
 use Rattle.edit_files.specs.declared.version.Version.TheVariants.{One}
-use Rattle.edit_files.specs.Writing.{IsEditOf, IsWithinLimits}
-use Rattle.text_readings.specs.Keys.{coordinate_count, key_of}
-use Rattle.edit_files.specs.Generator.{next_state, state_after, draw, draw_of, drawn_point, most_edits, point_behind}
+use Rattle.edit_files.specs.Held.{IsEditOf, IsWithinLimits}
+use Rattle.text_readings.specs.Keys.{coordinate_count}
+use Rattle.edit_files.specs.Generator.{next_state, state_after, draw_of, most_edits, point_behind}
 use Rattle.edit_files.specs.Generator.{draws_before, drawn_by, corners, back_to, edit_line, generated}
-
--- ---- draws
-
--- two more than a number
-two : (m : ℕ) → m + 2 ≡ suc (suc m)
-two m = omega arith
-
--- three more than a number
-three : (m : ℕ) → m + 3 ≡ suc (suc (suc m))
-three m = omega arith
-
--- the point that is drawn after so many draws is that behind their state
-drawn_behind : (start m : ℕ) → drawn_point start m ≡ point_behind (state_after start m)
-drawn_behind start m =
-    ap (λ (k : ℕ). key_of (draw start k) (draw start (m + 2)) (draw start (m + 3))) (add-one m)
-    ∙ ap (λ (k : ℕ). key_of (draw start (suc m)) (draw start k) (draw start (m + 3))) (two m)
-    ∙ ap (λ (k : ℕ). key_of (draw start (suc m)) (draw start (suc (suc m))) (draw start k)) (three m)
 
 -- ---- one line more
 
@@ -78,8 +61,8 @@ pub draws_line : (start n s p : ℕ) (edit : Edit) → s ≡ state_after start (
 draws_line start n s p edit state m q e =
     let adds : eqb ((n + 1) % 4) 0 ≡ false = ne_eqb ((n + 1) % 4) 0 (λ z. m (omega (arith, z))) in
     let behind : 3 * (n - n / 4) ≡ draws_before (n + 1) = omega arith in
-    let drawn : p ≡ drawn_by start (n + 1) = q ∙ ap point_behind state ∙ sym (drawn_behind start (3 * (n - n / 4)))
-    ∙ ap (drawn_point start) behind in
+    let drawn : p ≡ drawn_by start (n + 1) = q ∙ ap point_behind state
+    ∙ ap (λ (k : ℕ). point_behind (state_after start k)) behind in
     e ∙ ap Add drawn ∙ sym (ap (λ (b : Bool). cond b (back_to (drawn_by start (n + 1 - 2)))
     (Add (drawn_by start (n + 1)))) adds)
 
@@ -173,14 +156,13 @@ draw_below : (s : ℕ) → draw_of (next_state s) < coordinate_count
 draw_below s = omega arith
 
 -- a drawn point is a key
-drawn_key : (start m : ℕ) → IsKey (drawn_point start m)
+drawn_key : (start m : ℕ) → IsKey (point_behind (state_after start m))
 drawn_key start m =
     let s = state_after start m in
     let a = draw_below s in
     let b = draw_below (next_state s) in
     let d = draw_below (next_state (next_state s)) in
-    let k : IsKey (point_behind s) = omega (arith, a, b, d) in
-    subst IsKey (sym (drawn_behind start m)) k
+    omega (arith, a, b, d)
 
 -- the point of each line is a key
 line_key : (start i : ℕ) → HasKeys (edit_line start i)

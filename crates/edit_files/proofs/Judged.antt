@@ -11,7 +11,8 @@ use Rattle.text_readings.proofs.Cited.{IsJudgedBy, end_or_fault, given_fault, gi
 use Rattle.edit_files.specs.declared.file.File.{File}
 use Rattle.edit_files.specs.declared.place.Due.{Due}
 use Rattle.edit_files.specs.declared.place.Due.TheVariants.{Title, Heading, Body, Nothing}
-use Rattle.edit_files.specs.Content.{Content, content}
+use Rattle.edit_files.specs.Content.{Content}
+use Rattle.edit_files.specs.Held.{content}
 use Rattle.edit_files.specs.Faults.{IsFault, file_reading}
 use Rattle.edit_files.specs.Grammar.{IsFile, LeadsOn, Limits, Reached, at_end, at_title}
 use Rattle.edit_files.specs.Judging.{file_judge, is_nothing, whole}

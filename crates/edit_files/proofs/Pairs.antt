@@ -10,7 +10,7 @@ use Rattle.edit_history.specs.declared.history.Edit.TheVariants.{Move}
 use Rattle.text_readings.specs.declared.fault.Why.{Why}
 use Rattle.text_readings.specs.declared.fault.Why.TheVariants.{Section, Field, Range, TooMany, Truncated}
 use Rattle.text_readings.specs.PointLines.{HasPointForm, three_spaced}
-use Rattle.edit_files.specs.Forms.{HasPairForm, IsPairLine}
+use Rattle.edit_files.specs.Grammar.{HasPairForm, IsPairLine}
 use Rattle.text_readings.specs.Scanning.{point, fields_of}
 use Rattle.edit_files.specs.Judging.{halves, halves_of, worse, move_from, move_of, edit_from}
 use Rattle.text_readings.proofs.Cited.{some_field, four_fields, from_four, point_sound, point_complete, point_field}

@@ -4,7 +4,7 @@ use Rattle.std.proofs.Common.{◌∷◌, Err, refl}
 use Rattle.std.proofs.lemmas.Bool.{ne_eqb}
 use Rattle.text_readings.specs.declared.fault.Why.TheVariants.{Field}
 use Rattle.edit_files.specs.declared.version.Version.{Version}
-use Rattle.edit_files.specs.Versions.{row}
+use Rattle.edit_files.specs.Content.{row}
 use Rattle.edit_files.specs.Judging.{edit, edit_at, halves, move_of}
 
 -- an edit line, by its first two bytes

@@ -15,7 +15,7 @@ use Rattle.edit_files.specs.Content.{Content}
 use Rattle.edit_files.specs.Faults.{is_word}
 use Rattle.edit_files.specs.Grammar.{word_behind}
 use Rattle.edit_files.specs.Judging.{edit, radius, taken}
-use Rattle.edit_files.specs.Versions.{row}
+use Rattle.edit_files.specs.Content.{row}
 
 -- no section word is of the form of a list's lines
 record TakesNoWord (p : Part) (f : Content) : Type 0 where

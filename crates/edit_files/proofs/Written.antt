@@ -19,11 +19,12 @@ use Rattle.edit_files.specs.declared.place.Due.TheVariants.{Title, Heading, Body
 use Rattle.edit_files.specs.declared.version.Version.{Version}
 use Rattle.edit_files.specs.declared.version.Version.TheVariants.{One, Two, Three, Four}
 use Rattle.edit_files.specs.Content.{Content}
-use Rattle.edit_files.specs.Forms.{IsEditLine, IsRadiusLine}
+use Rattle.edit_files.specs.Grammar.{IsEditLine, IsRadiusLine}
 use Rattle.edit_files.specs.Grammar.{IsFile, IsTaken, Leads, LeadsOn, Limits, Reached, at_end, at_title, due_behind}
 use Rattle.edit_files.specs.Grammar.{lines_in, most_of, no_content, query_limit, radius_limit}
-use Rattle.edit_files.specs.Versions.{row}
-use Rattle.edit_files.specs.Writing.{IsEditOf, IsWithinLimits, edit_text, file_lines, file_text, query_section}
+use Rattle.edit_files.specs.Content.{row}
+use Rattle.edit_files.specs.Writing.{edit_text, file_lines, file_text, query_section}
+use Rattle.edit_files.specs.Held.{IsEditOf, IsWithinLimits}
 use Rattle.edit_files.proofs.Decided.{at}
 use Rattle.edit_files.proofs.DecidedEdits.{end_far}
 use Rattle.edit_files.proofs.Texts.{all_no_feed}

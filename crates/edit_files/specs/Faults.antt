@@ -12,7 +12,7 @@ use Rattle.edit_files.specs.declared.version.Version.{Version}
 use Rattle.edit_files.specs.Content.{Content}
 use Rattle.edit_files.specs.Grammar.{HasFormOf, IsTaken, IsWithinNewest, LeadsOn, Limits, Reached, at_title, lines_in}
 use Rattle.edit_files.specs.Grammar.{most_of, word_behind}
-use Rattle.edit_files.specs.Versions.{row}
+use Rattle.edit_files.specs.Content.{row}
 
 -- the line is one of the section words of a version
 abbrev pub is_word : Version → List ℕ → Bool

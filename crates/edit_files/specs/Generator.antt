@@ -12,32 +12,18 @@ use Rattle.text_readings.specs.Keys.{key_of, greatest_coordinate}
 abbrev pub state_count : ℕ
 state_count = 2147483648
 
--- the state that a draw makes of a state: it is multiplied, and a number is added
-abbrev pub multiplier : ℕ
-multiplier = 1103515245
-
-abbrev pub increment : ℕ
-increment = 12345
-
+-- the state that a draw makes of a state
 abbrev pub next_state : ℕ → ℕ
-next_state state = (state * multiplier + increment) % state_count
+next_state state = (state * 1103515245 + 12345) % state_count
 
 -- the state behind so many draws from a start
 abbrev pub state_after : ℕ → ℕ → ℕ
 state_after start zero = start
 state_after start (suc n) = next_state (state_after start n)
 
--- how many states give the same draw: so that draws are coordinates, 0 to 16383
-abbrev pub states_a_draw : ℕ
-states_a_draw = 131072
-
--- the draw that a state gives
+-- the draw that a state gives, a coordinate: 0 to 16383
 abbrev pub draw_of : ℕ → ℕ
-draw_of state = state / states_a_draw
-
--- what draw n gives, the first being 1
-abbrev pub draw : ℕ → ℕ → ℕ
-draw start n = draw_of (state_after start n)
+draw_of state = state / 131072
 
 -- the point whose x, y and z are the three draws behind a state
 abbrev pub point_behind : ℕ → ℕ
@@ -45,18 +31,13 @@ point_behind state =
     key_of (draw_of (next_state state)) (draw_of (next_state (next_state state)))
     (draw_of (next_state (next_state (next_state state))))
 
--- the point whose x, y and z are the three draws behind so many
-abbrev pub drawn_point : ℕ → ℕ → ℕ
-drawn_point start n = key_of (draw start (n + 1)) (draw start (n + 2)) (draw start (n + 3))
-
--- how many draws there were before edit line i, the first being 1: each line
--- before it made three, but every fourth made none
+-- how many draws there were before edit line i, the first being 1: each line before it made three, every fourth none
 abbrev pub draws_before : ℕ → ℕ
 draws_before i = 3 * (i - 1 - (i - 1) / 4)
 
 -- the point that edit line i draws
 abbrev pub drawn_by : ℕ → ℕ → ℕ
-drawn_by start i = drawn_point start (draws_before i)
+drawn_by start i = point_behind (state_after start (draws_before i))
 
 -- the points: (0,0,0), (16383,0,0), (0,16383,0) and (0,0,16383)
 abbrev pub corners : List ℕ
@@ -67,26 +48,21 @@ corners =
 abbrev pub back_to : ℕ → Edit
 back_to p = if is_among p corners then Add p else Take p
 
--- edit line i: every fourth goes back to the point of the line before the last,
--- and all others add the point that they draw
+-- edit line i: every fourth goes back to the point of the line before the last, and all others add what they draw
 abbrev pub edit_line : ℕ → ℕ → Edit
 edit_line start i = if i % 4 == 0 then back_to (drawn_by start (i - 2)) else Add (drawn_by start i)
-
--- the radii, squared: those of 128, 512 and 2048
-abbrev pub drawn_radii : List ℕ
-drawn_radii = 16384 ∷ 262144 ∷ 4194304 ∷ []
 
 -- how many edits there are at most: with the four points as many lines as a file may have
 abbrev pub most_edits : ℕ
 most_edits = 262140
 
--- the file of a count and a start, of version 1
+-- the file of a count and a start, of version 1: its radii are 128, 512 and 2048, squared
 abbrev pub generated : ℕ → ℕ → Content
 generated count start =
     record {
       version = One;
       points = corners;
       edits = map (edit_line start) (range_with_len 1 count);
-      radii = drawn_radii;
+      radii = 16384 ∷ 262144 ∷ 4194304 ∷ [];
       queries = [];
     }

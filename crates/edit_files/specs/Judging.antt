@@ -17,12 +17,22 @@ use Rattle.edit_files.specs.declared.place.Due.{Due}
 use Rattle.edit_files.specs.declared.place.Due.TheVariants.{Title, Heading, Body, Nothing}
 use Rattle.edit_files.specs.declared.reader.Reader.{Reader}
 use Rattle.edit_files.specs.declared.version.Version.{Version}
-use Rattle.edit_files.specs.Content.{Content, content}
+use Rattle.edit_files.specs.declared.version.Version.TheVariants.{One, Two, Three, Four}
+use Rattle.edit_files.specs.Content.{Content}
+use Rattle.edit_files.specs.Held.{content}
 use Rattle.edit_files.specs.Faults.{is_word}
 use Rattle.edit_files.specs.Grammar.{Limits, Reached, at_end, due_behind, lines_in, most_of, word_behind}
-use Rattle.edit_files.specs.Versions.{row, titled}
+use Rattle.edit_files.specs.Content.{row}
 
 -- ---- lines
+
+-- the version whose first line this is
+abbrev pub titled : List ℕ → Option Version
+titled line =
+    if bytes_eq line (row One).title then Some One
+    else (if bytes_eq line (row Two).title then Some Two
+    else (if bytes_eq line (row Three).title then Some Three
+    else (if bytes_eq line (row Four).title then Some Four else None)))
 
 abbrev pub edit_from : (ℕ → Edit) → Result ℕ Why → Result Edit Why
 edit_from kind (Ok p) = Ok (kind p)

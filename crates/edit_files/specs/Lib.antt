@@ -1,8 +1,7 @@
-pub mod Versions
 pub mod Content
-pub mod LinesLeft
-pub mod Forms
 pub mod Grammar
+pub mod Held
+pub mod LinesLeft
 pub mod Faults
 pub mod Judging
 pub mod Writing

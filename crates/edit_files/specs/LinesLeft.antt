@@ -2,7 +2,7 @@
 use Rattle.std.specs.Prelude.{List}
 use Rattle.edit_history.specs.declared.history.Edit.{Edit}
 use Rattle.edit_files.specs.declared.file.Lines.{Lines}
-use Rattle.edit_files.specs.Content.{lines_in_order}
+use Rattle.edit_files.specs.Held.{lines_in_order}
 
 abbrev pub lines_left : Lines → List Edit
 lines_left s = lines_in_order s.points.now s.edits.now

@@ -30,7 +30,7 @@ pub struct Lines<'a> {
 }
 
 impl File {
-    ghost use Rattle.edit_files.specs.Content.{content, lines_in_order};
+    ghost use Rattle.edit_files.specs.Held.{content, lines_in_order};
     ghost use Rattle.edit_files.specs.LinesLeft.{lines_left};
 
     /// The point lines as adds, then the edit lines. A line's place here, from 0, is its tag.

@@ -7,7 +7,8 @@ ghost use Rattle.edit_files.specs.Content.{Content};
 ghost use Rattle.edit_files.specs.Grammar.{IsFile, Limits, up_to};
 ghost use Rattle.edit_files.specs.Generator.{generated, most_edits};
 ghost use Rattle.edit_files.specs.Faults.{IsFault};
-ghost use Rattle.edit_files.specs.Writing.{file_text, IsWithinLimits};
+ghost use Rattle.edit_files.specs.Writing.{file_text};
+ghost use Rattle.edit_files.specs.Held.{IsWithinLimits};
 ghost use Rattle.text_readings.specs.declared.fault.Fault.{Fault};
 ghost use Rattle.edit_files.specs.declared.version.Version.TheVariants.{One};
 

@@ -11,12 +11,12 @@ ghost use Rattle.text_readings.specs.declared.fault.Why.TheVariants.{Section};
 ghost use Rattle.edit_files.specs.declared.place.Due.TheVariants as places;
 ghost use Rattle.edit_files.specs.declared.version.Version.{Version};
 ghost use Rattle.edit_files.specs.declared.version.Version.TheVariants.{Four};
-ghost use Rattle.edit_files.specs.Content.{content};
+ghost use Rattle.edit_files.specs.Held.{content};
 ghost use Rattle.edit_files.specs.Faults.{IsFault, is_word};
 ghost use Rattle.edit_files.specs.Grammar.{IsFile, Reached, at_title, up_to};
 ghost use Rattle.edit_files.specs.Judging.{after_line, file_judge, is_full, list_line, now_due, reached, step_at};
 ghost use Rattle.edit_files.specs.Judging.{taken, whole, with_title};
-ghost use Rattle.edit_files.specs.Versions.{titled};
+ghost use Rattle.edit_files.specs.Judging.{titled};
 
 use crate::file::File;
 use crate::line::{edit_of, radius_of};

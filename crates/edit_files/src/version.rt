@@ -1,7 +1,8 @@
 //! The versions of the form of edit files.
 
 ghost use Rattle.std.specs.Prelude.{◌≡◌, ◌<◌, ◌^◌};
-ghost use Rattle.edit_files.specs.Versions.{alpha_of, row, titled};
+ghost use Rattle.edit_files.specs.Content.{alpha_of, row};
+ghost use Rattle.edit_files.specs.Judging.{titled};
 
 /// A version of the form, which the first line of a file tells. Each has all lines of those before it, but that from
 /// the third on a radius counts another unit.

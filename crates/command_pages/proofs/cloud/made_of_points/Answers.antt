@@ -5,7 +5,7 @@ use Rattle.point_order.specs.Solid.{is_solid}
 use Rattle.del_laws.specs.Keys.{AreKeys}
 use Rattle.edit_history.specs.Histories.{replay}
 use Rattle.edit_history.specs.OneThread.{one_thread}
-use Rattle.edit_files.specs.Content.{content}
+use Rattle.edit_files.specs.Held.{content}
 use Rattle.point_history.proofs.Cited.{leaves_points}
 use Rattle.command_pages.proofs.Clouds.{kept_by_any}
 use Rattle.command_pages.proofs.cloud.made_of_points.Goals as goal

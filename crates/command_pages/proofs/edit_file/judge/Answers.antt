@@ -1,4 +1,4 @@
-use Rattle.edit_files.specs.Content.{content}
+use Rattle.edit_files.specs.Held.{content}
 use Rattle.command_pages.specs.Taken.{file_limits}
 use Rattle.command_pages.proofs.Judging.{file_small, radii_small}
 use Rattle.command_pages.proofs.edit_file.judge.Goals as goal

@@ -1,4 +1,4 @@
-use Rattle.edit_files.specs.Content.{content}
+use Rattle.edit_files.specs.Held.{content}
 use Rattle.edit_files.specs.Generator.{generated}
 use Rattle.delaunay_cli.proofs.DrawnFiles.{drawn_lines, drawn_meshed, drawn_radii, unmeshed_drawn, wanting}
 use Rattle.delaunay_cli.proofs.drawn.draw.Goals as goal

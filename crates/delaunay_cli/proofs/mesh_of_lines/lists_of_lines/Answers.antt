@@ -1,4 +1,4 @@
-use Rattle.edit_files.specs.Content.{content}
+use Rattle.edit_files.specs.Held.{content}
 use Rattle.edit_lists.proofs.Cited.{are_opening}
 use Rattle.delaunay_cli.proofs.OneWorker.{kept_by_one}
 use Rattle.delaunay_cli.proofs.mesh_of_lines.lists_of_lines.Goals as goal

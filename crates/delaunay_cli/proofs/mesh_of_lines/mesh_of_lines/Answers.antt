@@ -1,6 +1,6 @@
 use Rattle.std.proofs.Common.{◌∙◌, ap, arith}
 use Rattle.cell_store.specs.Meshes.{MeshView}
-use Rattle.edit_files.specs.Content.{content}
+use Rattle.edit_files.specs.Held.{content}
 use Rattle.edit_lists.proofs.Cited.{are_opening}
 use Rattle.delaunay_cli.proofs.OneWorker.{kept_by_one}
 use Rattle.delaunay_cli.proofs.mesh_of_lines.mesh_of_lines.Goals as goal

@@ -1,5 +1,5 @@
 use Rattle.byte_ends.specs.Ends.{Rose}
-use Rattle.edit_files.specs.Content.{content}
+use Rattle.edit_files.specs.Held.{content}
 use Rattle.command_pages.specs.Run.{input_limit}
 use Rattle.command_words.specs.Stops.{status_of_made}
 use Rattle.delaunay_cli.proofs.FilesRead.{few_lines, no_mesh, report_told}

@@ -2,7 +2,7 @@ use Rattle.std.proofs.Common.{◌≡◌, ◌∙◌, ap, sym, subst, List, ℕ, B
 use Rattle.point_order.specs.Solid.{is_solid}
 use Rattle.edit_history.specs.declared.history.Entry.{Entry}
 use Rattle.edit_history.specs.Histories.{IsLegal, replay}
-use Rattle.edit_files.specs.Content.{content}
+use Rattle.edit_files.specs.Held.{content}
 use Rattle.command_pages.specs.Run.{IsKept}
 use Rattle.delaunay_cli.specs.Queried.{IsQueried}
 use Rattle.delaunay_cli.proofs.queried.answered.Goals as goal

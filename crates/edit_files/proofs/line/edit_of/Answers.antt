@@ -2,7 +2,7 @@ use Rattle.std.proofs.Common.{◌≡◌, ℕ, ◌-◌, true, rules, List, length
 use Rattle.std.proofs.lemmas.List.{take_rest}
 use Rattle.std.proofs.lemmas.Grind.{common_steps}
 use Rattle.edit_history.specs.declared.history.Edit.TheVariants.{Add, Take}
-use Rattle.edit_files.specs.Versions.{row}
+use Rattle.edit_files.specs.Content.{row}
 use Rattle.edit_files.specs.Judging.{edit, edit_at, edit_from, halves, move_of}
 use Rattle.text_readings.specs.Scanning.{point}
 use Rattle.edit_files.proofs.Signs.{at_equals, at_equals_unmoved, at_other, edit_is, edit_short, edit_other}

@@ -1,7 +1,7 @@
 use Rattle.std.proofs.Common.{◌≡◌, true, false, ltb, refl, sym, ap, ◌∙◌, arith}
 use Rattle.std.proofs.lemmas.Bool.{lt-ltb, le-ltb}
 use Rattle.edit_files.specs.Judging.{radius, radius_from}
-use Rattle.edit_files.specs.Versions.{row}
+use Rattle.edit_files.specs.Content.{row}
 use Rattle.edit_files.proofs.line.radius_of.Goals as goal
 
 pub returns-in-None : goal.returns-in-None
