@@ -10,7 +10,7 @@ use Rattle.edit_history.specs.declared.history.Edit.TheVariants.{Add, Take, Move
 use Rattle.text_readings.specs.declared.fault.Why.{Why}
 use Rattle.text_readings.specs.declared.fault.Why.TheVariants.{Section, Field, Range, TooMany, Truncated}
 use Rattle.text_readings.specs.Judging.{then_at}
-use Rattle.text_readings.specs.Numbers.{IsNumber}
+use Rattle.text_readings.specs.PointLines.{IsNumber}
 use Rattle.text_readings.specs.PointLines.{HasPointForm, IsPointLine}
 use Rattle.text_readings.specs.Scanning.{point}
 use Rattle.text_readings.proofs.Cited.{Decides, err_one, off_form, off_range, ok_err, ok_one, point_form}

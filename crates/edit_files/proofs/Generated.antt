@@ -18,7 +18,7 @@ use Rattle.plain_laws.specs.Plain.{IsAnchored}
 use Rattle.edit_files.specs.Grammar.{up_to}
 use Rattle.edit_files.specs.declared.version.Version.TheVariants.{One}
 use Rattle.edit_files.specs.Held.{IsEditOf, IsWithinLimits}
-use Rattle.text_readings.specs.Keys.{coordinate_count}
+use Rattle.text_readings.specs.PointLines.{coordinate_count}
 use Rattle.edit_files.specs.Generator.{next_state, state_after, draw_of, most_edits, point_behind}
 use Rattle.edit_files.specs.Generator.{draws_before, drawn_by, corners, back_to, edit_line, generated}
 

@@ -8,7 +8,7 @@ use Rattle.std.proofs.lemmas.List.{at_drop_more, at_drop_all, length-append}
 use Rattle.point_order.specs.Coordinates.{IsKey}
 use Rattle.edit_history.specs.declared.history.Edit.{Edit}
 use Rattle.edit_history.specs.declared.history.Edit.TheVariants.{Add, Take, Move}
-use Rattle.text_readings.specs.Lines.{lines_of, text_of}
+use Rattle.text_readings.specs.Readings.{lines_of, text_of}
 use Rattle.text_readings.specs.PointLines.{line_of_point}
 use Rattle.text_readings.specs.Readings.{AllLead}
 use Rattle.text_readings.proofs.Cited.{decimal_is, lead_append, lines_of_text, point_line, text_of_append}

@@ -4,7 +4,7 @@ use Rattle.std.specs.Str.{bytes_eq}
 use Rattle.text_readings.specs.declared.fault.Why.{Why}
 use Rattle.text_readings.specs.declared.fault.Why.TheVariants.{Section, Field, Range, TooMany}
 use Rattle.text_readings.specs.declared.fault.Fault.{Fault}
-use Rattle.text_readings.specs.Lines.{lines_of}
+use Rattle.text_readings.specs.Readings.{lines_of}
 use Rattle.text_readings.specs.Readings.{IsFaultOf, Reading}
 use Rattle.edit_files.specs.declared.place.Due.{Due}
 use Rattle.edit_files.specs.declared.place.Due.TheVariants.{Title, Heading, Body, Nothing}

@@ -6,7 +6,7 @@ use Rattle.edit_history.specs.declared.history.Edit.{Edit}
 use Rattle.edit_history.specs.declared.history.Edit.TheVariants.{Add, Take}
 use Rattle.edit_files.specs.declared.version.Version.TheVariants.{One}
 use Rattle.edit_files.specs.Content.{Content}
-use Rattle.text_readings.specs.Keys.{key_of, greatest_coordinate}
+use Rattle.text_readings.specs.PointLines.{key_of, greatest_coordinate}
 
 -- how many states the draws have: each is below 2^31
 abbrev pub state_count : ℕ

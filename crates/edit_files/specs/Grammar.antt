@@ -2,8 +2,8 @@
 use Rattle.std.specs.Prelude.{◌≡◌, ◌⊎◌, ℕ, List, [], ◌∷◌, ◌++◌, ◌+◌, ◌<◌, ◌≤◌, length, codes, if◌then◌else◌, IsTrue}
 use Rattle.edit_history.specs.declared.history.Edit.{Edit}
 use Rattle.edit_history.specs.declared.history.Edit.TheVariants.{Add, Take, Move}
-use Rattle.text_readings.specs.Lines.{lines_of}
-use Rattle.text_readings.specs.Numbers.{IsNumber, IsNumberOf}
+use Rattle.text_readings.specs.Readings.{lines_of}
+use Rattle.text_readings.specs.PointLines.{IsNumber, IsNumberOf}
 use Rattle.text_readings.specs.PointLines.{HasPointForm, IsPointLine}
 use Rattle.text_readings.specs.Readings.{AllLead}
 use Rattle.edit_files.specs.declared.place.Part.{Part}

@@ -3,7 +3,7 @@ use Rattle.std.specs.Prelude.{ℕ, List, [], ◌∷◌, ◌++◌, map, codes, de
 use Rattle.edit_history.specs.declared.history.Edit.{Edit}
 use Rattle.edit_history.specs.declared.history.Edit.TheVariants.{Add, Take, Move}
 use Rattle.edit_files.specs.Content.{Content}
-use Rattle.text_readings.specs.Lines.{text_of}
+use Rattle.text_readings.specs.Readings.{text_of}
 use Rattle.text_readings.specs.PointLines.{line_of_point}
 use Rattle.edit_files.specs.Content.{row}
 use Rattle.edit_files.specs.declared.version.Version.{Version}

@@ -3,7 +3,7 @@
 ghost use Rattle.std.specs.Prelude.{◌≡◌, ◌<◌, ◌≤◌, map, IfOk};
 ghost use Rattle.std.specs.List.{range_with_len};
 ghost use Rattle.edit_files.specs.Held.{content};
-ghost use Rattle.text_readings.specs.Keys.{coordinate_count, key_of};
+ghost use Rattle.text_readings.specs.PointLines.{coordinate_count, key_of};
 ghost use Rattle.edit_files.specs.Generator.{state_count, next_state, draw_of, point_behind, back_to as back_to_of};
 ghost use Rattle.edit_files.specs.Generator.{corners as corners_of, edit_line, most_edits, generated};
 

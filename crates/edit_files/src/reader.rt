@@ -3,7 +3,7 @@
 ghost use Rattle.std.specs.Prelude.{◌≡◌, IfOk, MatchResult, Err, Result, if◌then◌else◌};
 ghost use Rattle.std.specs.Str.{bytes_eq};
 ghost use Rattle.text_readings.specs.Judging.{Gives, Steps, judge, judged_end};
-ghost use Rattle.text_readings.specs.Lines.{lines_of};
+ghost use Rattle.text_readings.specs.Readings.{lines_of};
 ghost use Rattle.text_readings.specs.declared.fault.Fault.{Fault};
 ghost use Rattle.text_readings.specs.declared.fault.ReadRefused.TheVariants.{Bad};
 ghost use Rattle.text_readings.specs.declared.fault.Why.{Why};

@@ -2,7 +2,7 @@
 
 ghost use Rattle.std.specs.Prelude.{◌≡◌, List, ℕ, [], ◌∷◌, ◌++◌, codes, decimal, map, IfOk, OnOk};
 ghost use Rattle.edit_files.specs.Held.{content};
-ghost use Rattle.text_readings.specs.Lines.{text_of};
+ghost use Rattle.text_readings.specs.Readings.{text_of};
 ghost use Rattle.edit_files.specs.Writing.{edit_text, file_text};
 ghost use Rattle.text_readings.specs.PointLines.{line_of_point};
 

@@ -16,8 +16,8 @@ use Rattle.point_order.specs.Coordinates.{x_of, y_of, z_of, IsKey}
 use Rattle.edit_history.specs.declared.history.Reply.{Reply}
 use Rattle.edit_history.specs.declared.history.Reply.TheVariants.{Inserted, Duplicate, Removed, Missing, Flat, Moved}
 use Rattle.edit_history.specs.declared.history.Reply.TheVariants.{Occupied}
-use Rattle.text_readings.specs.Lines.{lines_of}
-use Rattle.text_readings.specs.Numbers.{IsNumber, IsNumberOf}
+use Rattle.text_readings.specs.Readings.{lines_of}
+use Rattle.text_readings.specs.PointLines.{IsNumber, IsNumberOf}
 use Rattle.text_readings.specs.PointLines.{IsPointLine, line_of_point}
 use Rattle.text_readings.proofs.Cited.{HasNo, decimal_is, line_first, number_without, point_line, without_append}
 use Rattle.text_sheets.specs.Lines.{block, spaced}

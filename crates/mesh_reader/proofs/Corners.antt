@@ -7,7 +7,7 @@ use Rattle.list_laws.specs.Lists.{IsAscending}
 use Rattle.std.proofs.lemmas.List.Splits.{join_with_byte-slice_split}
 use Rattle.text_readings.specs.declared.fault.Why.{Why}
 use Rattle.text_readings.specs.declared.fault.Why.TheVariants.{Field, Range}
-use Rattle.text_readings.specs.Numbers.{IsNumber}
+use Rattle.text_readings.specs.PointLines.{IsNumber}
 use Rattle.text_readings.specs.Scanning.{fields_of, number}
 use Rattle.text_readings.proofs.Cited.{Decides, number_of, of_number}
 use Rattle.mesh_reader.specs.Grammar.{AreIndices, HasNumbers, IsIndexLine, IsIndexOf, point_limit}

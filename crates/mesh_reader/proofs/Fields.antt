@@ -5,7 +5,7 @@ use Rattle.std.specs.Prelude.{⊤}
 use Rattle.std.specs.List.{join_with_byte}
 use Rattle.std.proofs.lemmas.List.Splits.{join_with_byte-slice_split}
 use Rattle.list_laws.specs.Lists.{IsIn}
-use Rattle.text_readings.specs.Numbers.{IsNumber}
+use Rattle.text_readings.specs.PointLines.{IsNumber}
 use Rattle.text_readings.specs.Scanning.{fields_of, number}
 use Rattle.text_readings.proofs.Cited.{fields_front, fields_last, number_no_space, number_read, number_some, reading}
 use Rattle.text_readings.proofs.Cited.{some_field}

@@ -8,7 +8,7 @@ use Rattle.std.proofs.lemmas.Bool.{eqb-false, eqb-true}
 use Rattle.text_readings.specs.declared.fault.Fault.{Fault}
 use Rattle.text_readings.specs.declared.fault.ReadRefused.{ReadRefused}
 use Rattle.text_readings.specs.declared.fault.ReadRefused.TheVariants as refusals
-use Rattle.text_readings.specs.Lines.{lines_of}
+use Rattle.text_readings.specs.Readings.{lines_of}
 use Rattle.text_readings.proofs.Cited.{judge_bad, line_first, without_append}
 use Rattle.mesh_reader.specs.declared.counted.Counted.{Counted}
 use Rattle.mesh_reader.specs.declared.mesh_file.PackedMesh.{PackedMesh}

@@ -3,7 +3,7 @@ use Rattle.std.specs.Prelude.{◌≡◌, ℕ, ◌==◌, false, List, ◌++◌, R
 use Rattle.std.specs.List.{AllByRecursion}
 use Rattle.text_readings.specs.declared.fault.Fault.{Fault}
 use Rattle.text_readings.specs.Judging.{judge}
-use Rattle.text_readings.specs.Lines.{lines_of}
+use Rattle.text_readings.specs.Readings.{lines_of}
 use Rattle.mesh_reader.specs.declared.pieces.State.{State}
 use Rattle.mesh_reader.specs.declared.pieces.State.TheVariants.{Right, Wrong}
 use Rattle.mesh_reader.specs.Grammar.{Reached, at_title}

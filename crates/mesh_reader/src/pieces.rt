@@ -3,7 +3,7 @@
 ghost use Rattle.std.specs.Prelude.{◌≡◌, ◌++◌, ◌∷◌, [], List, ℕ, MatchOption, IfSome, IfOk, Err, true};
 ghost use Rattle.text_readings.specs.declared.fault.Fault.{Fault as FaultParts};
 ghost use Rattle.text_readings.specs.declared.fault.ReadRefused.TheVariants.{Bad};
-ghost use Rattle.text_readings.specs.Lines.{lines_of};
+ghost use Rattle.text_readings.specs.Readings.{lines_of};
 ghost use Rattle.list_laws.specs.Lists.{IsAscending};
 ghost use Rattle.mesh_reader.specs.Faults.{IsMeshFault};
 ghost use Rattle.mesh_reader.specs.Grammar.{IsMeshText, MeshParts};

@@ -3,7 +3,7 @@ use Rattle.std.proofs.Common.{◌≡◌, ◌≢◌, ℕ, zero, suc, ◌+◌, ◌
 use Rattle.std.proofs.Common.{drop, refl, ap, arith, eq-eqb, add-one}
 use Rattle.std.proofs.lemmas.Bool.{ne_eqb}
 use Rattle.std.specs.List.{slice_split, onto_first}
-use Rattle.text_readings.specs.Lines.{lines_of}
+use Rattle.text_readings.specs.Readings.{lines_of}
 
 -- the first line ends at the first line feed
 lines_at : (bs : List ℕ) (i : ℕ) → i < length bs → get_or bs i 0 ≡ 10 → ((k : ℕ) → k < i → get_or bs k 0 ≢ 10) →

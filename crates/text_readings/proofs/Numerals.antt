@@ -3,7 +3,7 @@ use Rattle.std.proofs.Common.{◌≡◌, ℕ, ◌+◌, ◌*◌, ◌-◌, ◌<◌
 use Rattle.std.proofs.Common.{Some, None, refl, arith}
 use Rattle.std.specs.Char.{is_ascii_digit}
 use Rattle.std.specs.Str.Parse.{starts_with_minus}
-use Rattle.text_readings.specs.Numbers.{after_minus}
+use Rattle.text_readings.specs.PointLines.{after_minus}
 use Rattle.text_readings.specs.Scanning.{far, digits, digits_from, signed, number}
 
 -- where there is a digit, the value of digits is that of digits behind none

@@ -1,7 +1,7 @@
 -- Lines with no line feed are the lines of the text that is made of them.
 use Rattle.std.proofs.Common.{◌≡◌, ℕ, false, eqb, List, [], ◌∷◌, ◌++◌, refl, sym, ap, subst, ◌∙◌, arith}
 use Rattle.std.specs.List.{AllByRecursion}
-use Rattle.text_readings.specs.Lines.{lines_of, text_of}
+use Rattle.text_readings.specs.Readings.{lines_of, text_of}
 use Rattle.text_readings.specs.PointLines.{IsPointLine}
 use Rattle.text_readings.proofs.Decided.{HasNo, number_without}
 

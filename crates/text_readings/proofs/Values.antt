@@ -6,7 +6,7 @@ use Rattle.std.specs.Str.Parse.{AllDigits, IsNumeral, digits_value, digits_value
 use Rattle.std.proofs.lemmas.Bool.{cases_lt, cases_Bool, and_parts, and_from, leb-true, le-leb, lt-ltb, le-ltb}
 use Rattle.std.proofs.lemmas.Str.Parse.{digit_from_value}
 use Rattle.list_laws.proofs.Cited.{one_value}
-use Rattle.text_readings.specs.Numbers.{after_minus, IsNumber, IsNumberOf}
+use Rattle.text_readings.specs.PointLines.{after_minus, IsNumber, IsNumberOf}
 use Rattle.text_readings.specs.Scanning.{far, digits, digits_from, signed, number}
 use Rattle.text_readings.proofs.Numerals.{digits_from_nil, digits_from_digit, digits_from_other, digits_is, digits_nil}
 use Rattle.text_readings.proofs.Numerals.{number_is}

@@ -7,8 +7,8 @@ use Rattle.std.proofs.lemmas.Bool.{ne_eqb, both_ways}
 use Rattle.std.proofs.lemmas.Fmt.{decimal_is_IsNumeral}
 use Rattle.std.proofs.lemmas.Str.Parse.{digit_from_value}
 use Rattle.point_order.specs.Coordinates.{x_of, y_of, z_of, IsKey}
-use Rattle.text_readings.specs.Lines.{text_of}
-use Rattle.text_readings.specs.Numbers.{IsNumberOf, after_minus}
+use Rattle.text_readings.specs.Readings.{text_of}
+use Rattle.text_readings.specs.PointLines.{IsNumberOf, after_minus}
 use Rattle.text_readings.specs.PointLines.{IsPointLine, line_of_point}
 use Rattle.text_readings.proofs.Points.{coordinate_below}
 

@@ -1,6 +1,3 @@
-pub mod Lines
-pub mod Numbers
-pub mod Keys
 pub mod PointLines
 pub mod Scanning
 pub mod Readings

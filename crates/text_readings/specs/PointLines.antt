@@ -1,7 +1,20 @@
--- Point lines: their form, and what point one says.
-use Rattle.std.specs.Prelude.{◌≡◌, ℕ, List, ◌∷◌, ◌++◌, decimal}
+-- Numbers and points in text: their forms, and what they say.
+use Rattle.std.specs.Prelude.{◌≡◌, ℕ, ◌+◌, ◌*◌, List, ◌∷◌, ◌++◌, drop, decimal, IsTrue, if◌then◌else◌}
+use Rattle.std.specs.Str.Parse.{IsNumeral, digits_value, starts_with_minus}
 use Rattle.point_order.specs.Coordinates.{x_of, y_of, z_of, IsKey}
-use Rattle.text_readings.specs.Numbers.{IsNumber, IsNumberOf}
+
+-- what follows the minus, or all where there is none
+abbrev pub after_minus : List ℕ → List ℕ
+after_minus bs = if starts_with_minus bs then drop 1 bs else bs
+
+abbrev pub IsNumber : List ℕ → Type 0
+IsNumber bs = IsNumeral 10 (after_minus bs)
+
+-- a number whose value is n, which is 0 or above; behind a minus stands no n but 0
+pub record IsNumberOf (bs : List ℕ) (n : ℕ) : Type 0 where
+  pub number : IsNumber bs
+  pub value : digits_value 10 (after_minus bs) ≡ n
+  pub minus : IsTrue (starts_with_minus bs) → n ≡ 0
 
 -- three fields with one space (32) between them
 abbrev pub three_spaced : List ℕ → List ℕ → List ℕ → List ℕ
@@ -31,3 +44,14 @@ pub record IsPointLine (line : List ℕ) (point : ℕ) : Type 0 where
 -- the point line that is written of a point
 abbrev pub line_of_point : ℕ → List ℕ
 line_of_point p = three_spaced (decimal (x_of p)) (decimal (y_of p)) (decimal (z_of p))
+
+-- how many coordinates there are, 0 to 16383
+abbrev pub coordinate_count : ℕ
+coordinate_count = 16384
+
+abbrev pub greatest_coordinate : ℕ
+greatest_coordinate = 16383
+
+-- the key of a point, of its coordinates: x * 2^28 + y * 2^14 + z
+abbrev pub key_of : ℕ → ℕ → ℕ → ℕ
+key_of x y z = x * 268435456 + y * coordinate_count + z

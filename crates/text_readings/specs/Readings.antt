@@ -1,8 +1,20 @@
--- Readings: which line leads from where to where, why a line is wrong where it stands, and where a text may end.
-use Rattle.std.specs.Prelude.{◌≡◌, ◌⊎◌, ℕ, ◌+◌, List, [], ◌∷◌, ◌++◌, length}
+-- Texts line by line. A reading: which line leads from where to where, why a line is wrong where it stands, and where a
+-- text may end.
+use Rattle.std.specs.Prelude.{◌≡◌, ◌⊎◌, ℕ, ◌+◌, ◌==◌, List, [], ◌∷◌, ◌++◌, length, if◌then◌else◌}
+use Rattle.std.specs.List.{onto_first}
 use Rattle.text_readings.specs.declared.fault.Why.{Why}
 use Rattle.text_readings.specs.declared.fault.Why.TheVariants.{Truncated}
 use Rattle.text_readings.specs.declared.fault.Fault.{Fault}
+
+-- A line is the bytes up to a line feed (10), or the bytes after the last line feed where there are any.
+abbrev pub lines_of : List ℕ → List (List ℕ)
+lines_of [] = []
+lines_of (b ∷ bs) = if b == 10 then ([] ∷ lines_of bs) else onto_first b (lines_of bs)
+
+-- the text of these lines, each with its line feed
+abbrev pub text_of : List (List ℕ) → List ℕ
+text_of [] = []
+text_of (line ∷ lines) = line ++ 10 ∷ text_of lines
 
 -- the lines are right, one after another
 abbrev pub AllLead : {S : Type 0} → (S → List ℕ → S → Type 0) → List (List ℕ) → S → S → Type 0

@@ -2,10 +2,10 @@
 
 ghost use Rattle.std.specs.Prelude.{◌≡◌, ◌≢◌, ◌<◌, ◌+◌, ℕ, ◌∷◌, [], length, slice_index, MatchOption, IfSome, ◌==◌};
 ghost use Rattle.std.specs.Prelude.{◌≤◌};
-ghost use Rattle.text_readings.specs.Lines.{lines_of};
+ghost use Rattle.text_readings.specs.Readings.{lines_of};
 ghost use Rattle.std.specs.Str.{bytes_eq};
 ghost use Rattle.std.specs.Str.Parse.{starts_with_minus};
-ghost use Rattle.text_readings.specs.Numbers.{after_minus};
+ghost use Rattle.text_readings.specs.PointLines.{after_minus};
 ghost use Rattle.text_readings.specs.Scanning.{far, digits, number, fields_of};
 
 // More than any number that has a place in a file.

@@ -1,6 +1,6 @@
 use Rattle.std.proofs.Common.{◌≡◌, sym, ◌∙◌, arith}
 use Rattle.text_readings.specs.Judging.{judge, judged_end}
-use Rattle.text_readings.specs.Lines.{lines_of}
+use Rattle.text_readings.specs.Readings.{lines_of}
 use Rattle.text_readings.proofs.Cited.{judge_end, judge_on, judge_refused}
 use Rattle.edit_files.specs.Grammar.{at_title, up_to}
 use Rattle.edit_files.specs.Judging.{file_judge, reached}

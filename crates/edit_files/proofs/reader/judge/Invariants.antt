@@ -1,7 +1,7 @@
 -- What is left, from the next line on, is judged as the whole text is.
 use Rattle.std.proofs.Common.{◌≡◌, ◌+◌, ◌≤◌, length}
 use Rattle.text_readings.specs.Judging.{judge}
-use Rattle.text_readings.specs.Lines.{lines_of}
+use Rattle.text_readings.specs.Readings.{lines_of}
 use Rattle.edit_files.specs.Grammar.{at_title, up_to}
 use Rattle.edit_files.specs.Judging.{file_judge, reached}
 use Rattle.edit_files.proofs.reader.judge.Given as goal

@@ -3,7 +3,7 @@ use Rattle.std.specs.Prelude.{decimal, map}
 use Rattle.edit_history.specs.declared.history.Edit.{Edit}
 use Rattle.edit_files.specs.Content.{Content}
 use Rattle.edit_files.specs.Held.{content}
-use Rattle.text_readings.specs.Lines.{text_of}
+use Rattle.text_readings.specs.Readings.{text_of}
 use Rattle.edit_files.specs.Content.{row}
 use Rattle.edit_files.specs.Writing.{edit_text}
 use Rattle.text_readings.specs.PointLines.{line_of_point}

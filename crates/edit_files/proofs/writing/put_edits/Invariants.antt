@@ -1,7 +1,7 @@
 -- what is put so far and the lines that are left are all of them
 use Rattle.std.proofs.Common.{◌≡◌, ◌++◌, drop}
 use Rattle.std.specs.Prelude.{map}
-use Rattle.text_readings.specs.Lines.{text_of}
+use Rattle.text_readings.specs.Readings.{text_of}
 use Rattle.edit_files.specs.Writing.{edit_text}
 use Rattle.edit_files.proofs.writing.put_edits.Given as goal
 

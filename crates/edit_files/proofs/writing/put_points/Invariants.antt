@@ -1,7 +1,7 @@
 -- what is put so far and the lines that are left are all of them
 use Rattle.std.proofs.Common.{◌≡◌, ◌++◌, drop}
 use Rattle.std.specs.Prelude.{map}
-use Rattle.text_readings.specs.Lines.{text_of}
+use Rattle.text_readings.specs.Readings.{text_of}
 use Rattle.text_readings.specs.PointLines.{line_of_point}
 use Rattle.edit_files.proofs.writing.put_points.Given as goal
 

@@ -2,7 +2,7 @@ use Rattle.std.proofs.Common.{◌≡◌, ℕ, true, false, ltb, List, Some, None
 use Rattle.std.specs.Str.Parse.{starts_with_minus}
 use Rattle.std.proofs.lemmas.Bool.{lt-ltb, le-ltb}
 use Rattle.text_readings.specs.Scanning.{digits}
-use Rattle.text_readings.specs.Numbers.{after_minus}
+use Rattle.text_readings.specs.PointLines.{after_minus}
 use Rattle.text_readings.proofs.Numerals.{number_is, number_none}
 use Rattle.text_readings.proofs.scan.number_of.Goals as goal
 use Rattle.text_readings.proofs.scan.number_of.Goals.{else-is_negative-via-then-is_negative+else-value-gt0}
