@@ -17,13 +17,13 @@ use Rattle.clap.specs.declared.error.kind.ErrorKind.{ErrorKind}
 use Rattle.clap.specs.declared.error.kind.ErrorKind.TheVariants.{OutOfMemory}
 use Rattle.clap.proofs.OnLiterals.{clap_on_literals}
 use Rattle.cell_store.specs.Grids.{is_grid_size}
-use Rattle.command_words.specs.Words.{SayCheck, SayMesh, SayMeshOrder, SayNear, SayShape, SayParts, SayShapeOrder}
-use Rattle.command_words.specs.Words.{SaySteps, Checks, DrawsFile, Kind, Parts, Queries, ReadsMesh, Reports, Steps}
-use Rattle.command_words.specs.Words.{WritesNear, WritesParts, WritesReport, WritesSteps, asked_alpha, asked_index}
+use Rattle.command_words.specs.Words.{Checks, Kind, Parts, Queries, Reports, Steps}
+use Rattle.command_words.specs.Words.{asked_alpha, asked_index}
 use Rattle.command_words.specs.Words.{asked_most, asks_order, asks_shape, asks_text, drawn_count, drawn_start, flag_in}
 use Rattle.command_words.specs.Words.{given_in, given_of, grid_size, has_flag, is_command, kind_met, kind_of_words}
 use Rattle.command_words.specs.Words.{most_alpha, most_grid, most_index, most_workers, number_between, number_in}
 use Rattle.command_words.specs.Words.{number_of, program, worker_count, texts_of, AreWordsTaken}
+use Rattle.command_words.specs.Words.{Asks, Draws, Say}
 use Rattle.command_words.specs.Tasks.{IsTask, IsTaskOf}
 use Rattle.command_words.specs.declared.task.Asked.{Asked}
 use Rattle.command_words.specs.declared.task.Drawn.{Drawn}
@@ -114,37 +114,39 @@ asked words texts shape order kind e found =
     (((f.0, ap is_grid_size f.4), f.1, f.2), (f.3, f.4), f.5)
 
 -- the word `mesh` asks for the report alone
-pub mesh_words : (words : List (String Global)) → SayMesh words → AreAsked words false false Reports
+pub mesh_words : (words : List (String Global)) → Say (codes "mesh" ∷ []) words → AreAsked words false false Reports
 mesh_words words m = asked words (m.0 ∷ codes "mesh" ∷ []) false false Reports m.1 (mesh_found m.0)
 
 -- `mesh --order` for the order too
-pub mesh_order_words : (words : List (String Global)) → SayMeshOrder words → AreAsked words false true Reports
+pub mesh_order_words : (words : List (String Global)) → Say (codes "mesh" ∷ codes "--order" ∷ []) words →
+    AreAsked words false true Reports
 mesh_order_words words m = asked words (m.0 ∷ codes "mesh" ∷ codes "--order" ∷ []) false true Reports
     m.1 (mesh_order_found m.0)
 
 -- `shape` for the shapes
-pub shape_words : (words : List (String Global)) → SayShape words → AreAsked words true false Reports
+pub shape_words : (words : List (String Global)) → Say (codes "shape" ∷ []) words → AreAsked words true false Reports
 shape_words words m = asked words (m.0 ∷ codes "shape" ∷ []) true false Reports m.1 (shape_found m.0)
 
 -- `shape --order` for both
-pub shape_order_words : (words : List (String Global)) → SayShapeOrder words → AreAsked words true true Reports
+pub shape_order_words : (words : List (String Global)) → Say (codes "shape" ∷ codes "--order" ∷ []) words →
+    AreAsked words true true Reports
 shape_order_words words m = asked words (m.0 ∷ codes "shape" ∷ codes "--order" ∷ []) true true Reports
     m.1 (shape_order_found m.0)
 
 -- `steps` for the least alphas
-pub steps_words : (words : List (String Global)) → SaySteps words → AreAsked words false false Steps
+pub steps_words : (words : List (String Global)) → Say (codes "steps" ∷ []) words → AreAsked words false false Steps
 steps_words words m = asked words (m.0 ∷ codes "steps" ∷ []) false false Steps m.1 (steps_found m.0)
 
 -- `parts` for the solid parts
-pub parts_words : (words : List (String Global)) → SayParts words → AreAsked words false false Parts
+pub parts_words : (words : List (String Global)) → Say (codes "parts" ∷ []) words → AreAsked words false false Parts
 parts_words words m = asked words (m.0 ∷ codes "parts" ∷ []) false false Parts m.1 (parts_found m.0)
 
 -- `near` for the answers to queries
-pub near_words : (words : List (String Global)) → SayNear words → AreAsked words false false Queries
+pub near_words : (words : List (String Global)) → Say (codes "near" ∷ []) words → AreAsked words false false Queries
 near_words words m = asked words (m.0 ∷ codes "near" ∷ []) false false Queries m.1 (near_found m.0)
 
 -- what `parts` alone asks for
-pub parts_asked : (words : List (String Global)) → SayParts words →
+pub parts_asked : (words : List (String Global)) → Say (codes "parts" ∷ []) words →
     (asked_alpha words ≡ 0) × (asked_most words ≡ 0) × (asked_index words ≡ None)
 unfolding asked_alpha asked_most asked_index
 parts_asked words m = subst HasDefaults (sym m.1) (parts_defaults m.0)
@@ -157,7 +159,8 @@ unfolding clap_on_literals
 check_found name = (refl, refl, refl)
 
 -- so it is taken, and asks for a verdict
-pub check_words : (words : List (String Global)) → SayCheck words → AreWordsTaken words × ReadsMesh words
+pub check_words : (words : List (String Global)) → Say (codes "check" ∷ []) words →
+    AreWordsTaken words × Asks Checks words
 unfolding AreWordsTaken kind_of_words grid_size
 check_words words m =
     let f = subst (λ (w : List Text). (fault_of program w ≡ []) ×
@@ -166,9 +169,10 @@ check_words words m =
     ((f.0, ap is_grid_size f.1), f.2)
 
 -- words for a report without options have 1 worker and a grid of size 4
-pub default_words : (words : List (String Global)) → SayMesh words ⊎ SayMeshOrder words ⊎ SayShape words ⊎
-    SayShapeOrder words
-    → ((worker_count words ≡ 1) × (grid_size words ≡ 4)) × WritesReport words
+pub default_words : (words : List (String Global)) → Say (codes "mesh" ∷ []) words ⊎
+    Say (codes "mesh" ∷ codes "--order" ∷ []) words ⊎ Say (codes "shape" ∷ []) words ⊎
+    Say (codes "shape" ∷ codes "--order" ∷ []) words →
+    ((worker_count words ≡ 1) × (grid_size words ≡ 4)) × Asks Reports words
 default_words words (inl m) = let a = mesh_words words m in (a.1, a.2)
 default_words words (inr (inl m)) = let a = mesh_order_words words m in (a.1, a.2)
 default_words words (inr (inr (inl m))) = let a = shape_words words m in (a.1, a.2)
@@ -290,39 +294,39 @@ number_not_read text least most small none = by (is_unsigned_in least most text)
 -- the task of a report is that of words that write one, and has their flags and workers
 pub report_task : (words : List (String Global)) (making : Making) (asked : Asked) →
     IsTask words (Report making asked) →
-    WritesReport words × (asked.shape ≡ asks_shape words) × (asked.order ≡ asks_order words) ×
+    Asks Reports words × (asked.shape ≡ asks_shape words) × (asked.order ≡ asks_order words) ×
     (making.workers ≡ worker_count words)
 unfolding kind_of_words asks_shape asks_order worker_count
 report_task words making asked k = (k.1, k.2, k.3, k.0.workers)
 
 -- so it is with the task of the least alphas
 pub step_task : (words : List (String Global)) (making : Making) → IsTask words (Step making) →
-    WritesSteps words × (making.workers ≡ worker_count words)
+    Asks Steps words × (making.workers ≡ worker_count words)
 unfolding kind_of_words worker_count
 step_task words making k = (k.1, k.0.workers)
 
 -- with that of the parts, and its numbers
 pub part_task : (words : List (String Global)) (making : Making) (wanted : Wanted) →
     IsTask words (Part making wanted) →
-    WritesParts words × (wanted.alpha ≡ asked_alpha words) × (wanted.most ≡ asked_most words) ×
+    Asks Parts words × (wanted.alpha ≡ asked_alpha words) × (wanted.most ≡ asked_most words) ×
     (wanted.off ≡ asked_index words) × (making.workers ≡ worker_count words)
 unfolding kind_of_words asked_alpha asked_most asked_index worker_count
 part_task words making wanted k = (k.1, k.2, k.3, k.4, k.0.workers)
 
 -- with that of the queries
 pub query_task : (words : List (String Global)) (making : Making) → IsTask words (Query making) →
-    WritesNear words × (making.workers ≡ worker_count words)
+    Asks Queries words × (making.workers ≡ worker_count words)
 unfolding kind_of_words worker_count
 query_task words making k = (k.1, k.0.workers)
 
 -- the task of a verdict is that of words that read the text of a mesh
-pub check_task : (words : List (String Global)) → IsTask words Check → ReadsMesh words
+pub check_task : (words : List (String Global)) → IsTask words Check → Asks Checks words
 unfolding kind_of_words
 check_task words k = k
 
 -- the task of drawing is that of words that draw, and has their count, start and flag
 pub draw_task : (words : List (String Global)) (making : Making) (drawn : Drawn) → IsTask words (Draw making drawn) →
-    DrawsFile words × (drawn.count ≡ drawn_count words) × (drawn.start ≡ drawn_start words) ×
+    Asks Draws words × (drawn.count ≡ drawn_count words) × (drawn.start ≡ drawn_start words) ×
     (drawn.text ≡ asks_text words) × (making.workers ≡ worker_count words)
 unfolding kind_of_words drawn_count drawn_start asks_text worker_count
 draw_task words making drawn k = (k.1, k.2, k.3, k.4, k.0.workers)

@@ -21,12 +21,14 @@ use Rattle.clap.specs.declared.builder.value_parser.ValueParser.TheVariants.{Sig
 use Rattle.std.proofs.lemmas.Bool.Decides.{nat_tests}
 use Rattle.text_readings.proofs.Cited.{no_minus}
 use Rattle.cell_store.specs.Grids.{is_grid_size}
-use Rattle.command_words.specs.Words.{SayGen, SayGenText, SayMeshing, SayPartsAt, DrawsFile, Draws, Kind, Parts}
-use Rattle.command_words.specs.Words.{Queries, Reports, Steps, WritesParts, asked_alpha, asked_index, asked_most}
+use Rattle.command_words.specs.Words.{Draws, Kind, Parts}
+use Rattle.command_words.specs.Words.{Queries, Reports, Steps, asked_alpha, asked_index, asked_most}
 use Rattle.command_words.specs.Words.{asks_shape, asks_text, drawn_count, drawn_start, given_of, grid_size, has_flag}
-use Rattle.command_words.specs.Words.{is_command, kind_met, kind_of_words, most_alpha, most_count, most_grid}
+use Rattle.command_words.specs.Words.{is_command, kind_met, kind_of_words, most_alpha, most_grid}
 use Rattle.command_words.specs.Words.{most_index, most_start, most_workers, number_between, number_of, program}
 use Rattle.command_words.specs.Words.{texts_of, worker_count, AreWordsTaken}
+use Rattle.command_words.specs.Words.{Asks, Say, gen_line, meshing_line, parts_line}
+use Rattle.edit_files.specs.Generator.{most_edits}
 
 -- ---- the decimal text of a number
 
@@ -115,56 +117,56 @@ gen_texts name count start rest = name ∷ codes "gen" ∷ (codes "--count=" ++ 
 -- or not
 abbrev AreFoundGen : List Text → Text → Text → Bool → Type 0
 AreFoundGen words c s text =
-    (is_signed_in (pos 0) (pos most_count) c ≡ true → is_signed_in (pos 0) (pos most_start) s ≡ true →
+    (is_signed_in (pos 0) (pos most_edits) c ≡ true → is_signed_in (pos 0) (pos most_start) s ≡ true →
     fault_of program words ≡ [])
     × (number_of (codes "grid") 1 most_grid (subcommand_of program words) ≡ 4) ×
     (kind_met (subcommand_of program words) ≡ Draws)
-    × (number_of (codes "count") 0 most_count (subcommand_of program words) ≡ number_between 0 most_count c)
+    × (number_of (codes "count") 0 most_edits (subcommand_of program words) ≡ number_between 0 most_edits c)
     × (number_of (codes "start") 0 most_start (subcommand_of program words) ≡ number_between 0 most_start s)
     × (has_flag (codes "text") (subcommand_of program words) ≡ text)
 
 -- without `--text` they are found to be these
 gen_found : (name c s : Text) → AreFoundGen (gen_texts name c s []) c s false
 unfolding clap_on_literals word_faults both_faults gen_texts
-gen_found name c s = (both_taken 0 most_count 0 most_start _ _, refl, refl, refl, refl, refl)
+gen_found name c s = (both_taken 0 most_edits 0 most_start _ _, refl, refl, refl, refl, refl)
 
 -- and with it
 gen_text_found : (name c s : Text) → AreFoundGen (gen_texts name c s (codes "--text" ∷ [])) c s true
 unfolding clap_on_literals word_faults both_faults gen_texts
-gen_text_found name c s = (both_taken 0 most_count 0 most_start _ _, refl, refl, refl, refl, refl)
+gen_text_found name c s = (both_taken 0 most_edits 0 most_start _ _, refl, refl, refl, refl, refl)
 
 -- so they are taken, and ask for the file of the count and the start
-gen_asked : (words : List (String Global)) (texts : List Text) (count start : ℕ) (text : Bool) → count ≤ most_count →
+gen_asked : (words : List (String Global)) (texts : List Text) (count start : ℕ) (text : Bool) → count ≤ most_edits →
     start ≤ most_start → texts_of words ≡ texts → AreFoundGen texts (decimal count) (decimal start) text →
-    AreWordsTaken words × DrawsFile words × (drawn_count words ≡ count) × (drawn_start words ≡ start) ×
+    AreWordsTaken words × Asks Draws words × (drawn_count words ≡ count) × (drawn_start words ≡ start) ×
     (asks_text words ≡ text)
 unfolding AreWordsTaken grid_size kind_of_words drawn_count drawn_start asks_text
 gen_asked words texts count start text few small e found =
     let f = subst (λ (w : List Text). AreFoundGen w (decimal count) (decimal start) text) (sym e) found in (
       (
-        f.0 (decimal_taken 0 most_count count (omega arith) few (omega arith))
+        f.0 (decimal_taken 0 most_edits count (omega arith) few (omega arith))
             (decimal_taken 0 most_start start (omega arith) small (omega arith)),
         ap is_grid_size f.1,
       ),
       f.2,
-      f.3 ∙ decimal_named 0 most_count count (omega arith) few (omega arith),
+      f.3 ∙ decimal_named 0 most_edits count (omega arith) few (omega arith),
       f.4 ∙ decimal_named 0 most_start start (omega arith) small (omega arith),
       f.5,
     )
 
 -- the words `gen`, `--count=N` and `--start=M` ask for the file of N and M, and with `--text` for its text
-pub gen_words : (words : List (String Global)) (count start : ℕ) → count ≤ most_count → start ≤ most_start →
-    SayGen count start words →
-    AreWordsTaken words × DrawsFile words × (drawn_count words ≡ count) × (drawn_start words ≡ start) ×
+pub gen_words : (words : List (String Global)) (count start : ℕ) → count ≤ most_edits → start ≤ most_start →
+    Say (gen_line count start []) words →
+    AreWordsTaken words × Asks Draws words × (drawn_count words ≡ count) × (drawn_start words ≡ start) ×
     (asks_text words ≡ false)
 unfolding gen_texts
 gen_words words count start few small m = gen_asked words (gen_texts m.0 (decimal count) (decimal start) []) count start
     false few small m.1 (gen_found m.0 (decimal count) (decimal start))
 
 -- the same words with `--text`
-pub gen_text_words : (words : List (String Global)) (count start : ℕ) → count ≤ most_count → start ≤ most_start →
-    SayGenText count start words →
-    AreWordsTaken words × DrawsFile words × (drawn_count words ≡ count) × (drawn_start words ≡ start) ×
+pub gen_text_words : (words : List (String Global)) (count start : ℕ) → count ≤ most_edits → start ≤ most_start →
+    Say (gen_line count start (codes "--text" ∷ [])) words →
+    AreWordsTaken words × Asks Draws words × (drawn_count words ≡ count) × (drawn_start words ≡ start) ×
     (asks_text words ≡ true)
 unfolding gen_texts
 gen_text_words words count start few small m = gen_asked words (gen_texts m.0 (decimal count) (decimal start)
@@ -219,7 +221,7 @@ parts_at_found name a m i = (
 parts_asked_at : (words : List (String Global)) (texts : List Text) (alpha most index : ℕ) → alpha ≤ most_alpha →
     most ≤ most_index → index ≤ most_index → texts_of words ≡ texts →
     AreFoundParts texts (decimal alpha) (decimal most) (decimal index) →
-    AreWordsTaken words × WritesParts words × (worker_count words ≡ 1) × (grid_size words ≡ 4)
+    AreWordsTaken words × Asks Parts words × (worker_count words ≡ 1) × (grid_size words ≡ 4)
     × (asked_alpha words ≡ alpha) × (asked_most words ≡ most) × (asked_index words ≡ Some index)
 unfolding AreWordsTaken grid_size worker_count kind_of_words asked_alpha asked_most asked_index
 parts_asked_at words texts alpha most index a m i e found =
@@ -240,8 +242,8 @@ parts_asked_at words texts alpha most index a m i e found =
 
 -- the words `parts`, `--alpha=A`, `--most=K` and `--off=I` ask for A, K and I
 pub parts_at_words : (words : List (String Global)) (alpha most index : ℕ) → alpha ≤ most_alpha → most ≤ most_index →
-    index ≤ most_index → SayPartsAt alpha most index words →
-    AreWordsTaken words × WritesParts words × (worker_count words ≡ 1) × (grid_size words ≡ 4)
+    index ≤ most_index → Say (parts_line alpha most index) words →
+    AreWordsTaken words × Asks Parts words × (worker_count words ≡ 1) × (grid_size words ≡ 4)
     × (asked_alpha words ≡ alpha) × (asked_most words ≡ most) × (asked_index words ≡ Some index)
 unfolding parts_texts
 parts_at_words words alpha most index a m i w = parts_asked_at words
@@ -329,35 +331,35 @@ meshing_asked words texts workers grid shape kind some few size e found =
 module _ (words : List (String Global)) (workers grid : ℕ) (some : 0 < workers) (few : workers ≤ most_workers)
     (size : is_grid_size grid ≡ true) where
   -- `mesh` with workers and a grid
-  pub mesh_workers_words : SayMeshing (codes "mesh") workers grid words →
+  pub mesh_workers_words : Say (meshing_line (codes "mesh") workers grid) words →
       AreAskedMeshing words workers grid false Reports
   unfolding meshing_texts
   mesh_workers_words m = meshing_asked words (meshing_texts m.0 (codes "mesh") (decimal workers) (decimal grid))
       workers grid false Reports some few size m.1 (mesh_found m.0 (decimal workers) (decimal grid))
 
   -- `shape`
-  pub shape_workers_words : SayMeshing (codes "shape") workers grid words →
+  pub shape_workers_words : Say (meshing_line (codes "shape") workers grid) words →
       AreAskedMeshing words workers grid true Reports
   unfolding meshing_texts
   shape_workers_words m = meshing_asked words (meshing_texts m.0 (codes "shape") (decimal workers) (decimal grid))
       workers grid true Reports some few size m.1 (shape_found m.0 (decimal workers) (decimal grid))
 
   -- `steps`
-  pub steps_workers_words : SayMeshing (codes "steps") workers grid words →
+  pub steps_workers_words : Say (meshing_line (codes "steps") workers grid) words →
       AreAskedMeshing words workers grid false Steps
   unfolding meshing_texts
   steps_workers_words m = meshing_asked words (meshing_texts m.0 (codes "steps") (decimal workers) (decimal grid))
       workers grid false Steps some few size m.1 (steps_found m.0 (decimal workers) (decimal grid))
 
   -- `parts`
-  pub parts_workers_words : SayMeshing (codes "parts") workers grid words →
+  pub parts_workers_words : Say (meshing_line (codes "parts") workers grid) words →
       AreAskedMeshing words workers grid false Parts
   unfolding meshing_texts
   parts_workers_words m = meshing_asked words (meshing_texts m.0 (codes "parts") (decimal workers) (decimal grid))
       workers grid false Parts some few size m.1 (parts_found m.0 (decimal workers) (decimal grid))
 
   -- `near`
-  pub near_workers_words : SayMeshing (codes "near") workers grid words →
+  pub near_workers_words : Say (meshing_line (codes "near") workers grid) words →
       AreAskedMeshing words workers grid false Queries
   unfolding meshing_texts
   near_workers_words m = meshing_asked words (meshing_texts m.0 (codes "near") (decimal workers) (decimal grid))

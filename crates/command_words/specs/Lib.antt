@@ -1,4 +1,5 @@
 pub mod Words
 pub mod Built
 pub mod Tasks
+pub mod Lines
 pub mod Stops

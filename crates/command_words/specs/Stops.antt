@@ -1,12 +1,12 @@
 -- Why a run stops: the status and the line of each stop.
-use Rattle.std.specs.Prelude.{◌≡◌, ◌⊎◌, ◌==◌, ℕ, List, [], Option, None, Some, Result, Ok, Err, String, ⊤, codes}
-use Rattle.std.specs.Prelude.{if◌then◌else◌}
+use Rattle.std.specs.Prelude.{◌≡◌, ◌⊎◌, ℕ, List, [], Option, None, Some, Result, Ok, Err, String, ⊤}
 use Rattle.std.specs.declared.alloc.Global.{Global}
 use Rattle.byte_ends.specs.declared.loops.ReadError.{ReadError}
 use Rattle.byte_ends.specs.declared.loops.ReadError.TheVariants.{Fault as SourceFault, Memory as NoRoom}
 use Rattle.command_words.specs.declared.stop.Stop.{Stop}
 use Rattle.command_words.specs.declared.stop.Stop.TheVariants.{Memory, Usage, ReadFault, WriteFault, BadLine, Flat}
 use Rattle.command_words.specs.declared.stop.Stop.TheVariants.{TooLong, NoPart, NoAlpha, BadMesh}
+use Rattle.command_words.specs.Lines.{plain_line}
 use Rattle.command_words.specs.Words.{AreWordsTaken}
 
 abbrev pub status_of : Stop → ℕ
@@ -20,20 +20,6 @@ status_of TooLong = 7
 status_of NoPart = 8
 status_of NoAlpha = 9
 status_of BadMesh = 10
-
--- the line of a status other than 5
-abbrev pub plain_line : ℕ → List ℕ
-plain_line status =
-    if status == 1 then codes "delaunay: out of memory\n"
-    else (if status == 2 then codes "delaunay: usage\n"
-    else (if status == 3 then codes "delaunay: read fault\n"
-    else (if status == 4 then codes "delaunay: write fault\n"
-    else (if status == 6 then codes "delaunay: no four independent points\n"
-    else (if status == 7 then codes "delaunay: input too long\n"
-    else (if status == 8 then codes "delaunay: no such part\n"
-    else (if status == 9 then codes "delaunay: no such alpha\n"
-    else (if status == 10 then codes "delaunay: bad mesh\n"
-    else []))))))))
 
 -- the line of a fault if there is one, and else that of the status
 abbrev pub line_of_stop : Stop → List ℕ

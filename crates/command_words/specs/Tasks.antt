@@ -2,11 +2,12 @@
 use Rattle.std.specs.Prelude.{◌≡◌, List, codes, String, Option}
 use Rattle.std.specs.declared.alloc.Global.{Global}
 use Rattle.clap.specs.Words.{Row, Text, subcommand_of}
+use Rattle.edit_files.specs.Generator.{most_edits}
 use Rattle.command_words.specs.declared.task.Making.{Making}
 use Rattle.command_words.specs.declared.task.Task.{Task}
 use Rattle.command_words.specs.declared.task.Task.TheVariants.{Report, Step, Part, Query, Check, Draw}
 use Rattle.command_words.specs.Words.{Checks, Draws, Parts, Queries, Reports, Steps, given_of, has_flag, is_command}
-use Rattle.command_words.specs.Words.{kind_met, most_alpha, most_count, most_grid, most_index, most_start, most_workers}
+use Rattle.command_words.specs.Words.{kind_met, most_alpha, most_grid, most_index, most_start, most_workers}
 use Rattle.command_words.specs.Words.{number_of, program, texts_of}
 
 -- the workers and the grid of the command that was met, by its matches
@@ -26,7 +27,7 @@ IsTaskOf met (Part making wanted) =
 IsTaskOf met (Query making) = IsMakingOf met making × (kind_met met ≡ Queries)
 IsTaskOf met Check = kind_met met ≡ Checks
 IsTaskOf met (Draw making drawn) =
-    IsMakingOf met making × (kind_met met ≡ Draws) × (drawn.count ≡ number_of (codes "count") 0 most_count met)
+    IsMakingOf met making × (kind_met met ≡ Draws) × (drawn.count ≡ number_of (codes "count") 0 most_edits met)
     × (drawn.start ≡ number_of (codes "start") 0 most_start met) × (drawn.text ≡ has_flag (codes "text") met)
 
 -- the task that the words ask for

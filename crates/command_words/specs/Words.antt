@@ -10,8 +10,10 @@ use Rattle.clap.specs.Words.{with_subcommand}
 use Rattle.clap.specs.Simple.{on_top}
 use Rattle.clap.specs.ValueTests.{is_unsigned_in}
 use Rattle.clap.specs.declared.builder.action.ArgAction.TheVariants.{SetTrue}
+use Rattle.clap.specs.declared.builder.value_parser.ValueParser.{ValueParser}
 use Rattle.clap.specs.declared.builder.value_parser.ValueParser.TheVariants.{Signed, Unsigned}
 use Rattle.cell_store.specs.Grids.{is_grid_size}
+use Rattle.edit_files.specs.Generator.{most_edits}
 
 -- the most workers that there may be, and the greatest size of a grid
 abbrev pub most_workers : ℕ
@@ -20,21 +22,46 @@ most_workers = 64
 abbrev pub most_grid : ℕ
 most_grid = 16
 
--- an option of this name that takes a number from 1 to the most, and has a default where it is left out
-abbrev pub counting_option : Text → ℕ → Text → Rule
-counting_option name most default = record (new_rule name) {
-  long = Some name;
-  defaults = default ∷ [];
-  parser = Some (Signed (pos 1) (pos most));
-}
+-- the most that `--start` takes; that `--alpha` takes, one less than 2^34; and that `--most` and `--off` take
+abbrev pub most_start : ℕ
+most_start = 2147483647
 
--- the option `--workers`, which is 1 where it is left out
+abbrev pub most_alpha : ℕ
+most_alpha = 17179869183
+
+abbrev pub most_index : ℕ
+most_index = 16777216
+
+-- an option of this name: what numbers it takes, what it is where it is left out, and whether it is required
+abbrev pub option_of : Text → ValueParser → List Text → Bool → Rule
+option_of name parser defaults required =
+    record (new_rule name) { long = Some name; defaults = defaults; required = required; parser = Some parser }
+
+-- numbers from the least to the most
+abbrev pub from_to : ℕ → ℕ → ValueParser
+from_to least most = Signed (pos least) (pos most)
+
+-- the options, each by its name
 abbrev pub workers_option : Rule
-workers_option = counting_option (codes "workers") most_workers (codes "1")
+workers_option = option_of (codes "workers") (from_to 1 most_workers) (codes "1" ∷ []) false
 
--- the option `--grid`, which is 4 where it is left out
 abbrev pub grid_option : Rule
-grid_option = counting_option (codes "grid") most_grid (codes "4")
+grid_option = option_of (codes "grid") (from_to 1 most_grid) (codes "4" ∷ []) false
+
+abbrev pub count_option : Rule
+count_option = option_of (codes "count") (from_to 0 most_edits) [] true
+
+abbrev pub start_option : Rule
+start_option = option_of (codes "start") (from_to 0 most_start) [] true
+
+abbrev pub alpha_option : Rule
+alpha_option = option_of (codes "alpha") (Unsigned 0 most_alpha) (codes "0" ∷ []) false
+
+abbrev pub most_option : Rule
+most_option = option_of (codes "most") (from_to 0 most_index) (codes "0" ∷ []) false
+
+abbrev pub index_option : Rule
+index_option = option_of (codes "off") (from_to 0 most_index) [] false
 
 -- a flag of this name
 abbrev pub flag_of : Text → Rule
@@ -44,148 +71,53 @@ flag_of name = record (new_rule name) { long = Some name; action = Some SetTrue 
 abbrev pub meshing_command : Text → App
 meshing_command name = with_rule (with_rule (new_app name) workers_option) grid_option
 
--- a command of this name that reads a file: it takes the flag `--order` besides
+-- a command of this name that writes a report: it takes the flag `--order` besides
 abbrev pub command_of : Text → App
 command_of name = with_rule (meshing_command name) (flag_of (codes "order"))
 
--- an option of this name that is required, and takes a number from 0 to the most
-abbrev pub number_option : Text → ℕ → Rule
-number_option name most = record (new_rule name) {
-  long = Some name;
-  required = true;
-  parser = Some (Signed (pos 0) (pos most));
-}
-
--- the most that `--count` takes, and the most that `--start` takes
-abbrev pub most_count : ℕ
-most_count = 262140
-
-abbrev pub most_start : ℕ
-most_start = 2147483647
-
--- the command `gen`
+-- the commands `gen` and `parts`
 abbrev pub gen_command : App
 gen_command =
-    with_rule
-    (with_rule
-    (with_rule (meshing_command (codes "gen")) (number_option (codes "count") most_count))
-    (number_option (codes "start") most_start))
-    (flag_of (codes "text"))
+    with_rule (with_rule (with_rule (meshing_command (codes "gen")) count_option) start_option) (flag_of (codes "text"))
 
--- the most that `--alpha` takes, one less than 2^34, and the most that `--most` and `--off` take
-abbrev pub most_alpha : ℕ
-most_alpha = 17179869183
-
-abbrev pub most_index : ℕ
-most_index = 16777216
-
--- the option `--alpha`, which is 0 where it is left out
-abbrev pub alpha_option : Rule
-alpha_option = record (new_rule (codes "alpha")) {
-  long = Some (codes "alpha");
-  defaults = codes "0" ∷ [];
-  parser = Some (Unsigned 0 most_alpha);
-}
-
--- the option `--most`, which is 0 where it is left out
-abbrev pub most_option : Rule
-most_option = record (new_rule (codes "most")) {
-  long = Some (codes "most");
-  defaults = codes "0" ∷ [];
-  parser = Some (Signed (pos 0) (pos most_index));
-}
-
--- the option `--off`, which may be left out
-abbrev pub index_option : Rule
-index_option = record (new_rule (codes "off")) {
-  long = Some (codes "off");
-  parser = Some (Signed (pos 0) (pos most_index));
-}
-
--- the command `parts`
 abbrev pub parts_command : App
 parts_command =
     with_rule (with_rule (with_rule (meshing_command (codes "parts")) alpha_option) most_option) index_option
 
+-- a command line with more commands
+abbrev pub with_commands : App → List App → App
+with_commands line [] = line
+with_commands line (command ∷ commands) = with_commands (with_subcommand line command.top) commands
+
 -- the program: it takes the word of a command, and has the seven; `check` takes no option
 abbrev pub program : App
 program =
-    with_subcommand
-    (with_subcommand
-    (with_subcommand
-    (with_subcommand
-    (with_subcommand
-    (with_subcommand
-    (with_subcommand (on_top (λ top. record top { subcommand_required = true }) (new_app (codes "delaunay")))
-    (command_of (codes "mesh")).top)
-    (command_of (codes "shape")).top)
-    gen_command.top)
-    (meshing_command (codes "steps")).top)
-    parts_command.top)
-    (meshing_command (codes "near")).top)
-    (new_app (codes "check")).top
+    with_commands (on_top (λ top. record top { subcommand_required = true }) (new_app (codes "delaunay")))
+    (command_of (codes "mesh") ∷ command_of (codes "shape") ∷ gen_command ∷ meshing_command (codes "steps")
+    ∷ parts_command ∷ meshing_command (codes "near") ∷ new_app (codes "check") ∷ [])
 
 -- the words of a command line as texts
 abbrev pub texts_of : List (String Global) → List Text
 texts_of words = map string_bytes words
 
 -- the words are the program's name, whatever it is, and these
-abbrev pub AreNameAnd : List Text → List (String Global) → Type 0
-AreNameAnd rest words = (name : Text) × (texts_of words ≡ name ∷ rest)
+abbrev pub Say : List Text → List (String Global) → Type 0
+Say rest words = (name : Text) × (texts_of words ≡ name ∷ rest)
 
--- the words are the program's name and `mesh`
-abbrev pub SayMesh : List (String Global) → Type 0
-SayMesh words = AreNameAnd (codes "mesh" ∷ []) words
+-- the words of a command with workers and a grid, and those of `gen` with a count, a start and these
+abbrev pub meshing_line : Text → ℕ → ℕ → List Text
+meshing_line command workers grid =
+    command ∷ (codes "--workers=" ++ decimal workers) ∷ (codes "--grid=" ++ decimal grid) ∷ []
 
--- the words are the program's name, `mesh` and `--order`
-abbrev pub SayMeshOrder : List (String Global) → Type 0
-SayMeshOrder words = AreNameAnd (codes "mesh" ∷ codes "--order" ∷ []) words
+abbrev pub gen_line : ℕ → ℕ → List Text → List Text
+gen_line count start rest =
+    codes "gen" ∷ (codes "--count=" ++ decimal count) ∷ (codes "--start=" ++ decimal start) ∷ rest
 
--- the words are the program's name and `shape`
-abbrev pub SayShape : List (String Global) → Type 0
-SayShape words = AreNameAnd (codes "shape" ∷ []) words
-
--- the words are the program's name, `shape` and `--order`
-abbrev pub SayShapeOrder : List (String Global) → Type 0
-SayShapeOrder words = AreNameAnd (codes "shape" ∷ codes "--order" ∷ []) words
-
--- the words are the program's name and `steps`
-abbrev pub SaySteps : List (String Global) → Type 0
-SaySteps words = AreNameAnd (codes "steps" ∷ []) words
-
--- the words are the program's name and `parts`
-abbrev pub SayParts : List (String Global) → Type 0
-SayParts words = AreNameAnd (codes "parts" ∷ []) words
-
--- the words are the program's name and `near`
-abbrev pub SayNear : List (String Global) → Type 0
-SayNear words = AreNameAnd (codes "near" ∷ []) words
-
--- the words are the program's name and `check`
-abbrev pub SayCheck : List (String Global) → Type 0
-SayCheck words = AreNameAnd (codes "check" ∷ []) words
-
--- the words are the program's name, `parts`, `--alpha=` with a number, `--most=` with a number and `--off=` with one
-abbrev pub SayPartsAt : ℕ → ℕ → ℕ → List (String Global) → Type 0
-SayPartsAt alpha most index words =
-    AreNameAnd (codes "parts" ∷ (codes "--alpha=" ++ decimal alpha) ∷ (codes "--most=" ++ decimal most)
-    ∷ (codes "--off=" ++ decimal index) ∷ []) words
-
--- the words are the program's name, the name of a command, `--workers=` with a number and `--grid=` with a number
-abbrev pub SayMeshing : Text → ℕ → ℕ → List (String Global) → Type 0
-SayMeshing command workers grid words =
-    AreNameAnd (command ∷ (codes "--workers=" ++ decimal workers) ∷ (codes "--grid=" ++ decimal grid) ∷ []) words
-
--- the words are the program's name, `gen`, `--count=` with a number and `--start=` with a number
-abbrev pub SayGen : ℕ → ℕ → List (String Global) → Type 0
-SayGen count start words =
-    AreNameAnd (codes "gen" ∷ (codes "--count=" ++ decimal count) ∷ (codes "--start=" ++ decimal start) ∷ []) words
-
--- the words are these and `--text`
-abbrev pub SayGenText : ℕ → ℕ → List (String Global) → Type 0
-SayGenText count start words =
-    AreNameAnd (codes "gen" ∷ (codes "--count=" ++ decimal count) ∷ (codes "--start=" ++ decimal start)
-    ∷ codes "--text" ∷ []) words
+-- the words of `parts` with an alpha, a most of parts and the index of one
+abbrev pub parts_line : ℕ → ℕ → ℕ → List Text
+parts_line alpha most index =
+    codes "parts" ∷ (codes "--alpha=" ++ decimal alpha) ∷ (codes "--most=" ++ decimal most)
+    ∷ (codes "--off=" ++ decimal index) ∷ []
 
 -- a flag was given, by the matches of the command
 abbrev pub flag_in : Text → List Row → Bool
@@ -245,7 +177,7 @@ asked_index words = given_of (codes "off") most_index (subcommand_of program (te
 
 -- how many edits the words ask for, and the start of the draws
 unfoldable pub drawn_count : List (String Global) → ℕ
-drawn_count words = number_of (codes "count") 0 most_count (subcommand_of program (texts_of words))
+drawn_count words = number_of (codes "count") 0 most_edits (subcommand_of program (texts_of words))
 
 unfoldable pub drawn_start : List (String Global) → ℕ
 drawn_start words = number_of (codes "start") 0 most_start (subcommand_of program (texts_of words))
@@ -289,21 +221,9 @@ kind_met met = option_map_or (λ found. kind_named found.0) met Reports
 unfoldable pub kind_of_words : List (String Global) → Kind
 kind_of_words words = kind_met (subcommand_of program (texts_of words))
 
--- the report of a file is written
-abbrev pub WritesReport : List (String Global) → Type 0
-WritesReport words = kind_of_words words ≡ Reports
-
--- the least alphas of a file are written
-abbrev pub WritesSteps : List (String Global) → Type 0
-WritesSteps words = kind_of_words words ≡ Steps
-
--- the solid parts of a file are written, or the boundary of one
-abbrev pub WritesParts : List (String Global) → Type 0
-WritesParts words = kind_of_words words ≡ Parts
-
--- the answers to the queries of a file are written
-abbrev pub WritesNear : List (String Global) → Type 0
-WritesNear words = kind_of_words words ≡ Queries
+-- the command of the words is of this kind
+abbrev pub Asks : Kind → List (String Global) → Type 0
+Asks kind words = kind_of_words words ≡ kind
 
 -- the source is read
 abbrev pub ReadsSource : List (String Global) → Type 0
@@ -312,11 +232,3 @@ ReadsSource words = kind_of_words words ≢ Draws
 -- an edit file is read
 abbrev pub ReadsFile : List (String Global) → Type 0
 ReadsFile words = ReadsSource words × (kind_of_words words ≢ Checks)
-
--- the text of a mesh is read, and judged
-abbrev pub ReadsMesh : List (String Global) → Type 0
-ReadsMesh words = kind_of_words words ≡ Checks
-
--- a file is drawn, and the source is not read
-abbrev pub DrawsFile : List (String Global) → Type 0
-DrawsFile words = kind_of_words words ≡ Draws

@@ -10,11 +10,12 @@ ghost use Rattle.command_words.specs.Words.{AreWordsTaken};
 ghost use Rattle.command_words.specs.Stops.{AreRefused};
 ghost use Rattle.command_words.specs.Tasks.{IsMakingOf, IsTask, IsTaskOf};
 ghost use Rattle.command_words.specs.Words.{alpha_option, flag_in as flag_in_of, flag_of, given_in as given_in_of};
-ghost use Rattle.command_words.specs.Words.{grid_option, index_option, most_alpha, most_count, most_grid, most_index};
-ghost use Rattle.command_words.specs.Words.{most_option, most_start, meshing_command, number_option};
+ghost use Rattle.command_words.specs.Words.{grid_option, index_option, most_alpha, most_grid, most_index};
+ghost use Rattle.command_words.specs.Words.{most_option, most_start, meshing_command, count_option, start_option};
 ghost use Rattle.command_words.specs.Words.{number_between as number_between_of, number_in as number_in_of};
 ghost use Rattle.command_words.specs.Words.{number_of as number_of_it, parts_command as parts_command_of};
 ghost use Rattle.command_words.specs.Words.{workers_option};
+ghost use Rattle.edit_files.specs.Generator.{most_edits};
 
 use crate::stop::Stop;
 use crate::task::{Asked, Drawn, Making, Task, Wanted};
@@ -73,7 +74,7 @@ fn command<'a>(alloc: Global, name: &'a str) -> Result<Command<'a>, AllocError>
 
 // The option `--count`, how many edits a drawn file has.
 fn count<'a>(alloc: Global) -> Arg<'a>
-    ensures rule { rule_of result ≡ number_option (codes "count") most_count }
+    ensures rule { rule_of result ≡ count_option }
     ensures local { result.global ≡ false }
 {
     Arg::new(alloc, "count")
@@ -84,7 +85,7 @@ fn count<'a>(alloc: Global) -> Arg<'a>
 
 // The option `--start`, where the draws of a file start.
 fn start<'a>(alloc: Global) -> Arg<'a>
-    ensures rule { rule_of result ≡ number_option (codes "start") most_start }
+    ensures rule { rule_of result ≡ start_option }
     ensures local { result.global ≡ false }
 {
     Arg::new(alloc, "start")

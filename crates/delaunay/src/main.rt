@@ -5,7 +5,7 @@ ghost use Rattle.std.specs.Prelude.{◌≡◌, []};
 ghost use Rattle.std.specs.Process.{exit_status};
 ghost use Rattle.std.specs.Io.KnownBytes.{Appends};
 ghost use Rattle.byte_ends.specs.Ends.{AppendsFront, Rose};
-ghost use Rattle.command_words.specs.Stops.{plain_line};
+ghost use Rattle.command_words.specs.Lines.{plain_line};
 
 use byte_ends::{Sink, StdSink, StdSource, write_all};
 use delaunay_cli::Run;

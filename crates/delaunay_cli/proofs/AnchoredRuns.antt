@@ -17,8 +17,9 @@ use Rattle.delaunay_cli.specs.Queried.{IsQueried}
 use Rattle.command_pages.specs.Run.{IsKept}
 use Rattle.delaunay_cli.specs.Stepped.{IsStepped}
 use Rattle.command_pages.specs.Taken.{file_limits}
-use Rattle.command_words.specs.Words.{WritesNear, WritesParts, WritesSteps, asked_alpha, asked_index, asked_most}
+use Rattle.command_words.specs.Words.{asked_alpha, asked_index, asked_most}
 use Rattle.command_words.specs.Words.{worker_count}
+use Rattle.command_words.specs.Words.{Asks, Parts, Queries, Steps}
 use Rattle.delaunay_cli.proofs.Promised.{of_near, of_one, of_parts, of_steps}
 
 module _ {words : List (String Global)} {left left_after : Option (List ℕ)} {read_failed : Type 0}
@@ -58,36 +59,36 @@ module _ {words : List (String Global)} {left left_after : Option (List ℕ)} {r
   OfBytes P = IfSome left (λ bytes. (file : Content) → IsFile file_limits bytes file → P file)
 
   -- the least alphas
-  pub steps_plainly : WritesSteps words → status ≡ 0 → OfBytes (IsPlainly OfSteps (Appends held holds))
+  pub steps_plainly : Asks Steps words → status ≡ 0 → OfBytes (IsPlainly OfSteps (Appends held holds))
   steps_plainly w z = of_one e (IsPlainly OfSteps (Appends held holds)) (λ file. OfSteps file (replay kept) e.text)
       (λ file k t. plainly OfSteps (Appends held holds) file k t (e.whole (inl z))) ((of_steps e w).made (inl (inl z)))
 
   -- or a front of them
-  pub steps_plainly_front : WritesSteps words → status ≡ 4 → OfBytes (IsPlainly OfSteps (AppendsFront held holds))
+  pub steps_plainly_front : Asks Steps words → status ≡ 4 → OfBytes (IsPlainly OfSteps (AppendsFront held holds))
   steps_plainly_front w z =
       of_one e (IsPlainly OfSteps (AppendsFront held holds)) (λ file. OfSteps file (replay kept) e.text)
       (λ file k t. plainly OfSteps (AppendsFront held holds) file k t (e.front z)) ((of_steps e w).made (inr z))
 
   -- the parts
-  pub parts_plainly : WritesParts words → status ≡ 0 → OfBytes (IsPlainly (OfParts 0) (Appends held holds))
+  pub parts_plainly : Asks Parts words → status ≡ 0 → OfBytes (IsPlainly (OfParts 0) (Appends held holds))
   parts_plainly w z =
       of_one e (IsPlainly (OfParts 0) (Appends held holds)) (λ file. OfParts status file (replay kept) e.text)
       (λ file k t. plainly (OfParts 0) (Appends held holds) file k
       (subst (λ (n : ℕ). OfParts n file (replay kept) e.text) z t) (e.whole (inl z))) ((of_parts e w).made (inl z))
 
   -- or a front of them
-  pub parts_plainly_front : WritesParts words → status ≡ 4 → OfBytes (IsPlainly (OfParts 0) (AppendsFront held holds))
+  pub parts_plainly_front : Asks Parts words → status ≡ 4 → OfBytes (IsPlainly (OfParts 0) (AppendsFront held holds))
   parts_plainly_front w z =
       of_one e (IsPlainly (OfParts 0) (AppendsFront held holds)) (λ file. OfParts 0 file (replay kept) e.text)
       (λ file k t. plainly (OfParts 0) (AppendsFront held holds) file k t (e.front z)) ((of_parts e w).cut z)
 
   -- the answers to the queries
-  pub near_plainly : WritesNear words → status ≡ 0 → OfBytes (IsPlainly OfNear (Appends held holds))
+  pub near_plainly : Asks Queries words → status ≡ 0 → OfBytes (IsPlainly OfNear (Appends held holds))
   near_plainly w z = of_one e (IsPlainly OfNear (Appends held holds)) (λ file. OfNear file (replay kept) e.text)
       (λ file k t. plainly OfNear (Appends held holds) file k t (e.whole (inl z))) ((of_near e w).made (inl (inl z)))
 
   -- or a front of them
-  pub near_plainly_front : WritesNear words → status ≡ 4 → OfBytes (IsPlainly OfNear (AppendsFront held holds))
+  pub near_plainly_front : Asks Queries words → status ≡ 4 → OfBytes (IsPlainly OfNear (AppendsFront held holds))
   near_plainly_front w z =
       of_one e (IsPlainly OfNear (AppendsFront held holds)) (λ file. OfNear file (replay kept) e.text)
       (λ file k t. plainly OfNear (AppendsFront held holds) file k t (e.front z)) ((of_near e w).made (inr z))

@@ -20,7 +20,8 @@ use Rattle.command_pages.specs.Checked.{status_of_verdict}
 use Rattle.delaunay_cli.specs.Ends.{Ends}
 use Rattle.command_pages.specs.Run.{mesh_limit}
 use Rattle.command_pages.specs.Statuses.{IsEarly, IsWrittenWhole}
-use Rattle.command_words.specs.Words.{ReadsMesh, AreWordsTaken}
+use Rattle.command_words.specs.Words.{AreWordsTaken}
+use Rattle.command_words.specs.Words.{Asks, Checks}
 use Rattle.command_pages.proofs.Cited.{cells_of}
 use Rattle.delaunay_cli.proofs.Promised.{of_check}
 
@@ -52,7 +53,7 @@ told_of status text bytes m mesh is =
 
 module _ {words : List (String Global)} {left left_after : Option (List ℕ)} {read_failed : Type 0}
     {held holds : Option (List ℕ)} {write_failed : Type 0} {status : ℕ} {kept : List Entry}
-    (e : Ends words left left_after read_failed held holds write_failed status kept) (w : ReadsMesh words) where
+    (e : Ends words left left_after read_failed held holds write_failed status kept) (w : Asks Checks words) where
   -- what the statuses 7 and 5 tell of the bytes
   pub of_mesh_bytes : (P : List ℕ → Type 0) → ((bytes : List ℕ) → IsMeshVerdict status bytes → P bytes) →
       (IsEarly status → ⊥) → IfSome left P

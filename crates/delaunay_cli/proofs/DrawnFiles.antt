@@ -21,7 +21,8 @@ use Rattle.command_words.specs.declared.task.Drawn.{Drawn}
 use Rattle.command_words.specs.declared.task.Making.{Making}
 use Rattle.delaunay_cli.specs.Drawn.{IsDrawn, IsKeptOfDrawn, drawn_file}
 use Rattle.command_pages.specs.Run.{IsKept}
-use Rattle.command_words.specs.Words.{DrawsFile, asks_text, drawn_count, drawn_start, worker_count}
+use Rattle.command_words.specs.Words.{asks_text, drawn_count, drawn_start, worker_count}
+use Rattle.command_words.specs.Words.{Asks, Draws}
 
 -- a drawn file of at most 262,140 edits has fewer than 2^32 lines
 pub drawn_lines : (f : Content) (count start : ℕ) → count ≤ 262140 → f ≡ generated count start →
@@ -58,7 +59,7 @@ wanting (Err s) stop a e = a ∙ e
 
 -- what is made of the file that was read of the words is that of the file that they ask for
 pub drawn_asked : (making : Making) (drawn : Drawn) (words : List (String Global)) (h : List Entry) (text : List ℕ) →
-    DrawsFile words × (drawn.count ≡ drawn_count words) × (drawn.start ≡ drawn_start words) × (drawn.text ≡ asks_text
+    Asks Draws words × (drawn.count ≡ drawn_count words) × (drawn.start ≡ drawn_start words) × (drawn.text ≡ asks_text
     words) × (making.workers ≡ worker_count words) →
     IsDrawn drawn.text making.workers (generated drawn.count drawn.start) h text →
     IsDrawn (asks_text words) (worker_count words) (drawn_file words) h text

@@ -14,7 +14,8 @@ use Rattle.delaunay_cli.specs.Ends.{Ends, IsMadeOfWords, IsPutOut, IsToldLine, I
 use Rattle.command_pages.specs.Page.{IsFitToWrite, text_of_page}
 use Rattle.command_pages.specs.Run.{ReadsTo}
 use Rattle.command_pages.specs.Statuses.{HasText, IsWrittenWhole}
-use Rattle.command_words.specs.Stops.{plain_line, line_of_stop, line_of_end, status_of, status_of_end, status_of_made}
+use Rattle.command_words.specs.Stops.{line_of_stop, line_of_end, status_of, status_of_end, status_of_made}
+use Rattle.command_words.specs.Lines.{plain_line}
 use Rattle.command_words.specs.Words.{ReadsSource, AreWordsTaken, kind_of_words}
 use Rattle.command_pages.proofs.Cited.{reads_front}
 use Rattle.delaunay_cli.proofs.Carried.{IsCarried}

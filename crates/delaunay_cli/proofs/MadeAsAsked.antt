@@ -14,10 +14,11 @@ use Rattle.command_words.specs.declared.task.Wanted.{Wanted}
 use Rattle.command_words.specs.declared.task.Task.TheVariants.{Report, Step, Part, Query, Draw}
 use Rattle.command_words.specs.Stops.{status_of_end}
 use Rattle.command_words.specs.Tasks.{IsTask}
-use Rattle.command_words.specs.Words.{Checks, Draws, Kind, Parts, Queries, ReadsFile, ReadsMesh, ReadsSource, Reports}
-use Rattle.command_words.specs.Words.{Steps, WritesNear, WritesParts, WritesReport, WritesSteps, asked_alpha}
+use Rattle.command_words.specs.Words.{Checks, Draws, Kind, Parts, Queries, ReadsFile, ReadsSource, Reports}
+use Rattle.command_words.specs.Words.{Steps, asked_alpha}
 use Rattle.command_words.specs.Words.{asked_index, asked_most, asks_order, asks_shape, AreWordsTaken}
 use Rattle.command_words.specs.Words.{kind_of_words, worker_count}
+use Rattle.command_words.specs.Words.{Asks}
 use Rattle.command_words.proofs.Cited.{draw_task, part_task, query_task, report_task, step_task}
 use Rattle.command_pages.specs.declared.made.Made.{Made}
 use Rattle.command_pages.specs.Checked.{IsChecked, TellsVerdict}
@@ -43,14 +44,14 @@ reads_of words kind n m w = (λ e. n (sym w ∙ e), λ e. m (sym w ∙ e))
 
 -- a file is read for a report, for the least alphas, for the parts, or for the answers to its queries
 pub reading : (words : List (String Global)) →
-    WritesReport words ⊎ WritesSteps words ⊎ WritesParts words ⊎ WritesNear words → ReadsFile words
+    Asks Reports words ⊎ Asks Steps words ⊎ Asks Parts words ⊎ Asks Queries words → ReadsFile words
 reading words (inl w) = reads_of words Reports (λ e. cc) (λ e. cc) w
 reading words (inr (inl w)) = reads_of words Steps (λ e. cc) (λ e. cc) w
 reading words (inr (inr (inl w))) = reads_of words Parts (λ e. cc) (λ e. cc) w
 reading words (inr (inr (inr w))) = reads_of words Queries (λ e. cc) (λ e. cc) w
 
 -- and for a verdict the source is
-pub mesh_reading : (words : List (String Global)) → ReadsMesh words → ReadsSource words
+pub mesh_reading : (words : List (String Global)) → Asks Checks words → ReadsSource words
 mesh_reading words w e = let z : Checks ≡ Draws = sym w ∙ e in cc
 
 -- of a command of the words that is of this kind

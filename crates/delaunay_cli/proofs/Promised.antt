@@ -35,10 +35,11 @@ use Rattle.delaunay_cli.specs.Reported.{IsReported, ReportEnds}
 use Rattle.delaunay_cli.specs.Stepped.{IsStepped, IsSteppedFile, StepEnds}
 use Rattle.command_pages.specs.Run.{IsKept, IsSolidFile, Writes, WritesFront, input_limit}
 use Rattle.command_pages.specs.Statuses.{HasText, IsEarly, IsWrittenWhole}
-use Rattle.command_words.specs.Words.{Checks, Draws, DrawsFile, Kind, Parts, Queries, ReadsFile, ReadsMesh, Reports}
-use Rattle.command_words.specs.Words.{Steps, WritesNear, WritesParts, WritesReport, WritesSteps, asked_alpha}
+use Rattle.command_words.specs.Words.{Checks, Draws, Kind, Parts, Queries, ReadsFile, Reports}
+use Rattle.command_words.specs.Words.{Steps, asked_alpha}
 use Rattle.command_words.specs.Words.{asked_index, asked_most, asks_order, asks_shape, asks_text, worker_count}
 use Rattle.command_words.specs.Words.{AreWordsTaken, kind_of_words}
+use Rattle.command_words.specs.Words.{Asks}
 use Rattle.delaunay_cli.proofs.CommandPromises.{of_bytes}
 use Rattle.delaunay_cli.proofs.MadeAsAsked.{reading}
 use Rattle.delaunay_cli.proofs.TextStatuses.{has_text, stopped_only}
@@ -176,7 +177,7 @@ module _ {words : List (String Global)} {left left_after : Option (List ℕ)} {r
     {held holds : Option (List ℕ)} {write_failed : Type 0} {status : ℕ} {kept : List Entry}
     (e : Ends words left left_after read_failed held holds write_failed status kept) where
   -- how high the status is, and of what command
-  pub highest : (status ≤ 10) × ((status ≡ 8) ⊎ (status ≡ 9) → WritesParts words) × (status ≡ 10 → ReadsMesh words)
+  pub highest : (status ≤ 10) × ((status ≡ 8) ⊎ (status ≡ 9) → Asks Parts words) × (status ≡ 10 → Asks Checks words)
   unfolding IsUpTo
   highest = up_to_10 (kind_of_words words) words left status kept e.text e.promise
 
@@ -189,29 +190,29 @@ module _ {words : List (String Global)} {left left_after : Option (List ℕ)} {r
   of_kind w = subst (λ (kind : Kind). (command_of kind).ends words left status kept e.text) w e.promise
 
   -- what is promised of a report, of the least alphas, of parts, of queries, of a mesh, and of a drawn file
-  pub of_report : WritesReport words → ReportEnds (worker_count words) (asks_shape words) (asks_order words) left status
+  pub of_report : Asks Reports words → ReportEnds (worker_count words) (asks_shape words) (asks_order words) left status
       kept e.text
   of_report w = of_kind w
 
   -- of the least alphas
-  pub of_steps : WritesSteps words → StepEnds (worker_count words) left status kept e.text
+  pub of_steps : Asks Steps words → StepEnds (worker_count words) left status kept e.text
   of_steps w = of_kind w
 
   -- of parts
-  pub of_parts : WritesParts words → PartEnds (worker_count words) (asked_alpha words) (asked_most words)
+  pub of_parts : Asks Parts words → PartEnds (worker_count words) (asked_alpha words) (asked_most words)
       (asked_index words) left status kept e.text
   of_parts w = of_kind w
 
   -- of queries
-  pub of_near : WritesNear words → QueryEnds (worker_count words) left status kept e.text
+  pub of_near : Asks Queries words → QueryEnds (worker_count words) left status kept e.text
   of_near w = of_kind w
 
   -- of a mesh
-  pub of_check : ReadsMesh words → CheckEnds left status kept e.text
+  pub of_check : Asks Checks words → CheckEnds left status kept e.text
   of_check w = of_kind w
 
   -- and of a drawn file
-  pub of_drawn : DrawsFile words → DrawEnds (asks_text words) (worker_count words) (drawn_file words) status kept e.text
+  pub of_drawn : Asks Draws words → DrawEnds (asks_text words) (worker_count words) (drawn_file words) status kept e.text
   of_drawn d = of_kind d
 
   -- what the statuses tell of the bytes
@@ -253,7 +254,7 @@ module _ {words : List (String Global)} {left left_after : Option (List ℕ)} {r
   -- and what is written of it
   pub of_file : (P : Content → Type 0) → ((file : Content) → IsKept file (worker_count words) kept →
       e.text ≡ text_of_history (asks_shape words) (asks_order words) file kept → P file)
-      → WritesReport words → (status ≡ 0) ⊎ (status ≡ 4) → IfSome left
+      → Asks Reports words → (status ≡ 0) ⊎ (status ≡ 4) → IfSome left
       (λ bytes. (file : Content) → IsFile file_limits bytes file → P file)
   of_file P f w s = of_one P (λ file. e.text ≡ text_of_history (asks_shape words) (asks_order words) file kept) f
       ((of_report w).made (has_text status s))
@@ -268,7 +269,7 @@ module _ {words : List (String Global)} {left left_after : Option (List ℕ)} {r
       (kept_is_plain (asks_shape words) file (worker_count words) kept anchored k.keeps e.legal)
 
   -- what is written of a drawn file goes by the words alone
-  pub plain_of_drawn : DrawsFile words → (status ≡ 0) ⊎ (status ≡ 4) → e.text ≡ plain_drawn words
+  pub plain_of_drawn : Asks Draws words → (status ≡ 0) ⊎ (status ≡ 4) → e.text ≡ plain_drawn words
   plain_of_drawn d s = let m = (of_drawn d).made (has_text status s) in m.1 ∙ drawn_is_plain words (worker_count words)
       kept e.legal m.0
 
@@ -304,7 +305,7 @@ module _ {words : List (String Global)} {left left_after : Option (List ℕ)} {r
           ]
 
   -- and of a command other than `parts` with 0 or 1
-  pub completes_plainly : AreWordsTaken words → WritesReport words ⊎ WritesSteps words ⊎ WritesNear words →
+  pub completes_plainly : AreWordsTaken words → Asks Reports words ⊎ Asks Steps words ⊎ Asks Queries words →
       IfSome left (λ bytes. IsSolidFile bytes → (read_failed → ⊥) → (write_failed → ⊥) → (status ≡ 0) ⊎ (status ≡ 1))
   completes_plainly w k =
       let few : status ≤ 7 = elim k [
@@ -336,7 +337,7 @@ module _ {words : List (String Global)} {left left_after : Option (List ℕ)} {r
       IsPartedFile (worker_count words) (asked_alpha words) (asked_most words) (asked_index words) n kept e.text bytes
 
   -- what follows of parts that are told follows of the bytes that are read
-  of_told : (P : Type 0) → (Told status → P) → (status ≡ 4 → Told 0 → P) → WritesParts words → HasText status →
+  of_told : (P : Type 0) → (Told status → P) → (status ≡ 4 → Told 0 → P) → Asks Parts words → HasText status →
       IfSome left (λ bytes. P)
   of_told P f g w s = elim s [
     | inl whole ↦ if_some (ToldFile status) (λ bytes. P) left (λ bytes m. f m.text_is) ((of_parts w).made whole)
@@ -344,7 +345,7 @@ module _ {words : List (String Global)} {left left_after : Option (List ℕ)} {r
   ]
 
   -- 9 comes exactly where there is no alpha for the most of parts
-  pub no_alpha : WritesParts words → HasText status →
+  pub no_alpha : Asks Parts words → HasText status →
       IfSome left (λ bytes. status ≡ 9 ↔ HasNoAlpha (replay kept) (asked_most words))
   no_alpha = of_told (status ≡ 9 ↔ HasNoAlpha (replay kept) (asked_most words))
       (λ t. nine_is (replay kept) (asked_alpha words) (asked_most words) (asked_index words) status e.text t)
@@ -355,7 +356,7 @@ module _ {words : List (String Global)} {left left_after : Option (List ℕ)} {r
       ))
 
   -- 8 comes exactly where there is no part of the index
-  pub no_part : (i : ℕ) → WritesParts words → HasText status → asked_index words ≡ Some i →
+  pub no_part : (i : ℕ) → Asks Parts words → HasText status → asked_index words ≡ Some i →
       IfSome left (λ bytes. status ≡ 8 ↔ HasNoPart (replay kept) (asked_alpha words) (asked_most words) i)
   no_part i w s o = of_told (status ≡ 8 ↔ HasNoPart (replay kept) (asked_alpha words) (asked_most words) i)
       (λ t. eight_is (replay kept) (asked_alpha words) (asked_most words) i status e.text (at status t))
@@ -369,14 +370,14 @@ module _ {words : List (String Global)} {left left_after : Option (List ℕ)} {r
       at n t = subst (λ (v : Option ℕ). IsParted (replay kept) (asked_alpha words) (asked_most words) v n e.text) o t
 
   -- and without an index it never comes
-  pub no_index : WritesParts words → HasText status → asked_index words ≡ None → IfSome left (λ bytes. status ≢ 8)
+  pub no_index : Asks Parts words → HasText status → asked_index words ≡ None → IfSome left (λ bytes. status ≢ 8)
   no_index w s o = of_told (status ≢ 8)
       (λ t. never_eight (replay kept) (asked_alpha words) (asked_most words) status e.text
       (subst (λ (v : Option ℕ). IsParted (replay kept) (asked_alpha words) (asked_most words) v status e.text) o t))
       (λ four t n. omega (arith, four, n)) w s
 
   -- and what is written of it
-  pub parts_written : WritesParts words → status ≡ 0 →
+  pub parts_written : Asks Parts words → status ≡ 0 →
       IfSome left (λ bytes. (text : List ℕ) × IsParted (replay kept) (asked_alpha words) (asked_most words)
       (asked_index words) 0 text × Appends held holds text)
   parts_written w z = if_some (ToldFile status)
@@ -385,7 +386,7 @@ module _ {words : List (String Global)} {left left_after : Option (List ℕ)} {r
       (λ bytes m. (e.text, subst Told z m.text_is, e.whole (inl z))) ((of_parts w).made (inl z))
 
   -- or a front of it
-  pub parts_front : WritesParts words → status ≡ 4 →
+  pub parts_front : Asks Parts words → status ≡ 4 →
       IfSome left (λ bytes. (text : List ℕ) × IsParted (replay kept) (asked_alpha words) (asked_most words)
       (asked_index words) 0 text × AppendsFront held holds text)
   parts_front w z = if_some (ToldFile 0)
@@ -394,27 +395,27 @@ module _ {words : List (String Global)} {left left_after : Option (List ℕ)} {r
       (λ bytes m. (e.text, m.text_is, e.front z)) ((of_parts w).cut z)
 
   -- what is written of the least alphas
-  pub steps_written : WritesSteps words → status ≡ 0 →
+  pub steps_written : Asks Steps words → status ≡ 0 →
       IfSome left (λ bytes. (text : List ℕ) × IsStepped (replay kept) text × Appends held holds text)
   steps_written w z = if_some (IsSteppedFile (worker_count words) kept e.text)
       (λ bytes. (text : List ℕ) × IsStepped (replay kept) text × Appends held holds text) left
       (λ bytes m. (e.text, m.text_is, e.whole (inl z))) ((of_steps w).made (inl (inl z)))
 
   -- or a front of it
-  pub steps_front : WritesSteps words → status ≡ 4 →
+  pub steps_front : Asks Steps words → status ≡ 4 →
       IfSome left (λ bytes. (text : List ℕ) × IsStepped (replay kept) text × AppendsFront held holds text)
   steps_front w z = if_some (IsSteppedFile (worker_count words) kept e.text)
       (λ bytes. (text : List ℕ) × IsStepped (replay kept) text × AppendsFront held holds text) left
       (λ bytes m. (e.text, m.text_is, e.front z)) ((of_steps w).made (inr z))
 
   -- what is written of the queries of the file that the bytes are
-  pub near_written : WritesNear words → status ≡ 0 → IfSome left
+  pub near_written : Asks Queries words → status ≡ 0 → IfSome left
       (λ bytes. (file : Content) → IsFile file_limits bytes file → IsAnsweredIn (Appends held holds) file)
   near_written w z = of_one (IsAnsweredIn (Appends held holds)) (λ file. IsQueried (replay kept) file.queries e.text)
       (λ file k q. answers_of (Appends held holds) file q (e.whole (inl z))) ((of_near w).made (inl (inl z)))
 
   -- or a front of it
-  pub near_front : WritesNear words → status ≡ 4 → IfSome left
+  pub near_front : Asks Queries words → status ≡ 4 → IfSome left
       (λ bytes. (file : Content) → IsFile file_limits bytes file → IsAnsweredIn (AppendsFront held holds) file)
   near_front w z = of_one (IsAnsweredIn (AppendsFront held holds)) (λ file. IsQueried (replay kept) file.queries e.text)
       (λ file k q. answers_of (AppendsFront held holds) file q (e.front z)) ((of_near w).made (inr z))
@@ -449,7 +450,7 @@ module _ {words : List (String Global)} {left left_after : Option (List ℕ)} {r
       kept_by (Some x) (Some y) text n w = w ∙ ap (λ (l : List ℕ). x ++ l) n ∙ append-nil x
 
   -- what is written of the file that the bytes are
-  pub written : WritesReport words → status ≡ 0 → IfSome left (λ bytes. Writes (asks_shape words) (asks_order words)
+  pub written : Asks Reports words → status ≡ 0 → IfSome left (λ bytes. Writes (asks_shape words) (asks_order words)
       bytes held holds kept)
   written w s =
       if_some (IsReported (worker_count words) (asks_shape words) (asks_order words) kept e.text)
@@ -458,7 +459,7 @@ module _ {words : List (String Global)} {left left_after : Option (List ℕ)} {r
       ((of_report w).made (inl (inl s)))
 
   -- or a front of it
-  pub written_front : WritesReport words → status ≡ 4 → IfSome left
+  pub written_front : Asks Reports words → status ≡ 4 → IfSome left
       (λ bytes. WritesFront (asks_shape words) (asks_order words) bytes held holds kept)
   written_front w s =
       if_some (IsReported (worker_count words) (asks_shape words) (asks_order words) kept e.text)
@@ -467,7 +468,7 @@ module _ {words : List (String Global)} {left left_after : Option (List ℕ)} {r
       ((of_report w).made (inr s))
 
   -- where the text of a drawn file is asked for, no history is kept
-  pub drawn_none : DrawsFile words → asks_text words ≡ true → kept ≡ []
+  pub drawn_none : Asks Draws words → asks_text words ≡ true → kept ≡ []
   drawn_none d t =
       let none : (status ≡ 0) ⊎ (status ≡ 4) → kept ≡ [] =
       λ s. subst (λ (b : Bool). IsKeptOfDrawn b (drawn_file words) (worker_count words) kept) t
@@ -482,7 +483,7 @@ module _ {words : List (String Global)} {left left_after : Option (List ℕ)} {r
       ]
 
   -- a drawn file ends a run with status 0 or 1
-  pub drawn_completes : AreWordsTaken words → DrawsFile words → (write_failed → ⊥) → (status ≡ 0) ⊎ (status ≡ 1)
+  pub drawn_completes : AreWordsTaken words → Asks Draws words → (write_failed → ⊥) → (status ≡ 0) ⊎ (status ≡ 1)
   drawn_completes w d nw =
       elim (cases_eq status 1) [
         | inl k ↦ inr k

@@ -3,7 +3,8 @@ use Rattle.std.specs.Prelude.{Option, None, Some}
 use Rattle.std.proofs.Common.{◌≡◌, ◌≢◌, ◌⊎◌, inl, inr, refl, sym, ◌∙◌, ℕ, ◌<◌, ◌≤◌, arith}
 use Rattle.command_words.specs.declared.stop.Stop.{Stop}
 use Rattle.command_words.specs.declared.stop.Stop.TheVariants.{NoPart, NoAlpha, BadMesh}
-use Rattle.command_words.specs.Stops.{plain_line, IsLate, line_of_end, status_of_end}
+use Rattle.command_words.specs.Stops.{IsLate, line_of_end, status_of_end}
+use Rattle.command_words.specs.Lines.{plain_line}
 use Rattle.command_pages.specs.Statuses.{HasText, IsWrittenWhole}
 
 -- a status with a text is 0, 4 or above 7

@@ -7,7 +7,7 @@ use Rattle.edit_history.specs.declared.history.Entry.{Entry}
 use Rattle.edit_history.specs.Histories.{IsLegal}
 use Rattle.command_words.specs.declared.stop.Stop.{Stop}
 use Rattle.command_words.specs.declared.stop.Stop.TheVariants.{Memory, Usage, WriteFault}
-use Rattle.command_words.specs.Stops.{plain_line}
+use Rattle.command_words.specs.Lines.{plain_line}
 use Rattle.command_words.specs.Words.{Kind, ReadsSource, AreWordsTaken}
 use Rattle.command_pages.specs.Run.{ReadsTo}
 use Rattle.command_pages.specs.Statuses.{HasText, IsLineOf, IsWrittenWhole}

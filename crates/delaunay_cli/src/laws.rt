@@ -1,7 +1,7 @@
 //! The laws of the words and of the end of a run. Each function does nothing, and its contract is a law.
 
 ghost use Rattle.std.specs.Prelude.{◌≡◌, ◌≢◌, ◌⊎◌, ◌↔◌, ◌≤◌, ◌<◌, ℕ, Option, None, Some, List, [], String, false, true};
-ghost use Rattle.std.specs.Prelude.{length, codes, IfSome};
+ghost use Rattle.std.specs.Prelude.{length, codes, IfSome, ◌∷◌};
 ghost use Rattle.std.specs.Io.KnownBytes.{Appends, Keeps, IsAtEnd};
 ghost use Rattle.std.specs.declared.alloc.Global.{Global};
 ghost use Rattle.byte_ends.specs.Ends.{AppendsFront, Rose};
@@ -29,12 +29,12 @@ ghost use Rattle.command_pages.specs.Run.{HasFault, IsSolidFile, history_of, inp
 ghost use Rattle.command_pages.specs.Statuses.{HasText, IsEarly, IsWrittenWhole};
 ghost use Rattle.delaunay_cli.specs.Stepped.{IsStepped};
 ghost use Rattle.plain_laws.specs.Plain.{IsAnchored};
-ghost use Rattle.command_words.specs.Words.{SayCheck, SayGen, SayGenText, SayMesh, SayMeshOrder, SayMeshing, SayNear};
-ghost use Rattle.command_words.specs.Words.{SayParts, SayPartsAt, SayShape, SayShapeOrder, SaySteps, DrawsFile};
-ghost use Rattle.command_words.specs.Words.{ReadsFile, ReadsMesh, ReadsSource, WritesNear, WritesParts, WritesReport};
-ghost use Rattle.command_words.specs.Words.{WritesSteps, asked_alpha, asked_index, asked_most, asks_order, asks_shape};
-ghost use Rattle.command_words.specs.Words.{asks_text, drawn_count, drawn_start, grid_size, most_alpha, most_count};
+ghost use Rattle.command_words.specs.Words.{ReadsFile, ReadsSource};
+ghost use Rattle.command_words.specs.Words.{asked_alpha, asked_index, asked_most, asks_order, asks_shape};
+ghost use Rattle.command_words.specs.Words.{asks_text, drawn_count, drawn_start, grid_size, most_alpha};
 ghost use Rattle.command_words.specs.Words.{most_index, most_start, most_workers, worker_count, AreWordsTaken};
+ghost use Rattle.command_words.specs.Words.{Asks, Checks, Draws, Parts, Queries, Reports, Say, Steps, gen_line, meshing_line, parts_line};
+ghost use Rattle.edit_files.specs.Generator.{most_edits};
 
 /// The words `mesh` and `shape` alone are taken, and ask for no order block; with `--order` they ask for it. Both write
 /// the report of a file, by one worker over a grid of 4, as `steps` writes its least alphas, `parts` its parts at alpha
@@ -44,57 +44,65 @@ ghost use Rattle.command_words.specs.Words.{most_index, most_start, most_workers
 /// The words `gen`, `--count=N` and `--start=M` are taken for every count and start, and with `--text` ask for the
 /// file's text.
 pub fn words_are_taken()
-    ensures mesh { (words : List (String Global)) → SayMesh words → AreWordsTaken words × (asks_shape words ≡ false)
-        × (asks_order words ≡ false) }
-    ensures mesh_order { (words : List (String Global)) → SayMeshOrder words
+    ensures mesh { (words : List (String Global)) → Say (codes "mesh" ∷ []) words
+        → AreWordsTaken words × (asks_shape words ≡ false) × (asks_order words ≡ false) }
+    ensures mesh_order { (words : List (String Global)) → Say (codes "mesh" ∷ codes "--order" ∷ []) words
         → AreWordsTaken words × (asks_shape words ≡ false) × (asks_order words ≡ true) }
-    ensures shape { (words : List (String Global)) → SayShape words → AreWordsTaken words × (asks_shape words ≡ true)
-        × (asks_order words ≡ false) }
-    ensures shape_order { (words : List (String Global)) → SayShapeOrder words
+    ensures shape { (words : List (String Global)) → Say (codes "shape" ∷ []) words
+        → AreWordsTaken words × (asks_shape words ≡ true) × (asks_order words ≡ false) }
+    ensures shape_order { (words : List (String Global)) → Say (codes "shape" ∷ codes "--order" ∷ []) words
         → AreWordsTaken words × (asks_shape words ≡ true) × (asks_order words ≡ true) }
     ensures one_worker { (words : List (String Global)) →
-        SayMesh words ⊎ SayMeshOrder words ⊎ SayShape words ⊎ SayShapeOrder words
+        Say (codes "mesh" ∷ []) words ⊎ Say (codes "mesh" ∷ codes "--order" ∷ []) words
+        ⊎ Say (codes "shape" ∷ []) words ⊎ Say (codes "shape" ∷ codes "--order" ∷ []) words
         → (worker_count words ≡ 1) × (grid_size words ≡ 4) }
     ensures report { (words : List (String Global)) →
-        SayMesh words ⊎ SayMeshOrder words ⊎ SayShape words ⊎ SayShapeOrder words → WritesReport words }
-    ensures steps { (words : List (String Global)) → SaySteps words → AreWordsTaken words × WritesSteps words
+        Say (codes "mesh" ∷ []) words ⊎ Say (codes "mesh" ∷ codes "--order" ∷ []) words
+        ⊎ Say (codes "shape" ∷ []) words ⊎ Say (codes "shape" ∷ codes "--order" ∷ []) words
+        → Asks Reports words }
+    ensures steps { (words : List (String Global)) → Say (codes "steps" ∷ []) words
+        → AreWordsTaken words × Asks Steps words
         × (worker_count words ≡ 1) × (grid_size words ≡ 4) }
-    ensures parts { (words : List (String Global)) → SayParts words → AreWordsTaken words × WritesParts words
+    ensures parts { (words : List (String Global)) → Say (codes "parts" ∷ []) words
+        → AreWordsTaken words × Asks Parts words
         × (worker_count words ≡ 1) × (grid_size words ≡ 4) × (asked_alpha words ≡ 0) × (asked_most words ≡ 0)
         × (asked_index words ≡ None) }
-    ensures near { (words : List (String Global)) → SayNear words → AreWordsTaken words × WritesNear words
+    ensures near { (words : List (String Global)) → Say (codes "near" ∷ []) words
+        → AreWordsTaken words × Asks Queries words
         × (worker_count words ≡ 1) × (grid_size words ≡ 4) }
-    ensures check { (words : List (String Global)) → SayCheck words → AreWordsTaken words × ReadsMesh words }
+    ensures check { (words : List (String Global)) → Say (codes "check" ∷ []) words
+        → AreWordsTaken words × Asks Checks words }
     ensures parts_at { (words : List (String Global)) (alpha most index : ℕ) → alpha ≤ most_alpha
-        → most ≤ most_index → index ≤ most_index → SayPartsAt alpha most index words
-        → AreWordsTaken words × WritesParts words × (worker_count words ≡ 1) × (grid_size words ≡ 4)
+        → most ≤ most_index → index ≤ most_index → Say (parts_line alpha most index) words
+        → AreWordsTaken words × Asks Parts words × (worker_count words ≡ 1) × (grid_size words ≡ 4)
         × (asked_alpha words ≡ alpha) × (asked_most words ≡ most) × (asked_index words ≡ Some index) }
     ensures mesh_workers { (words : List (String Global)) (workers grid : ℕ) → 0 < workers → workers ≤ most_workers
-        → is_grid_size grid ≡ true → SayMeshing (codes "mesh") workers grid words → AreWordsTaken words
+        → is_grid_size grid ≡ true → Say (meshing_line (codes "mesh") workers grid) words → AreWordsTaken words
         × (worker_count words ≡ workers) × (grid_size words ≡ grid) × (asks_shape words ≡ false)
-        × WritesReport words }
+        × Asks Reports words }
     ensures shape_workers { (words : List (String Global)) (workers grid : ℕ) → 0 < workers → workers ≤ most_workers
-        → is_grid_size grid ≡ true → SayMeshing (codes "shape") workers grid words → AreWordsTaken words
+        → is_grid_size grid ≡ true → Say (meshing_line (codes "shape") workers grid) words → AreWordsTaken words
         × (worker_count words ≡ workers) × (grid_size words ≡ grid) × (asks_shape words ≡ true)
-        × WritesReport words }
+        × Asks Reports words }
     ensures steps_workers { (words : List (String Global)) (workers grid : ℕ) → 0 < workers → workers ≤ most_workers
-        → is_grid_size grid ≡ true → SayMeshing (codes "steps") workers grid words → AreWordsTaken words
-        × (worker_count words ≡ workers) × (grid_size words ≡ grid) × WritesSteps words }
+        → is_grid_size grid ≡ true → Say (meshing_line (codes "steps") workers grid) words → AreWordsTaken words
+        × (worker_count words ≡ workers) × (grid_size words ≡ grid) × Asks Steps words }
     ensures parts_workers { (words : List (String Global)) (workers grid : ℕ) → 0 < workers → workers ≤ most_workers
-        → is_grid_size grid ≡ true → SayMeshing (codes "parts") workers grid words → AreWordsTaken words
-        × (worker_count words ≡ workers) × (grid_size words ≡ grid) × WritesParts words }
+        → is_grid_size grid ≡ true → Say (meshing_line (codes "parts") workers grid) words → AreWordsTaken words
+        × (worker_count words ≡ workers) × (grid_size words ≡ grid) × Asks Parts words }
     ensures near_workers { (words : List (String Global)) (workers grid : ℕ) → 0 < workers → workers ≤ most_workers
-        → is_grid_size grid ≡ true → SayMeshing (codes "near") workers grid words → AreWordsTaken words
-        × (worker_count words ≡ workers) × (grid_size words ≡ grid) × WritesNear words }
-    ensures generator { (words : List (String Global)) (count start : ℕ) → count ≤ most_count → start ≤ most_start
-        → SayGen count start words → AreWordsTaken words × DrawsFile words × (drawn_count words ≡ count)
+        → is_grid_size grid ≡ true → Say (meshing_line (codes "near") workers grid) words → AreWordsTaken words
+        × (worker_count words ≡ workers) × (grid_size words ≡ grid) × Asks Queries words }
+    ensures generator { (words : List (String Global)) (count start : ℕ) → count ≤ most_edits → start ≤ most_start
+        → Say (gen_line count start []) words → AreWordsTaken words × Asks Draws words × (drawn_count words ≡ count)
         × (drawn_start words ≡ start) × (asks_text words ≡ false) }
-    ensures generator_text { (words : List (String Global)) (count start : ℕ) → count ≤ most_count
-        → start ≤ most_start → SayGenText count start words → AreWordsTaken words × DrawsFile words
-        × (drawn_count words ≡ count) × (drawn_start words ≡ start) × (asks_text words ≡ true) }
+    ensures generator_text { (words : List (String Global)) (count start : ℕ) → count ≤ most_edits
+        → start ≤ most_start → Say (gen_line count start (codes "--text" ∷ [])) words
+        → AreWordsTaken words × Asks Draws words × (drawn_count words ≡ count) × (drawn_start words ≡ start)
+        × (asks_text words ≡ true) }
     ensures read { (words : List (String Global))
-        → WritesReport words ⊎ WritesSteps words ⊎ WritesParts words ⊎ WritesNear words → ReadsFile words }
-    ensures read_mesh { (words : List (String Global)) → ReadsMesh words → ReadsSource words }
+        → Asks Reports words ⊎ Asks Steps words ⊎ Asks Parts words ⊎ Asks Queries words → ReadsFile words }
+    ensures read_mesh { (words : List (String Global)) → Asks Checks words → ReadsSource words }
 {}
 
 /// No status above 10 comes, 8 and 9 only of `parts`, and 10 only of `check`. On all but 0, 4 and 10 nothing is
@@ -102,8 +110,8 @@ pub fn words_are_taken()
 /// end.
 pub fn run_by_status()
     ensures statuses { (r : ARun) → r.status ≤ 10 }
-    ensures of_parts { (r : ARun) → (r.status ≡ 8) ⊎ (r.status ≡ 9) → WritesParts r.words }
-    ensures of_check { (r : ARun) → r.status ≡ 10 → ReadsMesh r.words }
+    ensures of_parts { (r : ARun) → (r.status ≡ 8) ⊎ (r.status ≡ 9) → Asks Parts r.words }
+    ensures of_check { (r : ARun) → r.status ≡ 10 → Asks Checks r.words }
     ensures none_kept { (r : ARun) → r.status ≢ 0 → r.status ≢ 4 → r.status ≢ 8 → r.status ≢ 9 → r.kept ≡ [] }
     ensures nothing { (r : ARun) → r.status ≢ 0 → r.status ≢ 4 → r.status ≢ 10 → Keeps r.held r.holds }
     ensures to_its_end { (r : ARun) → ReadsSource r.words → IsWrittenWhole r.status → IsAtEnd r.left_after }
@@ -124,13 +132,13 @@ pub fn run_that_reads()
 /// written, and on 4 a front of it. Of a solid file within the limit it ends with 0 unless memory is wanting or the
 /// source or the output fails.
 pub fn run_that_steps()
-    ensures statuses { (r : ARun) → WritesSteps r.words → r.status ≤ 7 }
-    ensures written { (r : ARun) → WritesSteps r.words → r.status ≡ 0
+    ensures statuses { (r : ARun) → Asks Steps r.words → r.status ≤ 7 }
+    ensures written { (r : ARun) → Asks Steps r.words → r.status ≡ 0
         → IfSome r.left (λ bytes. (text : List ℕ) × IsStepped (replay r.kept) text × Appends r.held r.holds text) }
-    ensures front { (r : ARun) → WritesSteps r.words → r.status ≡ 4
+    ensures front { (r : ARun) → Asks Steps r.words → r.status ≡ 4
         → IfSome r.left (λ bytes. (text : List ℕ) × IsStepped (replay r.kept) text
         × AppendsFront r.held r.holds text) }
-    ensures complete { (r : ARun) → AreWordsTaken r.words → WritesSteps r.words
+    ensures complete { (r : ARun) → AreWordsTaken r.words → Asks Steps r.words
         → IfSome r.left (λ bytes. IsSolidFile bytes → (Rose r.read_faults r.read_faults_after → ⊥)
         → (Rose r.write_faults r.write_faults_after → ⊥) → (r.status ≡ 0) ⊎ (r.status ≡ 1)) }
 {}
@@ -139,29 +147,29 @@ pub fn run_that_steps()
 /// and the command alone, whatever the number of workers and the grid: it is the text of the points that the file's
 /// lines tell by themselves.
 pub fn run_of_an_anchored_file()
-    ensures steps { (r : ARun) → WritesSteps r.words → r.status ≡ 0
+    ensures steps { (r : ARun) → Asks Steps r.words → r.status ≡ 0
         → IfSome r.left (λ bytes. (file : Content) → IsFile file_limits bytes file
         → IsAnchored file.points file.edits
         → (text : List ℕ) × IsStepped (plain_points file) text × Appends r.held r.holds text) }
-    ensures steps_front { (r : ARun) → WritesSteps r.words → r.status ≡ 4
+    ensures steps_front { (r : ARun) → Asks Steps r.words → r.status ≡ 4
         → IfSome r.left (λ bytes. (file : Content) → IsFile file_limits bytes file
         → IsAnchored file.points file.edits
         → (text : List ℕ) × IsStepped (plain_points file) text × AppendsFront r.held r.holds text) }
-    ensures parts { (r : ARun) → WritesParts r.words → r.status ≡ 0
+    ensures parts { (r : ARun) → Asks Parts r.words → r.status ≡ 0
         → IfSome r.left (λ bytes. (file : Content) → IsFile file_limits bytes file
         → IsAnchored file.points file.edits
         → (text : List ℕ) × IsParted (plain_points file) (asked_alpha r.words) (asked_most r.words)
         (asked_index r.words) 0 text × Appends r.held r.holds text) }
-    ensures parts_front { (r : ARun) → WritesParts r.words → r.status ≡ 4
+    ensures parts_front { (r : ARun) → Asks Parts r.words → r.status ≡ 4
         → IfSome r.left (λ bytes. (file : Content) → IsFile file_limits bytes file
         → IsAnchored file.points file.edits
         → (text : List ℕ) × IsParted (plain_points file) (asked_alpha r.words) (asked_most r.words)
         (asked_index r.words) 0 text × AppendsFront r.held r.holds text) }
-    ensures near { (r : ARun) → WritesNear r.words → r.status ≡ 0
+    ensures near { (r : ARun) → Asks Queries r.words → r.status ≡ 0
         → IfSome r.left (λ bytes. (file : Content) → IsFile file_limits bytes file
         → IsAnchored file.points file.edits
         → (text : List ℕ) × IsQueried (plain_points file) file.queries text × Appends r.held r.holds text) }
-    ensures near_front { (r : ARun) → WritesNear r.words → r.status ≡ 4
+    ensures near_front { (r : ARun) → Asks Queries r.words → r.status ≡ 4
         → IfSome r.left (λ bytes. (file : Content) → IsFile file_limits bytes file
         → IsAnchored file.points file.edits
         → (text : List ℕ) × IsQueried (plain_points file) file.queries text × AppendsFront r.held r.holds text) }
@@ -171,20 +179,20 @@ pub fn run_of_an_anchored_file()
 /// no alpha with so few parts, and 8 exactly where there is an alpha and no part of the index. On 0 the whole text is
 /// written, and on 4 a front of it.
 pub fn run_that_parts()
-    ensures no_alpha { (r : ARun) → WritesParts r.words → HasText r.status
+    ensures no_alpha { (r : ARun) → Asks Parts r.words → HasText r.status
         → IfSome r.left (λ bytes. r.status ≡ 9 ↔ HasNoAlpha (replay r.kept) (asked_most r.words)) }
-    ensures no_part { (r : ARun) (i : ℕ) → WritesParts r.words → HasText r.status → asked_index r.words ≡ Some i
+    ensures no_part { (r : ARun) (i : ℕ) → Asks Parts r.words → HasText r.status → asked_index r.words ≡ Some i
         → IfSome r.left (λ bytes. r.status ≡ 8
         ↔ HasNoPart (replay r.kept) (asked_alpha r.words) (asked_most r.words) i) }
-    ensures no_index { (r : ARun) → WritesParts r.words → HasText r.status → asked_index r.words ≡ None
+    ensures no_index { (r : ARun) → Asks Parts r.words → HasText r.status → asked_index r.words ≡ None
         → IfSome r.left (λ bytes. r.status ≢ 8) }
-    ensures written { (r : ARun) → WritesParts r.words → r.status ≡ 0
+    ensures written { (r : ARun) → Asks Parts r.words → r.status ≡ 0
         → IfSome r.left (λ bytes. (text : List ℕ) × IsParted (replay r.kept) (asked_alpha r.words)
         (asked_most r.words) (asked_index r.words) 0 text × Appends r.held r.holds text) }
-    ensures front { (r : ARun) → WritesParts r.words → r.status ≡ 4
+    ensures front { (r : ARun) → Asks Parts r.words → r.status ≡ 4
         → IfSome r.left (λ bytes. (text : List ℕ) × IsParted (replay r.kept) (asked_alpha r.words)
         (asked_most r.words) (asked_index r.words) 0 text × AppendsFront r.held r.holds text) }
-    ensures complete { (r : ARun) → AreWordsTaken r.words → WritesParts r.words
+    ensures complete { (r : ARun) → AreWordsTaken r.words → Asks Parts r.words
         → IfSome r.left (λ bytes. IsSolidFile bytes → (Rose r.read_faults r.read_faults_after → ⊥)
         → (Rose r.write_faults r.write_faults_after → ⊥) → IsWrittenWhole r.status ⊎ (r.status ≡ 1)) }
 {}
@@ -193,16 +201,16 @@ pub fn run_that_parts()
 /// told, in the order of the queries, with the square of its distance: on 0 the whole text is written, and on 4 a front
 /// of it. Of a solid file within the limit it ends with 0 unless memory is wanting or the source or the output fails.
 pub fn run_that_answers()
-    ensures statuses { (r : ARun) → WritesNear r.words → r.status ≤ 7 }
-    ensures written { (r : ARun) → WritesNear r.words → r.status ≡ 0
+    ensures statuses { (r : ARun) → Asks Queries r.words → r.status ≤ 7 }
+    ensures written { (r : ARun) → Asks Queries r.words → r.status ≡ 0
         → IfSome r.left (λ bytes. (file : Content) → IsFile file_limits bytes file
         → (nears : List Near) × AreNear (replay r.kept) file.queries nears
         × Appends r.held r.holds (near_text (replay r.kept) nears)) }
-    ensures front { (r : ARun) → WritesNear r.words → r.status ≡ 4
+    ensures front { (r : ARun) → Asks Queries r.words → r.status ≡ 4
         → IfSome r.left (λ bytes. (file : Content) → IsFile file_limits bytes file
         → (nears : List Near) × AreNear (replay r.kept) file.queries nears
         × AppendsFront r.held r.holds (near_text (replay r.kept) nears)) }
-    ensures complete { (r : ARun) → AreWordsTaken r.words → WritesNear r.words
+    ensures complete { (r : ARun) → AreWordsTaken r.words → Asks Queries r.words
         → IfSome r.left (λ bytes. IsSolidFile bytes → (Rose r.read_faults r.read_faults_after → ⊥)
         → (Rose r.write_faults r.write_faults_after → ⊥) → (r.status ≡ 0) ⊎ (r.status ≡ 1)) }
 {}
@@ -212,26 +220,26 @@ pub fn run_that_answers()
 /// is written, the status is 0 exactly where the mesh is the complex of its points, which are solid, and else 10. That
 /// text is the verdict's, and on 4 a front of it is written.
 pub fn run_that_checks()
-    ensures statuses { (r : ARun) → ReadsMesh r.words → (r.status ≤ 5) ⊎ (r.status ≡ 7) ⊎ (r.status ≡ 10) }
-    ensures none_kept { (r : ARun) → ReadsMesh r.words → r.kept ≡ [] }
-    ensures too_long { (r : ARun) → ReadsMesh r.words → (IsEarly r.status → ⊥)
+    ensures statuses { (r : ARun) → Asks Checks r.words → (r.status ≤ 5) ⊎ (r.status ≡ 7) ⊎ (r.status ≡ 10) }
+    ensures none_kept { (r : ARun) → Asks Checks r.words → r.kept ≡ [] }
+    ensures too_long { (r : ARun) → Asks Checks r.words → (IsEarly r.status → ⊥)
         → IfSome r.left (λ bytes. r.status ≡ 7 ↔ (mesh_limit < length bytes)) }
-    ensures bad_line { (r : ARun) → ReadsMesh r.words → (IsEarly r.status → ⊥) → r.status ≢ 7
+    ensures bad_line { (r : ARun) → Asks Checks r.words → (IsEarly r.status → ⊥) → r.status ≢ 7
         → IfSome r.left (λ bytes. r.status ≡ 5 ↔ HasMeshFault bytes) }
-    ensures bad_mesh { (r : ARun) → ReadsMesh r.words → IsWrittenWhole r.status
+    ensures bad_mesh { (r : ARun) → Asks Checks r.words → IsWrittenWhole r.status
         → IfSome r.left (λ bytes. (mesh : MeshParts) → IsMeshText bytes mesh
         → (r.status ≡ 10 ↔ (IsTrueMesh mesh → ⊥))) }
-    ensures good { (r : ARun) → ReadsMesh r.words → IsWrittenWhole r.status
+    ensures good { (r : ARun) → Asks Checks r.words → IsWrittenWhole r.status
         → IfSome r.left (λ bytes. (mesh : MeshParts) → IsMeshText bytes mesh → (r.status ≡ 0 ↔ IsTrueMesh mesh)) }
-    ensures written { (r : ARun) → ReadsMesh r.words → IsWrittenWhole r.status
+    ensures written { (r : ARun) → Asks Checks r.words → IsWrittenWhole r.status
         → IfSome r.left (λ bytes. (mesh : MeshParts) → IsMeshText bytes mesh
         → (verdict : Verdict) × IsVerdict mesh.points (as_cells mesh.cells mesh.hull) verdict
         × Appends r.held r.holds (verdict_text mesh.points verdict)) }
-    ensures front { (r : ARun) → ReadsMesh r.words → r.status ≡ 4
+    ensures front { (r : ARun) → Asks Checks r.words → r.status ≡ 4
         → IfSome r.left (λ bytes. (mesh : MeshParts) → IsMeshText bytes mesh
         → (verdict : Verdict) × IsVerdict mesh.points (as_cells mesh.cells mesh.hull) verdict
         × AppendsFront r.held r.holds (verdict_text mesh.points verdict)) }
-    ensures complete { (r : ARun) → AreWordsTaken r.words → ReadsMesh r.words
+    ensures complete { (r : ARun) → AreWordsTaken r.words → Asks Checks r.words
         → IfSome r.left (λ bytes. IsMeshWithin bytes → (Rose r.read_faults r.read_faults_after → ⊥)
         → (Rose r.write_faults r.write_faults_after → ⊥) → IsWrittenWhole r.status ⊎ (r.status ≡ 1)) }
 {}
@@ -239,19 +247,19 @@ pub fn run_that_checks()
 /// A run that is to draw a file: what is written goes by the words alone, and it is written unless memory is wanting or
 /// the output fails.
 pub fn run_that_draws()
-    ensures statuses { (r : ARun) → DrawsFile r.words → r.status ≤ 2 ⊎ (r.status ≡ 4) }
-    ensures kept { (r : ARun) → DrawsFile r.words → asks_text r.words ≡ false → (r.status ≡ 0) ⊎ (r.status ≡ 4)
+    ensures statuses { (r : ARun) → Asks Draws r.words → r.status ≤ 2 ⊎ (r.status ≡ 4) }
+    ensures kept { (r : ARun) → Asks Draws r.words → asks_text r.words ≡ false → (r.status ≡ 0) ⊎ (r.status ≡ 4)
         → FileKeeps (drawn_file r.words).points (drawn_file r.words).edits (worker_count r.words) r.kept }
-    ensures one_thread { (r : ARun) → DrawsFile r.words → asks_text r.words ≡ false → worker_count r.words ≡ 1
+    ensures one_thread { (r : ARun) → Asks Draws r.words → asks_text r.words ≡ false → worker_count r.words ≡ 1
         → (r.status ≡ 0) ⊎ (r.status ≡ 4) → r.kept ≡ history_of (drawn_file r.words) }
-    ensures text_kept { (r : ARun) → DrawsFile r.words → asks_text r.words ≡ true → r.kept ≡ [] }
-    ensures written { (r : ARun) → DrawsFile r.words → r.status ≡ 0
+    ensures text_kept { (r : ARun) → Asks Draws r.words → asks_text r.words ≡ true → r.kept ≡ [] }
+    ensures written { (r : ARun) → Asks Draws r.words → r.status ≡ 0
         → Appends r.held r.holds (drawn_text r.words r.kept) }
-    ensures front { (r : ARun) → DrawsFile r.words → r.status ≡ 4
+    ensures front { (r : ARun) → Asks Draws r.words → r.status ≡ 4
         → AppendsFront r.held r.holds (drawn_text r.words r.kept) }
-    ensures plain { (r : ARun) → DrawsFile r.words → r.status ≡ 0 → Appends r.held r.holds (plain_drawn r.words) }
-    ensures plain_front { (r : ARun) → DrawsFile r.words → r.status ≡ 4
+    ensures plain { (r : ARun) → Asks Draws r.words → r.status ≡ 0 → Appends r.held r.holds (plain_drawn r.words) }
+    ensures plain_front { (r : ARun) → Asks Draws r.words → r.status ≡ 4
         → AppendsFront r.held r.holds (plain_drawn r.words) }
-    ensures complete { (r : ARun) → AreWordsTaken r.words → DrawsFile r.words
+    ensures complete { (r : ARun) → AreWordsTaken r.words → Asks Draws r.words
         → (Rose r.write_faults r.write_faults_after → ⊥) → (r.status ≡ 0) ⊎ (r.status ≡ 1) }
 {}

@@ -14,8 +14,9 @@ ghost use Rattle.delaunay_cli.specs.PlainText.{plain_text};
 ghost use Rattle.command_pages.specs.Run.{AreDealt, IsSolidFile, Writes, WritesFront, history_of};
 ghost use Rattle.command_pages.specs.Statuses.{HasText};
 ghost use Rattle.command_words.specs.Stops.{line_of_end};
-ghost use Rattle.command_words.specs.Words.{DrawsFile, ReadsFile, WritesNear, WritesReport, WritesSteps, asks_order};
+ghost use Rattle.command_words.specs.Words.{ReadsFile, asks_order};
 ghost use Rattle.command_words.specs.Words.{asks_shape, worker_count, AreWordsTaken, kind_of_words};
+ghost use Rattle.command_words.specs.Words.{Asks, Draws, Queries, Reports, Steps};
 
 use crate::outcome::Run;
 use crate::work::work;
@@ -69,33 +70,33 @@ pub fn run<R: Threads + Sync, S: Source, O: Sink, E: Sink, G: Gate + Sync>(
     ensures dealt { ReadsFile words.now → HasText result.status
         → IfSome (S.left src.old) (λ bytes. (file : Content) → IsFile file_limits bytes file
         → AreDealt (worker_count words.now) result.kept.items) }
-    ensures written { WritesReport words.now → result.status ≡ 0
+    ensures written { Asks Reports words.now → result.status ≡ 0
         → IfSome (S.left src.old) (λ bytes. Writes (asks_shape words.now) (asks_order words.now) bytes
         (O.holds out.old) (O.holds out.new) result.kept.items) }
-    ensures front { WritesReport words.now → result.status ≡ 4
+    ensures front { Asks Reports words.now → result.status ≡ 4
         → IfSome (S.left src.old) (λ bytes. WritesFront (asks_shape words.now) (asks_order words.now) bytes
         (O.holds out.old) (O.holds out.new) result.kept.items) }
 
     // Where no edit takes one of the opening four and no order block is asked for, what is written goes by the file
     // and the command.
-    ensures plain { WritesReport words.now → asks_order words.now ≡ false → result.status ≡ 0
+    ensures plain { Asks Reports words.now → asks_order words.now ≡ false → result.status ≡ 0
         → IfSome (S.left src.old) (λ bytes. (file : Content) → IsFile file_limits bytes file →
         IsAnchored file.points file.edits
         → Appends (O.holds out.old) (O.holds out.new) (plain_text (asks_shape words.now) file)) }
-    ensures plain_front { WritesReport words.now → asks_order words.now ≡ false → result.status ≡ 4
+    ensures plain_front { Asks Reports words.now → asks_order words.now ≡ false → result.status ≡ 4
         → IfSome (S.left src.old) (λ bytes. (file : Content) → IsFile file_limits bytes file →
         IsAnchored file.points file.edits
         → AppendsFront (O.holds out.old) (O.holds out.new) (plain_text (asks_shape words.now) file)) }
 
     // The whole text of a solid file within the limit is written, unless memory is wanting or the source or the output
     // fails.
-    ensures complete { AreWordsTaken words.now → WritesReport words.now ⊎ WritesSteps words.now ⊎ WritesNear words.now
+    ensures complete { AreWordsTaken words.now → Asks Reports words.now ⊎ Asks Steps words.now ⊎ Asks Queries words.now
         → IfSome (S.left src.old) (λ bytes. IsSolidFile bytes
         → (Rose (S.faults src.old) (S.faults src.new) → ⊥) → (Rose (O.faults out.old) (O.faults out.new) → ⊥)
         → (result.status ≡ 0) ⊎ (result.status ≡ 1)) }
 
     // The source is as before where a file is drawn or the words are refused.
-    ensures source { DrawsFile words.now → src.new ≡ src.old }
+    ensures source { Asks Draws words.now → src.new ≡ src.old }
     ensures unread { result.status ≡ 2 → src.new ≡ src.old }
 
     // Counts of faults never fall.

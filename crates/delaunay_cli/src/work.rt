@@ -9,7 +9,8 @@ ghost use Rattle.delaunay_cli.specs.Ends.{Ends, IsMadeOfWords, IsPutOut, IsToldL
 ghost use Rattle.command_pages.specs.Page.{IsFitToWrite, text_of_page};
 ghost use Rattle.command_pages.specs.Run.{ReadsTo};
 ghost use Rattle.command_words.specs.Stops.{line_of_end, status_of_end, status_of_made};
-ghost use Rattle.command_words.specs.Words.{DrawsFile, ReadsSource, kind_of_words};
+ghost use Rattle.command_words.specs.Words.{ReadsSource, kind_of_words};
+ghost use Rattle.command_words.specs.Words.{Asks, Draws};
 
 use crate::drawn::draw;
 use crate::outcome::Run;
@@ -49,7 +50,7 @@ fn make<R: Threads + Sync, S: Source, G: Gate + Sync>(
     ensures reads { ReadsSource words.now →
         ReadsTo (command_of_words words.now).limit (S.left src.old) (S.left src.new) (status_of_made result) }
     ensures to_its_end { ReadsSource words.now → IsOk result → IsAtEnd (S.left src.new) }
-    ensures source { DrawsFile words.now → src.new ≡ src.old }
+    ensures source { Asks Draws words.now → src.new ≡ src.old }
     ensures unread { status_of_made result ≡ 2 → src.new ≡ src.old }
     ensures later { S.faults src.old ≤ S.faults src.new }
 {
@@ -123,7 +124,7 @@ pub fn work<R: Threads + Sync, S: Source, O: Sink, G: Gate + Sync>(
         (O.holds out.old) (O.holds out.new) (Rose (O.faults out.old) (O.faults out.new)) result.run.status
         result.run.kept.items }
     ensures line { IsToldLine (kind_of_words words.now) (S.left src.old) result.run.status (line_of_end result.stop) }
-    ensures source { DrawsFile words.now → src.new ≡ src.old }
+    ensures source { Asks Draws words.now → src.new ≡ src.old }
     ensures unread { result.run.status ≡ 2 → src.new ≡ src.old }
     ensures later_source { S.faults src.old ≤ S.faults src.new }
     ensures later_output { O.faults out.old ≤ O.faults out.new }
