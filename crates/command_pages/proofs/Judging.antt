@@ -8,13 +8,14 @@ use Rattle.edit_files.specs.Held.{content}
 use Rattle.edit_files.specs.declared.file.File.{File}
 use Rattle.edit_files.specs.Grammar.{IsFile, Limits}
 use Rattle.edit_files.specs.Content.{row}
-use Rattle.command_pages.specs.Report.{AreRadii}
-use Rattle.command_pages.specs.Taken.{file_limits}
+use Rattle.command_pages.specs.Reading.{AreRadii}
+use Rattle.command_pages.specs.Run.{file_limits}
 use Rattle.edit_files.specs.Faults.{IsFault}
 use Rattle.command_words.specs.declared.stop.Stop.{Stop}
 use Rattle.command_words.specs.declared.stop.Stop.TheVariants.{Memory, BadLine, Flat, TooLong}
-use Rattle.command_pages.specs.Files.{HasNoMesh, IsFileOf, IsFileWithin, IsFlatFile}
-use Rattle.command_pages.specs.Run.{Reads, ReadsTo, input_limit}
+use Rattle.command_pages.specs.Files.{HasNoMesh, IsFlatFile}
+use Rattle.command_pages.specs.Reading.{IsFileOf, IsFileWithin}
+use Rattle.command_pages.specs.Run.{ReadsTo, input_limit}
 use Rattle.std.proofs.lemmas.List.Elements.{All-cons}
 use Rattle.std.proofs.lemmas.List.{length-append}
 use Rattle.std.specs.Io.KnownBytes.{IsAtEnd}
@@ -82,7 +83,7 @@ past_limit (Some xs) (Some ys) old new t l = over (length t.taken) (length ys) (
 
 -- and the input is too long
 pub reads_past : {a b : Option (List ℕ)} {old new : List ℕ} → TakesInto a b old new (input_limit + 1) →
-    length new ≡ length old + (input_limit + 1) → Reads a b 7
+    length new ≡ length old + (input_limit + 1) → ReadsTo input_limit a b 7
 reads_past t l = record {
   taken = t.taken;
   consumed = t.consumed;
@@ -95,7 +96,7 @@ reads_past t l = record {
 -- a list that grew by less took all that the source told
 pub reads_all : {a b : Option (List ℕ)} {new : List ℕ} (old : List ℕ) (status : ℕ) →
     TakesInto a b old new (input_limit + 1) → IsAtEnd b → (length new ≡ length old + (input_limit + 1) → ⊥) →
-    Reads a b status
+    ReadsTo input_limit a b status
 reads_all old status t e n = record {
   taken = t.taken;
   consumed = t.consumed;

@@ -1,30 +1,17 @@
 -- A file that is read: what is made of it, why no mesh is, and what a run that reads one promises of its end.
-use Rattle.std.specs.Prelude.{◌≡◌, ◌≢◌, ◌+◌, ◌≤◌, ◌<◌, ◌↔◌, ℕ, List, length, true, false, Option, IfSome, String, ⊤}
+use Rattle.std.specs.Prelude.{◌≡◌, ◌≢◌, ◌≤◌, ◌<◌, ◌↔◌, ℕ, List, length, true, false, Option, IfSome, String, ⊤}
 use Rattle.std.specs.declared.alloc.Global.{Global}
 use Rattle.point_order.specs.Solid.{is_solid}
 use Rattle.edit_history.specs.declared.history.Entry.{Entry}
 use Rattle.edit_files.specs.Content.{Content}
 use Rattle.edit_files.specs.Faults.{IsFault}
 use Rattle.edit_files.specs.Grammar.{IsFile}
-use Rattle.command_pages.specs.Taken.{file_limits}
 use Rattle.command_words.specs.declared.stop.Stop.{Stop}
 use Rattle.command_words.specs.declared.stop.Stop.TheVariants.{Memory, ReadFault, BadLine, Flat, TooLong}
 use Rattle.command_words.specs.Words.{worker_count}
 use Rattle.command_pages.specs.Command.{Command}
-use Rattle.command_pages.specs.Report.{AreRadii}
-use Rattle.command_pages.specs.Run.{HasFault, IsKept, input_limit}
-use Rattle.command_pages.specs.Statuses.{HasText, IsEarly, IsFaultLine}
-
--- the bytes, within the limit, are the file
-abbrev pub IsFileWithin : Content → List ℕ → Type 0
-IsFileWithin file bytes = (length bytes ≤ input_limit) × IsFile file_limits bytes file
-
--- A file that was read: it has no more lines than are taken, its radii are in the range of its version, and it is what
--- the source had left.
-pub record IsFileOf (left : Option (List ℕ)) (file : Content) : Type 0 where
-  pub lines : length file.points + length file.edits ≤ file_limits.lines
-  pub radii : AreRadii file.version file.radii
-  pub told : IfSome left (IsFileWithin file)
+use Rattle.command_pages.specs.Run.{HasFault, IsKept, file_limits, input_limit}
+use Rattle.command_pages.specs.Statuses.{HasText, IsEarly, IsLineOf}
 
 -- The bytes, within the limit, are a solid file, which the history keeps for a number of workers, and of this file
 -- `P` holds.
@@ -45,7 +32,8 @@ IsFlatFile bytes =
 abbrev pub HasNoMesh : Option (List ℕ) → Type 0 → Stop → Type 0
 HasNoMesh left failed Memory = ⊤
 HasNoMesh left failed ReadFault = failed
-HasNoMesh left failed (BadLine line) = IsFaultLine left line.items × IfSome left (λ bytes. length bytes ≤ input_limit)
+HasNoMesh left failed (BadLine line) =
+    IsLineOf (IsFault file_limits) left line.items × IfSome left (λ bytes. length bytes ≤ input_limit)
 HasNoMesh left failed Flat = IfSome left IsFlatFile
 HasNoMesh left failed TooLong = IfSome left (λ bytes. input_limit < length bytes)
 HasNoMesh left failed stop = ⊥

@@ -1,9 +1,8 @@
-pub mod Taken
 pub mod Statuses
-pub mod Run
 pub mod Report
-pub mod Page
+pub mod Run
 pub mod Reading
+pub mod Page
 pub mod Command
 pub mod Files
 pub mod Checked

@@ -13,7 +13,7 @@ use Rattle.alpha_complex.specs.Shapes.{shape_of}
 use Rattle.mesh_files.specs.Summary.{summary_text}
 use Rattle.mesh_files.specs.Text.{ReportParts, report_text}
 use Rattle.edit_files.specs.Content.{alpha_of}
-use Rattle.command_pages.specs.Report.{AreRadii}
+use Rattle.command_pages.specs.Reading.{AreRadii}
 use Rattle.command_pages.specs.declared.made.Form.{Form}
 use Rattle.command_pages.specs.declared.made.Form.TheVariants.{Whole, Summary}
 use Rattle.command_pages.specs.declared.made.Made.{Made}

@@ -1,11 +1,11 @@
 -- What is written of a history.
-use Rattle.std.specs.Prelude.{ℕ, ◌+◌, ◌<◌, All, Bool, length, List, [], map, Option, None, Some, if◌then◌else◌}
+use Rattle.std.specs.Prelude.{ℕ, ◌+◌, Bool, length, List, [], map, Option, None, Some, if◌then◌else◌}
 use Rattle.point_order.specs.Complex.{complex}
 use Rattle.edit_history.specs.declared.history.Entry.{Entry}
 use Rattle.edit_history.specs.Histories.{replay}
 use Rattle.plain_laws.specs.Plain.{replies_by_tag}
 use Rattle.edit_files.specs.Content.{Content}
-use Rattle.edit_files.specs.Content.{alpha_of, row}
+use Rattle.edit_files.specs.Content.{alpha_of}
 use Rattle.edit_files.specs.declared.version.Version.{Version}
 use Rattle.alpha_complex.specs.Shapes.{ShapeParts, shape_of}
 use Rattle.mesh_files.specs.Text.{ReportParts, report_text}
@@ -21,10 +21,6 @@ tags_of h = map (λ e. e.tag) h
 -- the tags, where they are asked for
 abbrev pub order_of : Bool → List Entry → Option (List ℕ)
 order_of order h = if order then Some (tags_of h) else None
-
--- the radii are in the range of the version
-abbrev pub AreRadii : Version → List ℕ → Type 0
-AreRadii version radii = All (λ radius. radius < (row version).radius_end) radii
 
 -- the alpha complex of a set for each radius of a file of the version, in their order, where they are asked for; each
 -- stands with the number of its radius line

@@ -7,12 +7,16 @@ use Rattle.edit_history.specs.declared.history.Entry.{Entry}
 use Rattle.edit_history.specs.Edits.{point_of}
 use Rattle.edit_history.specs.OneThread.{Keeps, one_thread}
 use Rattle.edit_files.specs.Content.{Content}
-use Rattle.edit_files.specs.Grammar.{IsFile}
-use Rattle.command_pages.specs.Taken.{file_limits}
+use Rattle.edit_files.specs.declared.version.Version.TheVariants.{Four}
+use Rattle.edit_files.specs.Grammar.{IsFile, Limits, up_to}
 use Rattle.edit_files.specs.Faults.{IsFault}
 use Rattle.text_readings.specs.declared.fault.Fault.{Fault}
 use Rattle.command_pages.specs.Report.{text_of_history}
 use Rattle.command_pages.specs.Statuses.{IsEarly}
+
+-- which files a run takes: those of each version, 1 to 4
+abbrev pub file_limits : Limits
+file_limits = up_to Four
 
 -- how many bytes an input may have: 16,777,216
 abbrev pub input_limit : ℕ
@@ -44,10 +48,6 @@ pub record ReadsTo (limit : ℕ) (left_old left_new : Option (List ℕ)) (status
   pub within : length taken ≤ limit + 1
   pub whole : (IsEarly status → ⊥) → IsAtEnd left_new ⊎ (length taken ≡ limit + 1)
   pub past : length taken ≡ limit + 1 → (status ≡ 7) ⊎ (status ≡ 1)
-
--- the same for an edit file
-abbrev pub Reads : Option (List ℕ) → Option (List ℕ) → ℕ → Type 0
-Reads left_old left_new status = ReadsTo input_limit left_old left_new status
 
 -- the output gained the text of the file that the bytes are, and of the history, with shapes or without, and with its
 -- order block or not

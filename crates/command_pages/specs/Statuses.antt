@@ -3,8 +3,6 @@ use Rattle.std.specs.Prelude.{◌≡◌, ◌⊎◌, ◌<◌, ℕ, List, ◌++◌
 use Rattle.text_readings.specs.declared.fault.Why.{Why}
 use Rattle.text_readings.specs.declared.fault.Why.TheVariants.{Section, Field, Range, TooMany, Truncated}
 use Rattle.text_readings.specs.declared.fault.Fault.{Fault}
-use Rattle.command_pages.specs.Taken.{file_limits}
-use Rattle.edit_files.specs.Faults.{IsFault}
 
 -- the run ended before the input was read to its end or its limit: for want of memory, for its words, or by a fault
 -- of the source
@@ -35,7 +33,3 @@ pub record IsLineOf (P : List ℕ → Fault → Type 0) (left : Option (List ℕ
   pub fault : Fault
   pub line_is : line ≡ fault_line fault
   pub cause : IfSome left (λ bytes. P bytes fault)
-
--- the same of an edit file
-abbrev pub IsFaultLine : Option (List ℕ) → List ℕ → Type 0
-IsFaultLine left line = IsLineOf (IsFault file_limits) left line

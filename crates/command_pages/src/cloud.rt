@@ -9,7 +9,8 @@ ghost use Rattle.edit_history.specs.OneThread.{places};
 ghost use Rattle.edit_history.specs.Opening.{opening_four};
 ghost use Rattle.edit_files.specs.Held.{content};
 ghost use Rattle.command_pages.specs.Page.{AreReportParts, report_of_parts};
-ghost use Rattle.command_pages.specs.Report.{AreRadii, report_of};
+ghost use Rattle.command_pages.specs.Report.{report_of};
+ghost use Rattle.command_pages.specs.Reading.{AreRadii};
 ghost use Rattle.command_pages.specs.Run.{IsKept};
 
 use crate::made::Parts;

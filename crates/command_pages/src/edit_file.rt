@@ -4,8 +4,9 @@ ghost use Rattle.std.specs.Prelude.{◌≡◌, ◌≤◌, length, Some, IfOk, If
 ghost use Rattle.std.specs.Io.KnownBytes.{IsAtEnd};
 ghost use Rattle.byte_ends.specs.Ends.{Rose};
 ghost use Rattle.edit_files.specs.Held.{content};
-ghost use Rattle.command_pages.specs.Files.{HasNoMesh, IsFileOf};
-ghost use Rattle.command_pages.specs.Run.{Reads, input_limit};
+ghost use Rattle.command_pages.specs.Files.{HasNoMesh};
+ghost use Rattle.command_pages.specs.Reading.{IsFileOf};
+ghost use Rattle.command_pages.specs.Run.{ReadsTo, input_limit};
 ghost use Rattle.command_words.specs.Stops.{status_of_made};
 
 use crate::telling::fault_line;
@@ -38,7 +39,7 @@ fn judge(alloc: Global, bytes: &[u8]) -> Result<File, Stop>
 pub fn file_of_source<S: Source>(alloc: Global, src: &mut S) -> Result<File, Stop>
     ensures file { IfOk result (λ file. IsFileOf (S.left src.old) (content file)) }
     ensures stop { IfErr result (HasNoMesh (S.left src.old) (Rose (S.faults src.old) (S.faults src.new))) }
-    ensures reads { Reads (S.left src.old) (S.left src.new) (status_of_made result) }
+    ensures reads { ReadsTo input_limit (S.left src.old) (S.left src.new) (status_of_made result) }
     ensures to_its_end { IsOk result → IsAtEnd (S.left src.new) }
     ensures later { S.faults src.old ≤ S.faults src.new }
 {

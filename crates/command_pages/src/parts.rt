@@ -9,7 +9,8 @@ ghost use Rattle.del_laws.specs.Keys.{AreKeys};
 ghost use Rattle.edit_history.specs.Histories.{replay};
 ghost use Rattle.edit_files.specs.Held.{content};
 ghost use Rattle.command_pages.specs.Page.{AreReportParts, radii_of as radii_of_it, report_of_parts};
-ghost use Rattle.command_pages.specs.Report.{AreRadii, order_of as order_of_it, report_of, tags_of};
+ghost use Rattle.command_pages.specs.Report.{order_of as order_of_it, report_of, tags_of};
+ghost use Rattle.command_pages.specs.Reading.{AreRadii};
 
 use crate::made::Parts;
 use crate::replies::replies_by_tag;

@@ -14,7 +14,7 @@ ghost use Rattle.mesh_files.specs.Summary.{summary_text as summary_text_of};
 ghost use Rattle.mesh_files.specs.Text.{report_text};
 ghost use Rattle.command_pages.specs.Puts.{IsUnput};
 ghost use Rattle.edit_files.specs.Content.{alpha_of};
-ghost use Rattle.command_pages.specs.Report.{AreRadii};
+ghost use Rattle.command_pages.specs.Reading.{AreRadii};
 ghost use Rattle.command_pages.specs.Page.{AreFacesFor, AreReportParts, report_of_parts, text_of_form};
 
 use crate::made::{Form, Parts};

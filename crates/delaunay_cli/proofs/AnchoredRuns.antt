@@ -16,7 +16,7 @@ use Rattle.delaunay_cli.specs.PlainText.{plain_points}
 use Rattle.delaunay_cli.specs.Queried.{IsQueried}
 use Rattle.command_pages.specs.Run.{IsKept}
 use Rattle.delaunay_cli.specs.Stepped.{IsStepped}
-use Rattle.command_pages.specs.Taken.{file_limits}
+use Rattle.command_pages.specs.Run.{file_limits}
 use Rattle.command_words.specs.Words.{asked_alpha, asked_index, asked_most}
 use Rattle.command_words.specs.Words.{worker_count}
 use Rattle.command_words.specs.Words.{Asks, Parts, Queries, Steps}

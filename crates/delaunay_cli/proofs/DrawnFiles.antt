@@ -15,7 +15,7 @@ use Rattle.mesh_files.specs.Text.{ReportParts}
 use Rattle.command_pages.specs.declared.made.Made.{Made}
 use Rattle.command_words.specs.declared.stop.Stop.{Stop}
 use Rattle.command_words.specs.declared.stop.Stop.TheVariants.{Memory}
-use Rattle.command_pages.specs.Report.{AreRadii}
+use Rattle.command_pages.specs.Reading.{AreRadii}
 use Rattle.delaunay_cli.specs.Reported.{IsMeshed, IsUnmeshed}
 use Rattle.command_words.specs.declared.task.Drawn.{Drawn}
 use Rattle.command_words.specs.declared.task.Making.{Making}

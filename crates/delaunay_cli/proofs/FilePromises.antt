@@ -6,7 +6,7 @@ use Rattle.list_laws.proofs.Cited.{if_some}
 use Rattle.point_order.specs.Solid.{is_solid}
 use Rattle.edit_history.specs.declared.history.Entry.{Entry}
 use Rattle.edit_files.specs.Content.{Content}
-use Rattle.command_pages.specs.Taken.{file_limits}
+use Rattle.command_pages.specs.Run.{file_limits}
 use Rattle.edit_files.proofs.Cited.{no_fault_of, one_file_of}
 use Rattle.command_words.specs.declared.stop.Stop.{Stop}
 use Rattle.command_words.specs.declared.stop.Stop.TheVariants.{Memory, Usage, ReadFault, WriteFault, BadLine, Flat}

@@ -9,7 +9,8 @@ use Rattle.edit_files.specs.Content.{Content}
 use Rattle.edit_files.specs.Held.{content}
 use Rattle.command_pages.specs.declared.made.Parts.{Parts}
 use Rattle.command_words.specs.declared.stop.Stop.{Stop}
-use Rattle.command_pages.specs.Files.{HasNoMesh, IsFileOf, IsFileWithin, IsFlatFile}
+use Rattle.command_pages.specs.Files.{HasNoMesh, IsFlatFile}
+use Rattle.command_pages.specs.Reading.{IsFileOf, IsFileWithin}
 use Rattle.command_pages.specs.Page.{report_of_parts}
 use Rattle.delaunay_cli.specs.Queried.{IsAnswered, IsQueriedFile}
 use Rattle.delaunay_cli.specs.Reported.{IsMeshed, IsReportOf, IsUnmeshed}

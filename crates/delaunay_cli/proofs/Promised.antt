@@ -11,7 +11,7 @@ use Rattle.list_laws.proofs.Cited.{if_some}
 use Rattle.byte_ends.specs.Ends.{AppendsFront}
 use Rattle.edit_files.specs.Content.{Content}
 use Rattle.edit_files.specs.Grammar.{IsFile}
-use Rattle.command_pages.specs.Taken.{file_limits}
+use Rattle.command_pages.specs.Run.{file_limits}
 use Rattle.edit_files.proofs.Cited.{no_fault_of, one_file_of}
 use Rattle.mesh_files.specs.Text.{report_text}
 use Rattle.near_vertex.specs.declared.answers.Near.{Near}

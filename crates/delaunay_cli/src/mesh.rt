@@ -3,7 +3,8 @@
 ghost use Rattle.std.specs.Prelude.{◌≡◌, ◌<◌, ◌+◌, ◌^◌, false, length, All, IfOk, IfErr};
 ghost use Rattle.edit_files.specs.Held.{content};
 ghost use Rattle.command_pages.specs.Page.{AreReportParts, report_of_parts};
-ghost use Rattle.command_pages.specs.Report.{AreRadii, report_of};
+ghost use Rattle.command_pages.specs.Report.{report_of};
+ghost use Rattle.command_pages.specs.Reading.{AreRadii};
 ghost use Rattle.delaunay_cli.specs.Reported.{IsMeshed, IsUnmeshed};
 
 use crate::mesh_lists::MeshLists;

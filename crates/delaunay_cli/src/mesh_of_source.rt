@@ -7,7 +7,7 @@ ghost use Rattle.edit_history.specs.Histories.{IsLegal};
 ghost use Rattle.command_pages.specs.Files.{HasNoMesh};
 ghost use Rattle.command_pages.specs.Page.{AreReportParts, report_of_parts};
 ghost use Rattle.delaunay_cli.specs.Reported.{IsReportOf};
-ghost use Rattle.command_pages.specs.Run.{Reads};
+ghost use Rattle.command_pages.specs.Run.{ReadsTo, input_limit};
 ghost use Rattle.command_words.specs.Stops.{status_of_made};
 
 use crate::mesh::history_and_parts;
@@ -37,7 +37,7 @@ pub fn mesh_of_source<R: Threads + Sync, S: Source, G: Gate + Sync>(
     ensures legal { IfOk result (λ made. IsLegal made.0.items) }
     ensures ready { IfOk result (λ made. AreReportParts made.1) }
     ensures stop { IfErr result (HasNoMesh (S.left src.old) (Rose (S.faults src.old) (S.faults src.new))) }
-    ensures reads { Reads (S.left src.old) (S.left src.new) (status_of_made result) }
+    ensures reads { ReadsTo input_limit (S.left src.old) (S.left src.new) (status_of_made result) }
     ensures to_its_end { IsOk result → IsAtEnd (S.left src.new) }
     ensures later { S.faults src.old ≤ S.faults src.new }
 {

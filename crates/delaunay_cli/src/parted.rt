@@ -13,7 +13,7 @@ ghost use Rattle.solid_parts.specs.Text.{parts_text};
 ghost use Rattle.command_pages.specs.Files.{HasNoMesh};
 ghost use Rattle.command_pages.specs.Page.{IsFitToWrite, text_of_page};
 ghost use Rattle.delaunay_cli.specs.Parted.{HasParts, IsAskedAlpha, IsParted, IsPartedFile, TellsOf, TellsParts};
-ghost use Rattle.command_pages.specs.Run.{Reads};
+ghost use Rattle.command_pages.specs.Run.{ReadsTo, input_limit};
 ghost use Rattle.command_words.specs.Stops.{IsLate, status_of_end, status_of_made};
 
 use crate::mesh_of_source::mesh_of_source;
@@ -142,7 +142,7 @@ pub fn part<R: Threads + Sync, S: Source, G: Gate + Sync>(
     ensures told { IfOk result (λ made. TellsParts (status_of_end made.after) (text_of_page made.page)) }
     ensures sound { IfOk result IsFitToWrite }
     ensures stop { IfErr result (HasNoMesh (S.left src.old) (Rose (S.faults src.old) (S.faults src.new))) }
-    ensures reads { Reads (S.left src.old) (S.left src.new) (status_of_made result) }
+    ensures reads { ReadsTo input_limit (S.left src.old) (S.left src.new) (status_of_made result) }
     ensures to_its_end { IsOk result → IsAtEnd (S.left src.new) }
     ensures later { S.faults src.old ≤ S.faults src.new }
 {

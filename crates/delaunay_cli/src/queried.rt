@@ -9,7 +9,7 @@ ghost use Rattle.command_pages.specs.Files.{HasNoMesh};
 ghost use Rattle.command_pages.specs.Page.{IsFitToWrite, text_of_page};
 ghost use Rattle.delaunay_cli.specs.Queried.{IsAnswered, IsQueried, IsQueriedFile};
 ghost use Rattle.delaunay_cli.specs.Reported.{IsUnmeshed};
-ghost use Rattle.command_pages.specs.Run.{Reads};
+ghost use Rattle.command_pages.specs.Run.{ReadsTo, input_limit};
 ghost use Rattle.command_words.specs.Stops.{status_of_made};
 
 use crate::mesh_of_lines::mesh_of_lines;
@@ -79,7 +79,7 @@ pub fn query<R: Threads + Sync, S: Source, G: Gate + Sync>(
     ensures plain_end { IfOk result (λ made. made.after ≡ None) }
     ensures sound { IfOk result IsFitToWrite }
     ensures stop { IfErr result (HasNoMesh (S.left src.old) (Rose (S.faults src.old) (S.faults src.new))) }
-    ensures reads { Reads (S.left src.old) (S.left src.new) (status_of_made result) }
+    ensures reads { ReadsTo input_limit (S.left src.old) (S.left src.new) (status_of_made result) }
     ensures to_its_end { IsOk result → IsAtEnd (S.left src.new) }
     ensures later { S.faults src.old ≤ S.faults src.new }
 {

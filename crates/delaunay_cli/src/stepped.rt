@@ -9,7 +9,7 @@ ghost use Rattle.point_order.specs.Solid.{is_solid};
 ghost use Rattle.del_laws.specs.Keys.{AreKeys};
 ghost use Rattle.command_pages.specs.Files.{HasNoMesh};
 ghost use Rattle.command_pages.specs.Page.{IsFitToWrite, text_of_page};
-ghost use Rattle.command_pages.specs.Run.{Reads};
+ghost use Rattle.command_pages.specs.Run.{ReadsTo, input_limit};
 ghost use Rattle.delaunay_cli.specs.Stepped.{IsStepped, IsSteppedFile};
 ghost use Rattle.command_words.specs.Stops.{status_of_made};
 
@@ -65,7 +65,7 @@ pub fn step<R: Threads + Sync, S: Source, G: Gate + Sync>(
     ensures plain_end { IfOk result (λ made. made.after ≡ None) }
     ensures sound { IfOk result IsFitToWrite }
     ensures stop { IfErr result (HasNoMesh (S.left src.old) (Rose (S.faults src.old) (S.faults src.new))) }
-    ensures reads { Reads (S.left src.old) (S.left src.new) (status_of_made result) }
+    ensures reads { ReadsTo input_limit (S.left src.old) (S.left src.new) (status_of_made result) }
     ensures to_its_end { IsOk result → IsAtEnd (S.left src.new) }
     ensures later { S.faults src.old ≤ S.faults src.new }
 {

@@ -7,7 +7,7 @@ ghost use Rattle.edit_history.specs.Histories.{IsLegal};
 ghost use Rattle.edit_history.specs.OneThread.{Keeps as FileKeeps};
 ghost use Rattle.edit_files.specs.Content.{Content};
 ghost use Rattle.edit_files.specs.Grammar.{IsFile};
-ghost use Rattle.command_pages.specs.Taken.{file_limits};
+ghost use Rattle.command_pages.specs.Run.{file_limits};
 ghost use Rattle.plain_laws.specs.Plain.{IsAnchored};
 ghost use Rattle.delaunay_cli.specs.Ends.{Ends, Tells};
 ghost use Rattle.delaunay_cli.specs.PlainText.{plain_text};

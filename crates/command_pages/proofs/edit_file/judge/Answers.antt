@@ -1,5 +1,5 @@
 use Rattle.edit_files.specs.Held.{content}
-use Rattle.command_pages.specs.Taken.{file_limits}
+use Rattle.command_pages.specs.Run.{file_limits}
 use Rattle.command_pages.proofs.Judging.{file_small, radii_small}
 use Rattle.command_pages.proofs.edit_file.judge.Goals as goal
 
