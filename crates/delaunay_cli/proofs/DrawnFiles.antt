@@ -16,7 +16,7 @@ use Rattle.command_pages.specs.declared.made.Made.{Made}
 use Rattle.command_words.specs.declared.stop.Stop.{Stop}
 use Rattle.command_words.specs.declared.stop.Stop.TheVariants.{Memory}
 use Rattle.command_pages.specs.Reading.{AreRadii}
-use Rattle.delaunay_cli.specs.Reported.{IsMeshed, IsUnmeshed}
+use Rattle.delaunay_cli.specs.Meshed.{IsMeshed, IsUnmeshed}
 use Rattle.command_words.specs.declared.task.Drawn.{Drawn}
 use Rattle.command_words.specs.declared.task.Making.{Making}
 use Rattle.delaunay_cli.specs.Drawn.{IsDrawn, IsKeptOfDrawn, drawn_file}

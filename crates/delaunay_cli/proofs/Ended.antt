@@ -10,7 +10,8 @@ use Rattle.command_pages.specs.declared.made.Made.{Made}
 use Rattle.command_words.specs.declared.stop.Stop.{Stop}
 use Rattle.command_words.specs.declared.stop.Stop.TheVariants.{Memory, Usage, WriteFault, BadLine}
 use Rattle.delaunay_cli.specs.Commands.{command_of_words}
-use Rattle.delaunay_cli.specs.Ends.{Ends, IsMadeOfWords, IsPutOut, IsToldLine, IsUnmade}
+use Rattle.delaunay_cli.specs.Ends.{Ends, IsToldLine}
+use Rattle.delaunay_cli.specs.Made.{IsMadeOfWords, IsPutOut, IsUnmade}
 use Rattle.command_pages.specs.Page.{IsFitToWrite, text_of_page}
 use Rattle.command_pages.specs.Run.{ReadsTo}
 use Rattle.command_pages.specs.Statuses.{HasText, IsWrittenWhole}

@@ -29,11 +29,13 @@ use Rattle.command_pages.specs.Run.{ReadsTo}
 use Rattle.edit_files.specs.Generator.{generated}
 use Rattle.delaunay_cli.specs.Commands.{command_of, command_of_words}
 use Rattle.delaunay_cli.specs.Drawn.{IsDrawn}
-use Rattle.delaunay_cli.specs.Ends.{IsMadeOfWords, IsUnmade}
+use Rattle.delaunay_cli.specs.Made.{IsMadeOfWords, IsUnmade}
 use Rattle.delaunay_cli.specs.Parted.{IsPartedFile, TellsParts}
-use Rattle.delaunay_cli.specs.Queried.{IsQueried, IsQueriedFile}
-use Rattle.delaunay_cli.specs.Reported.{IsReported}
-use Rattle.delaunay_cli.specs.Stepped.{IsStepped, IsSteppedFile}
+use Rattle.delaunay_cli.specs.Queried.{IsQueried}
+use Rattle.delaunay_cli.specs.Meshed.{IsQueriedFile}
+use Rattle.delaunay_cli.specs.Meshed.{IsReported}
+use Rattle.delaunay_cli.specs.Stepped.{IsStepped}
+use Rattle.delaunay_cli.specs.Meshed.{IsSteppedFile}
 use Rattle.delaunay_cli.proofs.CommandPromises.{carried}
 use Rattle.delaunay_cli.proofs.DrawnFiles.{drawn_asked}
 

@@ -30,9 +30,11 @@ use Rattle.command_pages.specs.Report.{text_of_history}
 use Rattle.command_pages.specs.Files.{IsOfFile, TellsOfBytes}
 use Rattle.delaunay_cli.specs.Parted.{HasNoAlpha, HasNoPart, HasParts, IsAskedAlpha, IsParted, IsPartedFile, PartEnds}
 use Rattle.delaunay_cli.specs.Parted.{TellsAt}
-use Rattle.delaunay_cli.specs.Queried.{IsQueried, QueryEnds}
-use Rattle.delaunay_cli.specs.Reported.{IsReported, ReportEnds}
-use Rattle.delaunay_cli.specs.Stepped.{IsStepped, IsSteppedFile, StepEnds}
+use Rattle.delaunay_cli.specs.Queried.{IsQueried}
+use Rattle.delaunay_cli.specs.Meshed.{QueryEnds}
+use Rattle.delaunay_cli.specs.Meshed.{IsReported, ReportEnds}
+use Rattle.delaunay_cli.specs.Stepped.{IsStepped}
+use Rattle.delaunay_cli.specs.Meshed.{IsSteppedFile, StepEnds}
 use Rattle.command_pages.specs.Run.{IsKept, IsSolidFile, Writes, WritesFront, input_limit}
 use Rattle.command_pages.specs.Statuses.{HasText, IsEarly, IsWrittenWhole}
 use Rattle.command_words.specs.Words.{Checks, Draws, Kind, Parts, Queries, ReadsFile, Reports}

@@ -1,37 +1,15 @@
--- How a run ends, by what was made for its words or by why it stopped, and what it tells.
-use Rattle.std.specs.Prelude.{◌≡◌, ◌≢◌, ◌⊎◌, ◌↔◌, ◌≤◌, ℕ, List, [], Option, Some, String, ⊤}
+-- How a run ends, and what it tells.
+use Rattle.std.specs.Prelude.{◌≡◌, ◌≢◌, ◌↔◌, ◌≤◌, ℕ, List, [], Option, String}
 use Rattle.std.specs.declared.alloc.Global.{Global}
 use Rattle.std.specs.Io.KnownBytes.{Appends, Keeps, IsAtEnd}
 use Rattle.byte_ends.specs.Ends.{AppendsFront, Rose}
 use Rattle.edit_history.specs.declared.history.Entry.{Entry}
 use Rattle.edit_history.specs.Histories.{IsLegal}
-use Rattle.command_words.specs.declared.stop.Stop.{Stop}
-use Rattle.command_words.specs.declared.stop.Stop.TheVariants.{Memory, Usage, WriteFault}
 use Rattle.command_words.specs.Lines.{plain_line}
 use Rattle.command_words.specs.Words.{Kind, ReadsSource, AreWordsTaken}
 use Rattle.command_pages.specs.Run.{ReadsTo}
 use Rattle.command_pages.specs.Statuses.{HasText, IsLineOf, IsWrittenWhole}
 use Rattle.delaunay_cli.specs.Commands.{command_of, command_of_words}
-
--- the words are taken, and this is the history and the text that their command makes
-abbrev pub IsMadeOfWords : List (String Global) → Option (List ℕ) → ℕ → List Entry → List ℕ → Type 0
-IsMadeOfWords words left late h text = AreWordsTaken words × (command_of_words words).makes words left late h text
-
--- why nothing is made, where the source had these bytes left, and by whether it failed
-abbrev pub IsUnmade : List (String Global) → Option (List ℕ) → Type 0 → Stop → Type 0
-IsUnmade words left failed Memory = ⊤
-IsUnmade words left failed Usage = AreWordsTaken words → ⊥
-IsUnmade words left failed stop = AreWordsTaken words × (command_of_words words).makes_none left failed stop
-
--- The end of what was made, with its history: the output gained the text where the run ends with what is told of it,
--- and a front of it, which is not empty, where the output failed. Where memory was wanting the output is as before, and
--- there is no history.
-abbrev pub IsPutOut : Type 0 → Option (List ℕ) → Option (List ℕ) → List ℕ → Option Stop → List Entry → Option Stop
-    → List Entry → Type 0
-IsPutOut failed held holds text after kept stop h =
-    ((stop ≡ after) × (h ≡ kept) × Appends held holds text)
-    ⊎ ((stop ≡ Some WriteFault) × (h ≡ kept) × failed × AppendsFront held holds text × (text ≢ []))
-    ⊎ ((stop ≡ Some Memory) × (h ≡ []) × Keeps held holds)
 
 -- The end of a run: its status and history, by what the source told before and after, what the output held and holds,
 -- and whether each failed. Each status comes exactly with its cause; want of memory (1) alone is free.
@@ -62,3 +40,20 @@ pub record Tells (kind : Kind) (left old new : Option (List ℕ)) (faults_old fa
   pub is_line : IsToldLine kind left status line
   pub front : AppendsFront old new line
   pub whole : (Rose faults_old faults_new → ⊥) → Appends old new line
+
+-- The words of a run, what its source told before and after, what its output held and holds, the counts of faults of
+-- each before and after, its status, the history that it kept, and what `run` ensures of these.
+pub record ARun : Type 0 where
+  pub words : List (String Global)
+  pub left : Option (List ℕ)
+  pub left_after : Option (List ℕ)
+  pub read_faults : ℕ
+  pub read_faults_after : ℕ
+  pub held : Option (List ℕ)
+  pub holds : Option (List ℕ)
+  pub write_faults : ℕ
+  pub write_faults_after : ℕ
+  pub status : ℕ
+  pub kept : List Entry
+  pub ends : Ends words left left_after (Rose read_faults read_faults_after) held holds
+      (Rose write_faults write_faults_after) status kept

@@ -2,9 +2,10 @@ pub mod Reported
 pub mod Stepped
 pub mod Parted
 pub mod Queried
+pub mod Drawn
 pub mod Commands
 pub mod Ends
-pub mod Laws
-pub mod Drawn
 pub mod PlainText
+pub mod Made
+pub mod Meshed
 pub mod MeshLists

@@ -21,7 +21,7 @@ ghost use Rattle.mesh_check.specs.Text.{verdict_text};
 ghost use Rattle.command_pages.specs.Checked.{HasMeshFault, IsTrueMesh, IsMeshWithin};
 ghost use Rattle.command_pages.specs.Run.{file_limits};
 ghost use Rattle.delaunay_cli.specs.Drawn.{drawn_file, drawn_text};
-ghost use Rattle.delaunay_cli.specs.Laws.{ARun};
+ghost use Rattle.delaunay_cli.specs.Ends.{ARun};
 ghost use Rattle.delaunay_cli.specs.Parted.{HasNoAlpha, HasNoPart, IsParted};
 ghost use Rattle.delaunay_cli.specs.PlainText.{plain_drawn, plain_points};
 ghost use Rattle.delaunay_cli.specs.Queried.{IsQueried};

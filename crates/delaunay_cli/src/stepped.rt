@@ -10,7 +10,8 @@ ghost use Rattle.del_laws.specs.Keys.{AreKeys};
 ghost use Rattle.command_pages.specs.Files.{HasNoMesh};
 ghost use Rattle.command_pages.specs.Page.{IsFitToWrite, text_of_page};
 ghost use Rattle.command_pages.specs.Run.{ReadsTo, input_limit};
-ghost use Rattle.delaunay_cli.specs.Stepped.{IsStepped, IsSteppedFile};
+ghost use Rattle.delaunay_cli.specs.Stepped.{IsStepped};
+ghost use Rattle.delaunay_cli.specs.Meshed.{IsSteppedFile};
 ghost use Rattle.command_words.specs.Stops.{status_of_made};
 
 use crate::mesh_of_source::mesh_of_source;

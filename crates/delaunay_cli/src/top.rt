@@ -13,15 +13,13 @@ ghost use Rattle.delaunay_cli.specs.Ends.{Ends, Tells};
 ghost use Rattle.delaunay_cli.specs.PlainText.{plain_text};
 ghost use Rattle.command_pages.specs.Run.{AreDealt, IsSolidFile, Writes, WritesFront, history_of};
 ghost use Rattle.command_pages.specs.Statuses.{HasText};
-ghost use Rattle.command_words.specs.Stops.{line_of_end};
 ghost use Rattle.command_words.specs.Words.{ReadsFile, asks_order};
 ghost use Rattle.command_words.specs.Words.{asks_shape, worker_count, AreWordsTaken, kind_of_words};
 ghost use Rattle.command_words.specs.Words.{Asks, Draws, Queries, Reports, Steps};
 
 use crate::outcome::Run;
-use crate::work::work;
-use byte_ends::{Sink, Source, write_all};
-use command_words::Stop;
+use crate::work::{tell, work};
+use byte_ends::{Sink, Source};
 use grid_claims::Gate;
 use std::alloc::Global;
 use std::thread::Threads;
@@ -108,18 +106,4 @@ pub fn run<R: Threads + Sync, S: Source, O: Sink, E: Sink, G: Gate + Sync>(
     tell(err, &ended.stop);
     let Run { status, kept } = ended.run;
     Run { status, kept }
-}
-
-// Writes the line of the end. A failed write changes nothing else.
-fn tell<E: Sink>(err: &mut E, stop: &Option<Stop>)
-    ensures front { AppendsFront (E.holds err.old) (E.holds err.new) (line_of_end stop.now) }
-    ensures whole { (Rose (E.faults err.old) (E.faults err.new) → ⊥)
-        → Appends (E.holds err.old) (E.holds err.new) (line_of_end stop.now) }
-    ensures later { E.faults err.old ≤ E.faults err.new }
-{
-    let line = match stop {
-        Some(stop) => stop.told().1,
-        None => b"",
-    };
-    let _ = write_all(err, line);
 }

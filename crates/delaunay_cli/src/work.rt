@@ -2,10 +2,11 @@
 
 ghost use Rattle.std.specs.Prelude.{◌≡◌, ◌≤◌, [], Some, IfOk, IfErr, IsOk};
 ghost use Rattle.std.specs.Result.{ForOk};
-ghost use Rattle.std.specs.Io.KnownBytes.{Keeps, IsAtEnd};
-ghost use Rattle.byte_ends.specs.Ends.{Rose};
+ghost use Rattle.std.specs.Io.KnownBytes.{Appends, Keeps, IsAtEnd};
+ghost use Rattle.byte_ends.specs.Ends.{AppendsFront, Rose};
 ghost use Rattle.delaunay_cli.specs.Commands.{command_of_words};
-ghost use Rattle.delaunay_cli.specs.Ends.{Ends, IsMadeOfWords, IsPutOut, IsToldLine, IsUnmade};
+ghost use Rattle.delaunay_cli.specs.Ends.{Ends, IsToldLine};
+ghost use Rattle.delaunay_cli.specs.Made.{IsMadeOfWords, IsPutOut, IsUnmade};
 ghost use Rattle.command_pages.specs.Page.{IsFitToWrite, text_of_page};
 ghost use Rattle.command_pages.specs.Run.{ReadsTo};
 ghost use Rattle.command_words.specs.Stops.{line_of_end, status_of_end, status_of_made};
@@ -18,7 +19,7 @@ use crate::parted::part;
 use crate::queried::query;
 use crate::reported::report;
 use crate::stepped::step;
-use byte_ends::{Sink, Source};
+use byte_ends::{Sink, Source, write_all};
 use command_pages::{Made, check_source, put_page};
 use command_words::{Stop, Task, read_words};
 use edit_history::Entry;
@@ -131,4 +132,18 @@ pub fn work<R: Threads + Sync, S: Source, O: Sink, G: Gate + Sync>(
 {
     let made = make(rt, alloc, words, src, gate);
     end(rt, alloc, made, out)
+}
+
+/// Writes the line of the end. A failed write changes nothing else.
+pub fn tell<E: Sink>(err: &mut E, stop: &Option<Stop>)
+    ensures front { AppendsFront (E.holds err.old) (E.holds err.new) (line_of_end stop.now) }
+    ensures whole { (Rose (E.faults err.old) (E.faults err.new) → ⊥)
+        → Appends (E.holds err.old) (E.holds err.new) (line_of_end stop.now) }
+    ensures later { E.faults err.old ≤ E.faults err.new }
+{
+    let line = match stop {
+        Some(stop) => stop.told().1,
+        None => b"",
+    };
+    let _ = write_all(err, line);
 }
