@@ -1,7 +1,7 @@
 pub mod Admitted
+pub mod Shapes
 pub mod Slots
 pub mod Seen
-pub mod Shapes
 pub mod Condition
 pub mod Judged
 pub mod Leasts

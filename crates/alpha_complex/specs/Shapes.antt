@@ -1,12 +1,10 @@
--- The alpha complex as contracts see it.
+-- The alpha complex of a set.
 use Rattle.std.specs.Prelude.{ℕ, List, [], ◌∷◌, map}
 use Rattle.std.specs.List.{filter}
 use Rattle.point_order.specs.Complex.{complex}
 use Rattle.face_list.specs.Faces.{full_cells, parts_in}
 use Rattle.alpha_complex.specs.declared.shape.Kind.{Kind}
 use Rattle.alpha_complex.specs.Admitted.{is_admitted, kind}
-use Rattle.alpha_complex.specs.Slots.{ShapeSlots}
-use Rattle.list_laws.specs.Lists.{held}
 
 -- admitted faces with their kinds, and the admitted cells
 pub record ShapeParts : Type 0 where
@@ -28,12 +26,3 @@ shape_of s alpha =
       triples = admitted_among s alpha (parts_in 3 (complex s));
       cells = filter (is_admitted s alpha) (full_cells (complex s));
     }
-
--- what a shape says: all its points, and what its slots hold
-abbrev pub shape_seen : ShapeSlots → ShapeParts
-shape_seen shape = record {
-  points = shape.points;
-  pairs = held shape.pairs;
-  triples = held shape.triples;
-  cells = held shape.cells;
-}

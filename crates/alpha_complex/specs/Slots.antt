@@ -3,6 +3,8 @@ use Rattle.std.specs.Prelude.{ℕ, Bool, true, false, List, map, zip, Option, No
 use Rattle.point_order.specs.declared.cell.Cell.{Cell}
 use Rattle.point_order.specs.declared.cell.Cell.TheVariants.{Full, Open}
 use Rattle.alpha_complex.specs.declared.shape.Kind.{Kind}
+use Rattle.alpha_complex.specs.Shapes.{ShapeParts}
+use Rattle.list_laws.specs.Lists.{held}
 
 -- All points with their kinds, a slot for each pair and triple of the complex, with its kind, and one for each cell,
 -- with its points.
@@ -25,3 +27,12 @@ marked_cell (Open t) mark = None
 -- a slot for each cell
 abbrev pub cell_slots_of : List Cell → List Bool → List (Option (List ℕ))
 cell_slots_of cells marks = map (λ c. marked_cell c.0 c.1) (zip cells marks)
+
+-- what a shape says: all its points, and what its slots hold
+abbrev pub shape_seen : ShapeSlots → ShapeParts
+shape_seen shape = record {
+  points = shape.points;
+  pairs = held shape.pairs;
+  triples = held shape.triples;
+  cells = held shape.cells;
+}

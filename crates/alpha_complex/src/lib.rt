@@ -25,7 +25,8 @@
 ghost use Rattle.std.specs.Prelude.{◌≡◌, ◌<◌, ◌^◌, ℕ, List, IfOk};
 ghost use Rattle.alpha_complex.specs.Condition.{AreFaces, AreFacesOf};
 ghost use Rattle.alpha_complex.specs.Leasts.{AreKnown};
-ghost use Rattle.alpha_complex.specs.Shapes.{shape_of, shape_seen};
+ghost use Rattle.alpha_complex.specs.Shapes.{shape_of};
+ghost use Rattle.alpha_complex.specs.Slots.{shape_seen};
 ghost use Rattle.alpha_complex.specs.Told.{TellsFaces};
 
 mod alone;

@@ -11,7 +11,8 @@ ghost use Rattle.alpha_complex.specs.declared.kinds.Part.TheVariants.{Pairs, Tri
 ghost use Rattle.alpha_complex.specs.Kinds.{kind_of, part_kind};
 ghost use Rattle.alpha_complex.specs.Leasts.{AreAlphasOf, AreKnown, AreLeastOf, IsLeastOf, face_at, is_admitted_point};
 ghost use Rattle.alpha_complex.specs.Leasts.{kind_at, kind_where, point_face_at};
-ghost use Rattle.alpha_complex.specs.Shapes.{shape_of, shape_seen};
+ghost use Rattle.alpha_complex.specs.Shapes.{shape_of};
+ghost use Rattle.alpha_complex.specs.Slots.{shape_seen};
 ghost use Rattle.alpha_complex.specs.Told.{TellsFace};
 
 use crate::kinds::{

@@ -6,7 +6,7 @@ ghost use Rattle.std.specs.List.{concat};
 ghost use Rattle.point_order.specs.Sets.{IsAscending};
 ghost use Rattle.std.specs.Io.KnownBytes.{Appends};
 ghost use Rattle.byte_ends.specs.Ends.{HasCause};
-ghost use Rattle.alpha_complex.specs.Shapes.{shape_seen};
+ghost use Rattle.alpha_complex.specs.Slots.{shape_seen};
 ghost use Rattle.list_laws.specs.Lists.{held};
 ghost use Rattle.text_sheets.specs.Lines.{block, held_line};
 ghost use Rattle.text_sheets.specs.Sheets.{Puts};

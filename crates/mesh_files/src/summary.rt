@@ -4,7 +4,7 @@ ghost use Rattle.std.specs.Prelude.{◌≡◌, map, IfOk, OnOk, OnErr};
 ghost use Rattle.std.specs.List.{concat};
 ghost use Rattle.std.specs.Io.KnownBytes.{Appends};
 ghost use Rattle.byte_ends.specs.Ends.{HasCause};
-ghost use Rattle.alpha_complex.specs.Shapes.{shape_seen};
+ghost use Rattle.alpha_complex.specs.Slots.{shape_seen};
 ghost use Rattle.text_sheets.specs.Sheets.{Puts};
 ghost use Rattle.mesh_files.specs.Report.{parts_of, shapes_seen};
 ghost use Rattle.mesh_files.specs.Summary.{replies_with as count_of_word, reply_count_line, mesh_counts, shape_line};
