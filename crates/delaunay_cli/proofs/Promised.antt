@@ -15,8 +15,8 @@ use Rattle.command_pages.specs.Run.{file_limits}
 use Rattle.edit_files.proofs.Cited.{no_fault_of, one_file_of}
 use Rattle.mesh_files.specs.Text.{report_text}
 use Rattle.near_vertex.specs.declared.answers.Near.{Near}
-use Rattle.near_vertex.specs.Answers.{AreNear}
-use Rattle.near_vertex.specs.Text.{near_text}
+use Rattle.near_vertex.specs.Points.{AreNear}
+use Rattle.near_vertex.specs.Points.{near_text}
 use Rattle.plain_laws.specs.Plain.{IsAnchored}
 use Rattle.solid_parts.specs.Parts.{AreSolidParts}
 use Rattle.solid_parts.proofs.Cited.{same_count}

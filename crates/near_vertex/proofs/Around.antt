@@ -13,7 +13,8 @@ use Rattle.del_laws.proofs.Cited.{listed_every_point, listed_inside, listed_is_c
 use Rattle.del_laws.proofs.NearestPoints.{nearest_by_cells}
 use Rattle.cell_store.specs.Buckets.{InHand}
 use Rattle.cell_store.specs.Shares.{Shows}
-use Rattle.near_vertex.specs.Points.{IsFirstOf, IsNearest, ShareACell, IsFirstAround}
+use Rattle.near_vertex.specs.Points.{IsFirstOf, IsNearest}
+use Rattle.near_vertex.specs.Around.{ShareACell, IsFirstAround}
 use Rattle.near_vertex.proofs.Order.{before_self, not_before_chain, one_before}
 
 -- ---- the search

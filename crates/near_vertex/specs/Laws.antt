@@ -4,7 +4,7 @@ use Rattle.list_laws.specs.Lists.{AreDistinct}
 use Rattle.del_laws.specs.Nearest.{comes_before}
 use Rattle.cell_store.specs.Buckets.{InHand}
 use Rattle.cell_store.specs.Shares.{Shows}
-use Rattle.near_vertex.specs.Points.{Nearing}
+use Rattle.near_vertex.specs.Around.{Nearing}
 use Rattle.near_vertex.specs.Turns.{IsNearWalkIn, NearStartGives}
 use Rattle.near_vertex.specs.declared.walk.NearStart.TheVariants.{At}
 

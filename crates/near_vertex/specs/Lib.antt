@@ -1,5 +1,4 @@
 pub mod Points
+pub mod Around
 pub mod Turns
 pub mod Laws
-pub mod Answers
-pub mod Text

@@ -4,7 +4,7 @@ ghost use Rattle.std.specs.Prelude.{◌≡◌, ℕ, List, pos, IfOk};
 ghost use Rattle.point_order.specs.Orientation.{distance};
 ghost use Rattle.cell_store.specs.Meshes.{IsWhole};
 ghost use Rattle.cell_store.specs.Shares.{Shows, ShowsSome};
-ghost use Rattle.near_vertex.specs.Answers.{AreNear, IsNear};
+ghost use Rattle.near_vertex.specs.Points.{AreNear, IsNear};
 
 use crate::search::square_from;
 use crate::walk::nearest;

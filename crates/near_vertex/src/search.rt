@@ -11,7 +11,8 @@ ghost use Rattle.cell_store.specs.Grids.{bucket_of};
 ghost use Rattle.cell_store.specs.Meshes.{IsWhole};
 ghost use Rattle.cell_store.specs.Shares.{Shows, ShowsSome};
 ghost use Rattle.cell_walk.specs.Turns.{IsFirstMissing};
-ghost use Rattle.near_vertex.specs.Points.{IsFirstOf, IsFirstAround};
+ghost use Rattle.near_vertex.specs.Points.{IsFirstOf};
+ghost use Rattle.near_vertex.specs.Around.{IsFirstAround};
 ghost use Rattle.near_vertex.specs.Turns.{HasNoPoint, IsLeastOfLowest, LeastIs};
 
 use cell_store::Hold;

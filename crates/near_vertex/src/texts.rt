@@ -6,7 +6,7 @@ ghost use Rattle.byte_ends.specs.Ends.{AppendsFront, HasCause, Rose};
 ghost use Rattle.point_order.specs.Sets.{IsAscending};
 ghost use Rattle.text_sheets.specs.Lines.{block};
 ghost use Rattle.text_sheets.specs.Sheets.{Puts};
-ghost use Rattle.near_vertex.specs.Text.{near_line, near_text};
+ghost use Rattle.near_vertex.specs.Points.{near_line, near_text};
 
 use crate::answers::Near;
 use byte_ends::{Failed, Sink};

@@ -21,7 +21,7 @@ pub struct NearWalk {
 }
 
 impl Model for NearWalk {
-    ghost use Rattle.near_vertex.specs.Points.{Nearing};
+    ghost use Rattle.near_vertex.specs.Around.{Nearing};
 
     ghost Value = { Nearing };
 

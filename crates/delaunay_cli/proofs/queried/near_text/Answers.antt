@@ -3,7 +3,7 @@ use Rattle.edit_history.specs.Histories.{replay}
 use Rattle.cell_store.proofs.Cited.{shows_of}
 use Rattle.text_sheets.specs.Pages.{Grown}
 use Rattle.near_vertex.specs.declared.answers.Near.{Near}
-use Rattle.near_vertex.specs.Text.{near_text}
+use Rattle.near_vertex.specs.Points.{near_text}
 use Rattle.delaunay_cli.proofs.queried.near_text.Goals as goal
 
 pub returns-in-Ok : goal.returns-in-Ok

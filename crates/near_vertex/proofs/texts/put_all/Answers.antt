@@ -1,5 +1,5 @@
 use Rattle.text_sheets.proofs.Cited.{then}
-use Rattle.near_vertex.specs.Text.{near_text}
+use Rattle.near_vertex.specs.Points.{near_text}
 use Rattle.near_vertex.proofs.texts.put_all.Goals as goal
 
 pub returns : goal.returns
