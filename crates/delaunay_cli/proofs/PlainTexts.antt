@@ -10,7 +10,8 @@ use Rattle.edit_files.specs.Content.{Content}
 use Rattle.edit_files.proofs.Cited.{generated_anchored}
 use Rattle.edit_files.specs.Writing.{file_text}
 use Rattle.mesh_files.specs.Summary.{summary_text}
-use Rattle.plain_laws.specs.Plain.{IsAnchored, IsPlain}
+use Rattle.plain_laws.specs.Plain.{IsAnchored}
+use Rattle.plain_laws.specs.Laws.{IsPlain}
 use Rattle.plain_laws.proofs.Cited.{anchored_is_plain}
 use Rattle.delaunay_cli.specs.Drawn.{IsKeptOfDrawn, drawn_file, drawn_text}
 use Rattle.delaunay_cli.specs.PlainText.{plain_drawn, plain_report}

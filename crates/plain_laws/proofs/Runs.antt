@@ -28,7 +28,8 @@ use Rattle.list_laws.proofs.Cited.{same_filter, same_true}
 use Rattle.point_order.specs.Coordinates.{x_of, y_of, z_of}
 use Rattle.point_order.specs.Orientation.{x_from, y_from, z_from, minor, triple, orientation, normal_x, normal_y}
 use Rattle.point_order.specs.Orientation.{normal_z}
-use Rattle.plain_laws.specs.Plain.{IsAnchored, SomeFileIsAnchored, all_edits}
+use Rattle.plain_laws.specs.Plain.{IsAnchored, all_edits}
+use Rattle.plain_laws.specs.Laws.{SomeFileIsAnchored}
 use Rattle.plain_laws.specs.Running.{Pair, segments, dealt_to, dealt_out, dealt, opening_entries, IsRun, AreRuns}
 use Rattle.plain_laws.specs.Running.{RunKeeps, RunAlone}
 use Rattle.plain_laws.proofs.Segments.{segments_keep}

@@ -10,7 +10,8 @@ use Rattle.edit_history.specs.declared.history.Edit.{Edit}
 use Rattle.edit_history.specs.declared.history.Edit.TheVariants.{Add, Take, Move}
 use Rattle.edit_history.specs.Edits.{point_of, is_move}
 use Rattle.std.proofs.Common.{inl, inr}
-use Rattle.plain_laws.specs.Plain.{ThereByLast, is_add, there_after, there_from}
+use Rattle.plain_laws.specs.Plain.{there_after, there_from}
+use Rattle.plain_laws.specs.Laws.{ThereByLast, is_add}
 
 -- the line is of the point
 abbrev is_of : ℕ → Edit → Bool

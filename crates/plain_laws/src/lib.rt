@@ -4,7 +4,7 @@
 //! lines that are dealt to workers.
 #![tactic(auto)]
 
-ghost use Rattle.plain_laws.specs.Plain.{AnchoredIsPlain, SomeFileIsAnchored, ThereByLast};
+ghost use Rattle.plain_laws.specs.Laws.{AnchoredIsPlain, SomeFileIsAnchored, ThereByLast};
 ghost use Rattle.plain_laws.specs.Running.{OneSegment, RunAlone, RunBehindAlone, RunBehindKeeps, RunKeeps};
 ghost use Rattle.plain_laws.specs.Running.{SegmentsApart, SegmentsKeepLines};
 
