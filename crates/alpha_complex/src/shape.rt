@@ -1,8 +1,7 @@
 //! The faces of an alpha complex.
 
 ghost use Rattle.std.specs.Prelude.{◌≡◌, ◌<◌, None, count_by, is_some, length, map, option_map, slice_index_or, zip};
-ghost use Rattle.alpha_complex.specs.Slots.{shape_seen};
-ghost use Rattle.alpha_complex.specs.Slots.{cell_slots_of, marked_cell, slots_of};
+ghost use Rattle.alpha_complex.specs.Slots.{shape_seen, cell_slots_of, marked_cell, slots_of};
 
 use face_list::Faces;
 use point_order::{Cell, Pair, Point, Quad, Tri};

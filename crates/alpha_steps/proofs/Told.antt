@@ -23,10 +23,8 @@ use Rattle.list_laws.specs.Lists.{held}
 use Rattle.alpha_steps.specs.declared.threshold.Threshold.{Threshold}
 use Rattle.alpha_steps.specs.declared.threshold.Threshold.TheVariants.{At, Never}
 use Rattle.alpha_steps.specs.declared.steps.Thresholds.TheInside.{Inside}
-use Rattle.alpha_steps.specs.Seen.{AreAsMany, cell_steps_of, step_of_cell, steps_of, steps_seen}
-use Rattle.alpha_steps.specs.Thresholds.{StepSlots}
-use Rattle.alpha_steps.specs.Seen.{threshold_of}
-use Rattle.alpha_steps.specs.Thresholds.{AreThresholds, IsStep}
+use Rattle.alpha_steps.specs.Seen.{AreAsMany, cell_steps_of, step_of_cell, steps_of, steps_seen, threshold_of}
+use Rattle.alpha_steps.specs.Thresholds.{StepSlots, AreThresholds, IsStep}
 use Rattle.alpha_complex.proofs.Cited.{firsts_are as faces_are, zip_count}
 
 -- ---- lists of the same length

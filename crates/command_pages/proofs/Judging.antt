@@ -3,19 +3,16 @@ use Rattle.std.proofs.Common.{◌≡◌, refl, subst, ap, ◌∙◌, ℕ, ◌+�
 use Rattle.std.specs.Prelude.{Option, None, Some, IfSome, IfErr, IfOk, Result, Ok, Err}
 use Rattle.std.specs.List.{AllByRecursion}
 use Rattle.edit_files.proofs.Cited.{file_is_within}
-use Rattle.edit_files.specs.Content.{Content}
+use Rattle.edit_files.specs.Content.{Content, row}
 use Rattle.edit_files.specs.Held.{content}
 use Rattle.edit_files.specs.declared.file.File.{File}
 use Rattle.edit_files.specs.Grammar.{IsFile, Limits}
-use Rattle.edit_files.specs.Content.{row}
-use Rattle.command_pages.specs.Reading.{AreRadii}
-use Rattle.command_pages.specs.Run.{file_limits}
+use Rattle.command_pages.specs.Reading.{AreRadii, IsFileOf, IsFileWithin}
+use Rattle.command_pages.specs.Run.{file_limits, ReadsTo, input_limit}
 use Rattle.edit_files.specs.Faults.{IsFault}
 use Rattle.command_words.specs.declared.stop.Stop.{Stop}
 use Rattle.command_words.specs.declared.stop.Stop.TheVariants.{Memory, BadLine, Flat, TooLong}
 use Rattle.command_pages.specs.Files.{HasNoMesh, IsFlatFile}
-use Rattle.command_pages.specs.Reading.{IsFileOf, IsFileWithin}
-use Rattle.command_pages.specs.Run.{ReadsTo, input_limit}
 use Rattle.std.proofs.lemmas.List.Elements.{All-cons}
 use Rattle.std.proofs.lemmas.List.{length-append}
 use Rattle.std.specs.Io.KnownBytes.{IsAtEnd}

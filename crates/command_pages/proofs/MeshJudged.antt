@@ -7,8 +7,7 @@ use Rattle.mesh_reader.specs.Order.{IsInOrder}
 use Rattle.mesh_check.specs.declared.flaw.Verdict.{Verdict}
 use Rattle.mesh_check.specs.declared.flaw.Verdict.TheVariants.{Good, Bad}
 use Rattle.mesh_check.specs.Flaws.{as_cells}
-use Rattle.mesh_check.specs.Laws.{AreCells}
-use Rattle.mesh_check.specs.Laws.{IsTold}
+use Rattle.mesh_check.specs.Laws.{AreCells, IsTold}
 use Rattle.mesh_check.proofs.Cited.{cells_listed}
 use Rattle.command_pages.specs.Checked.{IsChecked, IsJudged, TellsVerdict, status_of_verdict}
 use Rattle.command_pages.specs.Run.{mesh_limit}

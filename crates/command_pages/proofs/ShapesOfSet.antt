@@ -7,8 +7,7 @@ use Rattle.point_order.specs.Sets.{IsIn, IsAscending}
 use Rattle.alpha_complex.specs.declared.shape.Kind.{Kind}
 use Rattle.alpha_complex.specs.Admitted.{kind}
 use Rattle.alpha_complex.specs.Shapes.{ShapeParts, shape_of}
-use Rattle.alpha_complex.specs.Slots.{shape_seen}
-use Rattle.alpha_complex.specs.Slots.{ShapeSlots}
+use Rattle.alpha_complex.specs.Slots.{shape_seen, ShapeSlots}
 use Rattle.mesh_files.specs.Report.{AreCountedInOrder, shapes_seen}
 use Rattle.mesh_files.specs.Text.{counted_points}
 use Rattle.edit_files.specs.Content.{alpha_of}

@@ -5,8 +5,7 @@ use Rattle.text_readings.specs.declared.fault.Fault.{Fault}
 use Rattle.mesh_reader.specs.Faults.{IsMeshFault}
 use Rattle.mesh_reader.specs.Grammar.{IsMeshText, MeshParts}
 use Rattle.mesh_check.specs.declared.flaw.Verdict.{Verdict}
-use Rattle.mesh_check.specs.Flaws.{IsVerdict, as_cells}
-use Rattle.mesh_check.specs.Flaws.{IsComplex}
+use Rattle.mesh_check.specs.Flaws.{IsVerdict, as_cells, IsComplex}
 use Rattle.mesh_check.specs.Text.{is_good, verdict_text}
 use Rattle.command_words.specs.declared.stop.Stop.{Stop}
 use Rattle.command_words.specs.declared.stop.Stop.TheVariants.{Memory, ReadFault, BadLine, TooLong}

@@ -4,8 +4,7 @@ use Rattle.point_order.specs.Complex.{complex}
 use Rattle.edit_history.specs.declared.history.Entry.{Entry}
 use Rattle.edit_history.specs.Histories.{replay}
 use Rattle.plain_laws.specs.Plain.{replies_by_tag}
-use Rattle.edit_files.specs.Content.{Content}
-use Rattle.edit_files.specs.Content.{alpha_of}
+use Rattle.edit_files.specs.Content.{Content, alpha_of}
 use Rattle.edit_files.specs.declared.version.Version.{Version}
 use Rattle.alpha_complex.specs.Shapes.{ShapeParts, shape_of}
 use Rattle.mesh_files.specs.Text.{ReportParts, report_text}

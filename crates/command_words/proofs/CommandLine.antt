@@ -17,13 +17,11 @@ use Rattle.clap.specs.declared.error.kind.ErrorKind.{ErrorKind}
 use Rattle.clap.specs.declared.error.kind.ErrorKind.TheVariants.{OutOfMemory}
 use Rattle.clap.proofs.OnLiterals.{clap_on_literals}
 use Rattle.cell_store.specs.Grids.{is_grid_size}
-use Rattle.command_words.specs.Words.{Checks, Kind, Parts, Queries, Reports, Steps}
-use Rattle.command_words.specs.Words.{asked_alpha, asked_index}
+use Rattle.command_words.specs.Words.{Checks, Kind, Parts, Queries, Reports, Steps, asked_alpha, asked_index}
 use Rattle.command_words.specs.Words.{asked_most, asks_order, asks_shape, asks_text, drawn_count, drawn_start, flag_in}
 use Rattle.command_words.specs.Words.{given_in, given_of, grid_size, has_flag, is_command, kind_met, kind_of_words}
 use Rattle.command_words.specs.Words.{most_alpha, most_grid, most_index, most_workers, number_between, number_in}
-use Rattle.command_words.specs.Words.{number_of, program, worker_count, texts_of, AreWordsTaken}
-use Rattle.command_words.specs.Words.{Asks, Draws, Say}
+use Rattle.command_words.specs.Words.{number_of, program, worker_count, texts_of, AreWordsTaken, Asks, Draws, Say}
 use Rattle.command_words.specs.Tasks.{IsTask, IsTaskOf}
 use Rattle.command_words.specs.declared.task.Asked.{Asked}
 use Rattle.command_words.specs.declared.task.Drawn.{Drawn}

@@ -21,13 +21,11 @@ use Rattle.clap.specs.declared.builder.value_parser.ValueParser.TheVariants.{Sig
 use Rattle.std.proofs.lemmas.Bool.Decides.{nat_tests}
 use Rattle.text_readings.proofs.Cited.{no_minus}
 use Rattle.cell_store.specs.Grids.{is_grid_size}
-use Rattle.command_words.specs.Words.{Draws, Kind, Parts}
-use Rattle.command_words.specs.Words.{Queries, Reports, Steps, asked_alpha, asked_index, asked_most}
+use Rattle.command_words.specs.Words.{Draws, Kind, Parts, Queries, Reports, Steps, asked_alpha, asked_index, asked_most}
 use Rattle.command_words.specs.Words.{asks_shape, asks_text, drawn_count, drawn_start, given_of, grid_size, has_flag}
-use Rattle.command_words.specs.Words.{is_command, kind_met, kind_of_words, most_alpha, most_grid}
-use Rattle.command_words.specs.Words.{most_index, most_start, most_workers, number_between, number_of, program}
-use Rattle.command_words.specs.Words.{texts_of, worker_count, AreWordsTaken}
-use Rattle.command_words.specs.Words.{Asks, Say, gen_line, meshing_line, parts_line}
+use Rattle.command_words.specs.Words.{is_command, kind_met, kind_of_words, most_alpha, most_grid, most_index}
+use Rattle.command_words.specs.Words.{most_start, most_workers, number_between, number_of, program, texts_of}
+use Rattle.command_words.specs.Words.{worker_count, AreWordsTaken, Asks, Say, gen_line, meshing_line, parts_line}
 use Rattle.edit_files.specs.Generator.{most_edits}
 
 -- ---- the decimal text of a number

@@ -7,8 +7,8 @@ use Rattle.command_words.specs.declared.task.Making.{Making}
 use Rattle.command_words.specs.declared.task.Task.{Task}
 use Rattle.command_words.specs.declared.task.Task.TheVariants.{Report, Step, Part, Query, Check, Draw}
 use Rattle.command_words.specs.Words.{Checks, Draws, Parts, Queries, Reports, Steps, given_of, has_flag, is_command}
-use Rattle.command_words.specs.Words.{kind_met, most_alpha, most_grid, most_index, most_start, most_workers}
-use Rattle.command_words.specs.Words.{number_of, program, texts_of}
+use Rattle.command_words.specs.Words.{kind_met, most_alpha, most_grid, most_index, most_start, most_workers, number_of}
+use Rattle.command_words.specs.Words.{program, texts_of}
 
 -- the workers and the grid of the command that was met, by its matches
 pub record IsMakingOf (met : Option (Text × List Row)) (making : Making) : Type 0 where

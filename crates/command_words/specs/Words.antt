@@ -1,6 +1,6 @@
 -- The command line, as `clap` reads it.
-use Rattle.std.specs.Prelude.{◌≡◌, ◌≢◌, ℕ, List, [], ◌∷◌, ◌++◌, Bool, true, false, pos, Option, None, Some, codes}
-use Rattle.std.specs.Prelude.{map, decimal, string_bytes, String, if◌then◌else◌}
+use Rattle.std.specs.Prelude.{◌≡◌, ◌≢◌, ℕ, List, [], ◌∷◌, ◌++◌, Bool, true, false, pos, Option, None, Some, codes, map}
+use Rattle.std.specs.Prelude.{decimal, string_bytes, String, if◌then◌else◌}
 use Rattle.std.specs.Option.{option_map, option_map_or}
 use Rattle.std.specs.Str.{bytes_eq}
 use Rattle.std.specs.Str.Parse.{digits_value, without_leading_plus}

@@ -14,12 +14,9 @@ use Rattle.delaunay_cli.specs.Ends.{Ends}
 use Rattle.delaunay_cli.specs.Parted.{IsParted}
 use Rattle.delaunay_cli.specs.PlainText.{plain_points}
 use Rattle.delaunay_cli.specs.Queried.{IsQueried}
-use Rattle.command_pages.specs.Run.{IsKept}
+use Rattle.command_pages.specs.Run.{IsKept, file_limits}
 use Rattle.delaunay_cli.specs.Stepped.{IsStepped}
-use Rattle.command_pages.specs.Run.{file_limits}
-use Rattle.command_words.specs.Words.{asked_alpha, asked_index, asked_most}
-use Rattle.command_words.specs.Words.{worker_count}
-use Rattle.command_words.specs.Words.{Asks, Parts, Queries, Steps}
+use Rattle.command_words.specs.Words.{asked_alpha, asked_index, asked_most, worker_count, Asks, Parts, Queries, Steps}
 use Rattle.delaunay_cli.proofs.Promised.{of_near, of_one, of_parts, of_steps}
 
 module _ {words : List (String Global)} {left left_after : Option (List ℕ)} {read_failed : Type 0}

@@ -20,8 +20,7 @@ use Rattle.command_pages.specs.Checked.{status_of_verdict}
 use Rattle.delaunay_cli.specs.Ends.{Ends}
 use Rattle.command_pages.specs.Run.{mesh_limit}
 use Rattle.command_pages.specs.Statuses.{IsEarly, IsWrittenWhole}
-use Rattle.command_words.specs.Words.{AreWordsTaken}
-use Rattle.command_words.specs.Words.{Asks, Checks}
+use Rattle.command_words.specs.Words.{AreWordsTaken, Asks, Checks}
 use Rattle.command_pages.proofs.Cited.{cells_of}
 use Rattle.delaunay_cli.proofs.Promised.{of_check}
 

@@ -21,8 +21,7 @@ use Rattle.command_words.specs.declared.task.Drawn.{Drawn}
 use Rattle.command_words.specs.declared.task.Making.{Making}
 use Rattle.delaunay_cli.specs.Drawn.{IsDrawn, IsKeptOfDrawn, drawn_file}
 use Rattle.command_pages.specs.Run.{IsKept}
-use Rattle.command_words.specs.Words.{asks_text, drawn_count, drawn_start, worker_count}
-use Rattle.command_words.specs.Words.{Asks, Draws}
+use Rattle.command_words.specs.Words.{asks_text, drawn_count, drawn_start, worker_count, Asks, Draws}
 
 -- a drawn file of at most 262,140 edits has fewer than 2^32 lines
 pub drawn_lines : (f : Content) (count start : ℕ) → count ≤ 262140 → f ≡ generated count start →

@@ -12,8 +12,7 @@ use Rattle.command_words.specs.declared.stop.Stop.{Stop}
 use Rattle.command_pages.specs.Files.{HasNoMesh, IsFlatFile}
 use Rattle.command_pages.specs.Reading.{IsFileOf, IsFileWithin}
 use Rattle.command_pages.specs.Page.{report_of_parts}
-use Rattle.delaunay_cli.specs.Meshed.{IsAnswered, IsQueriedFile}
-use Rattle.delaunay_cli.specs.Meshed.{IsMeshed, IsReportOf, IsUnmeshed}
+use Rattle.delaunay_cli.specs.Meshed.{IsAnswered, IsQueriedFile, IsMeshed, IsReportOf, IsUnmeshed}
 use Rattle.command_pages.proofs.Cited.{if_told}
 
 module _ (left : Option (List ℕ)) (file : Content) (f : IsFileOf left file) where

@@ -14,11 +14,9 @@ use Rattle.command_words.specs.declared.task.Wanted.{Wanted}
 use Rattle.command_words.specs.declared.task.Task.TheVariants.{Report, Step, Part, Query, Draw}
 use Rattle.command_words.specs.Stops.{status_of_end}
 use Rattle.command_words.specs.Tasks.{IsTask}
-use Rattle.command_words.specs.Words.{Checks, Draws, Kind, Parts, Queries, ReadsFile, ReadsSource, Reports}
-use Rattle.command_words.specs.Words.{Steps, asked_alpha}
-use Rattle.command_words.specs.Words.{asked_index, asked_most, asks_order, asks_shape, AreWordsTaken}
-use Rattle.command_words.specs.Words.{kind_of_words, worker_count}
-use Rattle.command_words.specs.Words.{Asks}
+use Rattle.command_words.specs.Words.{Checks, Draws, Kind, Parts, Queries, ReadsFile, ReadsSource, Reports, Steps}
+use Rattle.command_words.specs.Words.{asked_alpha, asked_index, asked_most, asks_order, asks_shape, AreWordsTaken}
+use Rattle.command_words.specs.Words.{kind_of_words, worker_count, Asks}
 use Rattle.command_words.proofs.Cited.{draw_task, part_task, query_task, report_task, step_task}
 use Rattle.command_pages.specs.declared.made.Made.{Made}
 use Rattle.command_pages.specs.Checked.{IsChecked, TellsVerdict}
@@ -32,10 +30,8 @@ use Rattle.delaunay_cli.specs.Drawn.{IsDrawn}
 use Rattle.delaunay_cli.specs.Made.{IsMadeOfWords, IsUnmade}
 use Rattle.delaunay_cli.specs.Parted.{IsPartedFile, TellsParts}
 use Rattle.delaunay_cli.specs.Queried.{IsQueried}
-use Rattle.delaunay_cli.specs.Meshed.{IsQueriedFile}
-use Rattle.delaunay_cli.specs.Meshed.{IsReported}
+use Rattle.delaunay_cli.specs.Meshed.{IsQueriedFile, IsReported, IsSteppedFile}
 use Rattle.delaunay_cli.specs.Stepped.{IsStepped}
-use Rattle.delaunay_cli.specs.Meshed.{IsSteppedFile}
 use Rattle.delaunay_cli.proofs.CommandPromises.{carried}
 use Rattle.delaunay_cli.proofs.DrawnFiles.{drawn_asked}
 

@@ -11,12 +11,11 @@ use Rattle.list_laws.proofs.Cited.{if_some}
 use Rattle.byte_ends.specs.Ends.{AppendsFront}
 use Rattle.edit_files.specs.Content.{Content}
 use Rattle.edit_files.specs.Grammar.{IsFile}
-use Rattle.command_pages.specs.Run.{file_limits}
+use Rattle.command_pages.specs.Run.{file_limits, IsKept, IsSolidFile, Writes, WritesFront, input_limit}
 use Rattle.edit_files.proofs.Cited.{no_fault_of, one_file_of}
 use Rattle.mesh_files.specs.Text.{report_text}
 use Rattle.near_vertex.specs.declared.answers.Near.{Near}
-use Rattle.near_vertex.specs.Points.{AreNear}
-use Rattle.near_vertex.specs.Points.{near_text}
+use Rattle.near_vertex.specs.Points.{AreNear, near_text}
 use Rattle.plain_laws.specs.Plain.{IsAnchored}
 use Rattle.solid_parts.specs.Parts.{AreSolidParts}
 use Rattle.solid_parts.proofs.Cited.{same_count}
@@ -31,17 +30,12 @@ use Rattle.command_pages.specs.Files.{IsOfFile, TellsOfBytes}
 use Rattle.delaunay_cli.specs.Parted.{HasNoAlpha, HasNoPart, HasParts, IsAskedAlpha, IsParted, IsPartedFile, PartEnds}
 use Rattle.delaunay_cli.specs.Parted.{TellsAt}
 use Rattle.delaunay_cli.specs.Queried.{IsQueried}
-use Rattle.delaunay_cli.specs.Meshed.{QueryEnds}
-use Rattle.delaunay_cli.specs.Meshed.{IsReported, ReportEnds}
+use Rattle.delaunay_cli.specs.Meshed.{QueryEnds, IsReported, ReportEnds, IsSteppedFile, StepEnds}
 use Rattle.delaunay_cli.specs.Stepped.{IsStepped}
-use Rattle.delaunay_cli.specs.Meshed.{IsSteppedFile, StepEnds}
-use Rattle.command_pages.specs.Run.{IsKept, IsSolidFile, Writes, WritesFront, input_limit}
 use Rattle.command_pages.specs.Statuses.{HasText, IsEarly, IsWrittenWhole}
-use Rattle.command_words.specs.Words.{Checks, Draws, Kind, Parts, Queries, ReadsFile, Reports}
-use Rattle.command_words.specs.Words.{Steps, asked_alpha}
+use Rattle.command_words.specs.Words.{Checks, Draws, Kind, Parts, Queries, ReadsFile, Reports, Steps, asked_alpha}
 use Rattle.command_words.specs.Words.{asked_index, asked_most, asks_order, asks_shape, asks_text, worker_count}
-use Rattle.command_words.specs.Words.{AreWordsTaken, kind_of_words}
-use Rattle.command_words.specs.Words.{Asks}
+use Rattle.command_words.specs.Words.{AreWordsTaken, kind_of_words, Asks}
 use Rattle.delaunay_cli.proofs.CommandPromises.{of_bytes}
 use Rattle.delaunay_cli.proofs.MadeAsAsked.{reading}
 use Rattle.delaunay_cli.proofs.TextStatuses.{has_text, stopped_only}

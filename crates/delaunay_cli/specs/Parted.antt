@@ -13,9 +13,8 @@ use Rattle.edit_files.specs.Faults.{IsFault}
 use Rattle.command_words.specs.Words.{asked_alpha, asked_index, asked_most, worker_count}
 use Rattle.command_pages.specs.Command.{Command}
 use Rattle.command_pages.specs.Files.{HasNoMesh, IsOfFile, TellsOfBytes}
-use Rattle.command_pages.specs.Run.{input_limit}
+use Rattle.command_pages.specs.Run.{input_limit, file_limits}
 use Rattle.command_pages.specs.Statuses.{IsEarly, IsWrittenWhole}
-use Rattle.command_pages.specs.Run.{file_limits}
 
 -- The alpha at which the parts are taken: the one that is given, and where a most of parts above 0 is asked for, the
 -- least at which every point is in an admitted cell and there are at most so many; then there may be none.

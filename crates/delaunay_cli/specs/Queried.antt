@@ -2,8 +2,7 @@
 use Rattle.std.specs.Prelude.{◌≡◌, ℕ, List}
 use Rattle.edit_history.specs.Histories.{replay}
 use Rattle.near_vertex.specs.declared.answers.Near.{Near}
-use Rattle.near_vertex.specs.Points.{AreNear}
-use Rattle.near_vertex.specs.Points.{near_text}
+use Rattle.near_vertex.specs.Points.{AreNear, near_text}
 use Rattle.command_pages.specs.Command.{Command}
 use Rattle.command_pages.specs.Files.{of_file}
 

@@ -8,8 +8,7 @@ ghost use Rattle.edit_files.specs.Held.{content};
 ghost use Rattle.command_pages.specs.Files.{HasNoMesh};
 ghost use Rattle.command_pages.specs.Page.{IsFitToWrite, text_of_page};
 ghost use Rattle.delaunay_cli.specs.Queried.{IsQueried};
-ghost use Rattle.delaunay_cli.specs.Meshed.{IsAnswered, IsQueriedFile};
-ghost use Rattle.delaunay_cli.specs.Meshed.{IsUnmeshed};
+ghost use Rattle.delaunay_cli.specs.Meshed.{IsAnswered, IsQueriedFile, IsUnmeshed};
 ghost use Rattle.command_pages.specs.Run.{ReadsTo, input_limit};
 ghost use Rattle.command_words.specs.Stops.{status_of_made};
 

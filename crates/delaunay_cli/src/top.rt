@@ -7,15 +7,13 @@ ghost use Rattle.edit_history.specs.Histories.{IsLegal};
 ghost use Rattle.edit_history.specs.OneThread.{Keeps as FileKeeps};
 ghost use Rattle.edit_files.specs.Content.{Content};
 ghost use Rattle.edit_files.specs.Grammar.{IsFile};
-ghost use Rattle.command_pages.specs.Run.{file_limits};
+ghost use Rattle.command_pages.specs.Run.{file_limits, AreDealt, IsSolidFile, Writes, WritesFront, history_of};
 ghost use Rattle.plain_laws.specs.Plain.{IsAnchored};
 ghost use Rattle.delaunay_cli.specs.Ends.{Ends, Tells};
 ghost use Rattle.delaunay_cli.specs.PlainText.{plain_text};
-ghost use Rattle.command_pages.specs.Run.{AreDealt, IsSolidFile, Writes, WritesFront, history_of};
 ghost use Rattle.command_pages.specs.Statuses.{HasText};
-ghost use Rattle.command_words.specs.Words.{ReadsFile, asks_order};
-ghost use Rattle.command_words.specs.Words.{asks_shape, worker_count, AreWordsTaken, kind_of_words};
-ghost use Rattle.command_words.specs.Words.{Asks, Draws, Queries, Reports, Steps};
+ghost use Rattle.command_words.specs.Words.{ReadsFile, asks_order, asks_shape, worker_count, AreWordsTaken};
+ghost use Rattle.command_words.specs.Words.{kind_of_words, Asks, Draws, Queries, Reports, Steps};
 
 use crate::outcome::Run;
 use crate::work::{tell, work};

@@ -10,8 +10,7 @@ ghost use Rattle.delaunay_cli.specs.Made.{IsMadeOfWords, IsPutOut, IsUnmade};
 ghost use Rattle.command_pages.specs.Page.{IsFitToWrite, text_of_page};
 ghost use Rattle.command_pages.specs.Run.{ReadsTo};
 ghost use Rattle.command_words.specs.Stops.{line_of_end, status_of_end, status_of_made};
-ghost use Rattle.command_words.specs.Words.{ReadsSource, kind_of_words};
-ghost use Rattle.command_words.specs.Words.{Asks, Draws};
+ghost use Rattle.command_words.specs.Words.{ReadsSource, kind_of_words, Asks, Draws};
 
 use crate::drawn::draw;
 use crate::outcome::Run;

@@ -10,8 +10,7 @@ use Rattle.edit_history.specs.declared.history.Edit.TheVariants.{Add, Take, Move
 use Rattle.text_readings.specs.declared.fault.Why.{Why}
 use Rattle.text_readings.specs.declared.fault.Why.TheVariants.{Section, Field, Range, TooMany, Truncated}
 use Rattle.text_readings.specs.Judging.{then_at}
-use Rattle.text_readings.specs.PointLines.{IsNumber}
-use Rattle.text_readings.specs.PointLines.{HasPointForm, IsPointLine}
+use Rattle.text_readings.specs.PointLines.{IsNumber, HasPointForm, IsPointLine}
 use Rattle.text_readings.specs.Scanning.{point}
 use Rattle.text_readings.proofs.Cited.{Decides, err_one, off_form, off_range, ok_err, ok_one, point_form}
 use Rattle.text_readings.proofs.Cited.{points_decided, takes, then_err, then_ok, word_err, word_is, word_not, word_ok}
@@ -21,14 +20,11 @@ use Rattle.edit_files.specs.declared.place.Due.{Due}
 use Rattle.edit_files.specs.declared.place.Due.TheVariants.{Title, Heading, Body, Nothing}
 use Rattle.edit_files.specs.declared.version.Version.{Version}
 use Rattle.edit_files.specs.declared.version.Version.TheVariants.{One, Two, Three, Four}
-use Rattle.edit_files.specs.Content.{Content}
+use Rattle.edit_files.specs.Content.{Content, row}
 use Rattle.edit_files.specs.Faults.{IsReason, is_word}
-use Rattle.edit_files.specs.Grammar.{HasEditForm, IsEditLine, IsRadiusLine}
-use Rattle.edit_files.specs.Grammar.{HasFormOf, IsTaken, IsWithinNewest, Leads, Limits, Reached, due_behind, lines_in}
-use Rattle.edit_files.specs.Grammar.{most_of, word_behind}
-use Rattle.edit_files.specs.Judging.{after_line, edit, is_full, radius, step_at, taken, with_title}
-use Rattle.edit_files.specs.Content.{row}
-use Rattle.edit_files.specs.Judging.{titled}
+use Rattle.edit_files.specs.Grammar.{HasEditForm, IsEditLine, IsRadiusLine, HasFormOf, IsTaken, IsWithinNewest, Leads}
+use Rattle.edit_files.specs.Grammar.{Limits, Reached, due_behind, lines_in, most_of, word_behind}
+use Rattle.edit_files.specs.Judging.{after_line, edit, is_full, radius, step_at, taken, with_title, titled}
 use Rattle.edit_files.proofs.DecidedEdits.{edits_decided, radii_decided}
 use Rattle.edit_files.proofs.Words.{none_behind, none_word, not_behind, taken_none}
 

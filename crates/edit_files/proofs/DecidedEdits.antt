@@ -11,8 +11,7 @@ use Rattle.text_readings.specs.declared.fault.Why.TheVariants.{Field, Range}
 use Rattle.edit_files.specs.declared.version.Version.{Version}
 use Rattle.edit_files.specs.declared.version.Version.TheVariants.{One, Two, Three, Four}
 use Rattle.edit_files.specs.Content.{row}
-use Rattle.text_readings.specs.PointLines.{IsNumber}
-use Rattle.text_readings.specs.PointLines.{HasPointForm}
+use Rattle.text_readings.specs.PointLines.{IsNumber, HasPointForm}
 use Rattle.edit_files.specs.Grammar.{HasPairForm, HasEditForm, IsEditLine, IsRadiusLine}
 use Rattle.text_readings.specs.Scanning.{far, number, point}
 use Rattle.edit_files.specs.Judging.{edit, edit_from, radius, radius_from}

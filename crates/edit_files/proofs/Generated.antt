@@ -19,8 +19,8 @@ use Rattle.edit_files.specs.Grammar.{up_to}
 use Rattle.edit_files.specs.declared.version.Version.TheVariants.{One}
 use Rattle.edit_files.specs.Held.{IsEditOf, IsWithinLimits}
 use Rattle.text_readings.specs.PointLines.{coordinate_count}
-use Rattle.edit_files.specs.Generator.{next_state, state_after, draw_of, most_edits, point_behind}
-use Rattle.edit_files.specs.Generator.{draws_before, drawn_by, corners, back_to, edit_line, generated}
+use Rattle.edit_files.specs.Generator.{next_state, state_after, draw_of, most_edits, point_behind, draws_before}
+use Rattle.edit_files.specs.Generator.{drawn_by, corners, back_to, edit_line, generated}
 
 -- ---- one line more
 

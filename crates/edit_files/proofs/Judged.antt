@@ -4,8 +4,7 @@ use Rattle.std.specs.Prelude.{◌⊎◌, IfOk}
 use Rattle.text_readings.specs.declared.fault.Fault.{Fault}
 use Rattle.text_readings.specs.declared.fault.ReadRefused.{ReadRefused}
 use Rattle.text_readings.specs.declared.fault.ReadRefused.TheVariants as refusals
-use Rattle.text_readings.specs.Readings.{lines_of}
-use Rattle.text_readings.specs.Readings.{AllLead}
+use Rattle.text_readings.specs.Readings.{lines_of, AllLead}
 use Rattle.text_readings.specs.Judging.{Gives, judge}
 use Rattle.text_readings.proofs.Cited.{IsJudgedBy, end_or_fault, given_fault, given_right, no_fault, one_end, one_fault}
 use Rattle.edit_files.specs.declared.file.File.{File}

@@ -11,10 +11,8 @@ use Rattle.edit_files.specs.declared.place.Due.{Due}
 use Rattle.edit_files.specs.declared.place.Due.TheVariants.{Title, Heading, Body, Nothing}
 use Rattle.edit_files.specs.declared.version.Version.{Version}
 use Rattle.edit_files.specs.declared.version.Version.TheVariants.{One, Two, Three, Four}
-use Rattle.edit_files.specs.Content.{Content}
-use Rattle.edit_files.specs.Grammar.{IsPairLine, IsEditLine}
-use Rattle.edit_files.specs.Grammar.{IsTaken, Leads, LeadsOn, Limits, Reached, word_behind}
-use Rattle.edit_files.specs.Content.{row}
+use Rattle.edit_files.specs.Content.{Content, row}
+use Rattle.edit_files.specs.Grammar.{IsPairLine, IsEditLine, IsTaken, Leads, LeadsOn, Limits, Reached, word_behind}
 
 -- a line of two places has none
 pair_no_feed : (line : List ℕ) (a b : ℕ) → IsPairLine line a b → HasNo 10 line

@@ -11,11 +11,10 @@ use Rattle.edit_files.specs.declared.place.Part.{Part}
 use Rattle.edit_files.specs.declared.place.Part.TheVariants.{Points, Edits, Radii, Queries}
 use Rattle.edit_files.specs.declared.version.Version.{Version}
 use Rattle.edit_files.specs.declared.version.Version.TheVariants.{One, Two, Three, Four}
-use Rattle.edit_files.specs.Content.{Content}
+use Rattle.edit_files.specs.Content.{Content, row}
 use Rattle.edit_files.specs.Faults.{is_word}
 use Rattle.edit_files.specs.Grammar.{word_behind}
 use Rattle.edit_files.specs.Judging.{edit, radius, taken}
-use Rattle.edit_files.specs.Content.{row}
 
 -- no section word is of the form of a list's lines
 record TakesNoWord (p : Part) (f : Content) : Type 0 where

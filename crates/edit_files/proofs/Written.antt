@@ -8,9 +8,8 @@ use Rattle.std.proofs.lemmas.List.{at_drop_more, at_drop_all, length-append}
 use Rattle.point_order.specs.Coordinates.{IsKey}
 use Rattle.edit_history.specs.declared.history.Edit.{Edit}
 use Rattle.edit_history.specs.declared.history.Edit.TheVariants.{Add, Take, Move}
-use Rattle.text_readings.specs.Readings.{lines_of, text_of}
+use Rattle.text_readings.specs.Readings.{lines_of, text_of, AllLead}
 use Rattle.text_readings.specs.PointLines.{line_of_point}
-use Rattle.text_readings.specs.Readings.{AllLead}
 use Rattle.text_readings.proofs.Cited.{decimal_is, lead_append, lines_of_text, point_line, text_of_append}
 use Rattle.edit_files.specs.declared.place.Part.{Part}
 use Rattle.edit_files.specs.declared.place.Part.TheVariants.{Points, Edits, Radii, Queries}
@@ -18,11 +17,9 @@ use Rattle.edit_files.specs.declared.place.Due.{Due}
 use Rattle.edit_files.specs.declared.place.Due.TheVariants.{Title, Heading, Body, Nothing}
 use Rattle.edit_files.specs.declared.version.Version.{Version}
 use Rattle.edit_files.specs.declared.version.Version.TheVariants.{One, Two, Three, Four}
-use Rattle.edit_files.specs.Content.{Content}
-use Rattle.edit_files.specs.Grammar.{IsEditLine, IsRadiusLine}
-use Rattle.edit_files.specs.Grammar.{IsFile, IsTaken, Leads, LeadsOn, Limits, Reached, at_end, at_title, due_behind}
-use Rattle.edit_files.specs.Grammar.{lines_in, most_of, no_content, query_limit, radius_limit}
-use Rattle.edit_files.specs.Content.{row}
+use Rattle.edit_files.specs.Content.{Content, row}
+use Rattle.edit_files.specs.Grammar.{IsEditLine, IsRadiusLine, IsFile, IsTaken, Leads, LeadsOn, Limits, Reached, at_end}
+use Rattle.edit_files.specs.Grammar.{at_title, due_behind, lines_in, most_of, no_content, query_limit, radius_limit}
 use Rattle.edit_files.specs.Writing.{edit_text, file_lines, file_text, query_section}
 use Rattle.edit_files.specs.Held.{IsEditOf, IsWithinLimits}
 use Rattle.edit_files.proofs.Decided.{at}

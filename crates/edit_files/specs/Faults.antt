@@ -4,15 +4,13 @@ use Rattle.std.specs.Str.{bytes_eq}
 use Rattle.text_readings.specs.declared.fault.Why.{Why}
 use Rattle.text_readings.specs.declared.fault.Why.TheVariants.{Section, Field, Range, TooMany}
 use Rattle.text_readings.specs.declared.fault.Fault.{Fault}
-use Rattle.text_readings.specs.Readings.{lines_of}
-use Rattle.text_readings.specs.Readings.{IsFaultOf, Reading}
+use Rattle.text_readings.specs.Readings.{lines_of, IsFaultOf, Reading}
 use Rattle.edit_files.specs.declared.place.Due.{Due}
 use Rattle.edit_files.specs.declared.place.Due.TheVariants.{Title, Heading, Body, Nothing}
 use Rattle.edit_files.specs.declared.version.Version.{Version}
-use Rattle.edit_files.specs.Content.{Content}
+use Rattle.edit_files.specs.Content.{Content, row}
 use Rattle.edit_files.specs.Grammar.{HasFormOf, IsTaken, IsWithinNewest, LeadsOn, Limits, Reached, at_title, lines_in}
 use Rattle.edit_files.specs.Grammar.{most_of, word_behind}
-use Rattle.edit_files.specs.Content.{row}
 
 -- the line is one of the section words of a version
 abbrev pub is_word : Version → List ℕ → Bool

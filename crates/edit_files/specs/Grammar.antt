@@ -2,18 +2,15 @@
 use Rattle.std.specs.Prelude.{◌≡◌, ◌⊎◌, ℕ, List, [], ◌∷◌, ◌++◌, ◌+◌, ◌<◌, ◌≤◌, length, codes, if◌then◌else◌, IsTrue}
 use Rattle.edit_history.specs.declared.history.Edit.{Edit}
 use Rattle.edit_history.specs.declared.history.Edit.TheVariants.{Add, Take, Move}
-use Rattle.text_readings.specs.Readings.{lines_of}
-use Rattle.text_readings.specs.PointLines.{IsNumber, IsNumberOf}
-use Rattle.text_readings.specs.PointLines.{HasPointForm, IsPointLine}
-use Rattle.text_readings.specs.Readings.{AllLead}
+use Rattle.text_readings.specs.Readings.{lines_of, AllLead}
+use Rattle.text_readings.specs.PointLines.{IsNumber, IsNumberOf, HasPointForm, IsPointLine}
 use Rattle.edit_files.specs.declared.place.Part.{Part}
 use Rattle.edit_files.specs.declared.place.Part.TheVariants.{Points, Edits, Radii, Queries}
 use Rattle.edit_files.specs.declared.place.Due.{Due}
 use Rattle.edit_files.specs.declared.place.Due.TheVariants.{Title, Heading, Body, Nothing}
 use Rattle.edit_files.specs.declared.version.Version.{Version}
 use Rattle.edit_files.specs.declared.version.Version.TheVariants.{One}
-use Rattle.edit_files.specs.Content.{Content}
-use Rattle.edit_files.specs.Content.{row}
+use Rattle.edit_files.specs.Content.{Content, row}
 
 -- ---- how many lines there may be
 

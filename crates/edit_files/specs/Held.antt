@@ -5,9 +5,8 @@ use Rattle.point_order.specs.Coordinates.{IsKey}
 use Rattle.edit_history.specs.declared.history.Edit.{Edit}
 use Rattle.edit_history.specs.declared.history.Edit.TheVariants.{Add}
 use Rattle.edit_history.specs.Edits.{HasKeys, is_move}
-use Rattle.edit_files.specs.Content.{Content}
+use Rattle.edit_files.specs.Content.{Content, row}
 use Rattle.edit_files.specs.Grammar.{IsWithinNewest, Limits, query_limit, radius_limit}
-use Rattle.edit_files.specs.Content.{row}
 use Rattle.edit_files.specs.declared.file.File.{File}
 use Rattle.edit_files.specs.declared.version.Version.{Version}
 

@@ -18,11 +18,10 @@ use Rattle.edit_files.specs.declared.place.Due.TheVariants.{Title, Heading, Body
 use Rattle.edit_files.specs.declared.reader.Reader.{Reader}
 use Rattle.edit_files.specs.declared.version.Version.{Version}
 use Rattle.edit_files.specs.declared.version.Version.TheVariants.{One, Two, Three, Four}
-use Rattle.edit_files.specs.Content.{Content}
+use Rattle.edit_files.specs.Content.{Content, row}
 use Rattle.edit_files.specs.Held.{content}
 use Rattle.edit_files.specs.Faults.{is_word}
 use Rattle.edit_files.specs.Grammar.{Limits, Reached, at_end, due_behind, lines_in, most_of, word_behind}
-use Rattle.edit_files.specs.Content.{row}
 
 -- ---- lines
 

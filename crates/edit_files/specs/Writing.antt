@@ -2,10 +2,9 @@
 use Rattle.std.specs.Prelude.{ℕ, List, [], ◌∷◌, ◌++◌, map, codes, decimal, if◌then◌else◌}
 use Rattle.edit_history.specs.declared.history.Edit.{Edit}
 use Rattle.edit_history.specs.declared.history.Edit.TheVariants.{Add, Take, Move}
-use Rattle.edit_files.specs.Content.{Content}
+use Rattle.edit_files.specs.Content.{Content, row}
 use Rattle.text_readings.specs.Readings.{text_of}
 use Rattle.text_readings.specs.PointLines.{line_of_point}
-use Rattle.edit_files.specs.Content.{row}
 use Rattle.edit_files.specs.declared.version.Version.{Version}
 
 -- the edit line that is written of an edit

@@ -15,8 +15,7 @@ ghost use Rattle.edit_files.specs.Held.{content};
 ghost use Rattle.edit_files.specs.Faults.{IsFault, is_word};
 ghost use Rattle.edit_files.specs.Grammar.{IsFile, Reached, at_title, up_to};
 ghost use Rattle.edit_files.specs.Judging.{after_line, file_judge, is_full, list_line, now_due, reached, step_at};
-ghost use Rattle.edit_files.specs.Judging.{taken, whole, with_title};
-ghost use Rattle.edit_files.specs.Judging.{titled};
+ghost use Rattle.edit_files.specs.Judging.{taken, whole, with_title, titled};
 
 use crate::file::File;
 use crate::line::{edit_of, radius_of};

@@ -9,9 +9,9 @@ use Rattle.point_order.specs.declared.cell.Cell.TheVariants.{Full, Open}
 use Rattle.point_order.specs.Sets.{IsIn}
 use Rattle.mesh_check.specs.declared.flaw.Flaw.{Flaw}
 use Rattle.mesh_check.specs.declared.flaw.Flaw.TheVariants.{Empty, FlatCell, Sides, Inside, OpenFacet}
-use Rattle.mesh_check.specs.Flaws.{are_apart, first_flaw, first_flaw_of, flaw_of, inside_of, inside_with}
+use Rattle.mesh_check.specs.Flaws.{are_apart, first_flaw, first_flaw_of, flaw_of, inside_of, inside_with, is_flat_cell}
+use Rattle.mesh_check.specs.Flaws.{is_inside, opposite, sides_from, sides_of, sides_with}
 use Rattle.mesh_check.specs.Laws.{IsFlaw}
-use Rattle.mesh_check.specs.Flaws.{is_flat_cell, is_inside, opposite, sides_from, sides_of, sides_with}
 
 -- ---- searches
 

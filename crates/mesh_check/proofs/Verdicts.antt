@@ -25,15 +25,12 @@ use Rattle.mesh_check.specs.declared.flaw.Flaw.{Flaw}
 use Rattle.mesh_check.specs.declared.flaw.Flaw.TheVariants.{Empty, FlatCell, Sides, Inside, OpenFacet}
 use Rattle.mesh_check.specs.declared.flaw.Verdict.{Verdict}
 use Rattle.mesh_check.specs.declared.flaw.Verdict.TheVariants.{Good, Bad}
-use Rattle.mesh_check.specs.Flaws.{IsFacet, IsInTwo, IsVerdict, are_apart, first_flaw, is_flat_cell}
-use Rattle.mesh_check.specs.Laws.{AreCells, IsFlaw}
-use Rattle.mesh_check.specs.Flaws.{is_inside, as_cells}
-use Rattle.mesh_check.specs.Laws.{AreInComplex, AreSound, FlawIsTrue, FlawShows, GoodIsComplex}
-use Rattle.mesh_check.specs.Flaws.{IsComplex}
+use Rattle.mesh_check.specs.Flaws.{IsFacet, IsInTwo, IsVerdict, are_apart, first_flaw, is_flat_cell, is_inside}
+use Rattle.mesh_check.specs.Flaws.{as_cells, IsComplex}
+use Rattle.mesh_check.specs.Laws.{AreCells, IsFlaw, AreInComplex, AreSound, FlawIsTrue, FlawShows, GoodIsComplex}
 use Rattle.mesh_check.proofs.Flaws.{IsSound, first_of_cell, first_true, none_flawed, sound}
-use Rattle.mesh_check.proofs.Triples.{open_is_sound, sound_is_open}
+use Rattle.mesh_check.proofs.Triples.{open_is_sound, sound_is_open, true_not}
 use Rattle.mesh_check.proofs.Turned.{flat_front, flat_second, flat_third}
-use Rattle.mesh_check.proofs.Triples.{true_not}
 
 -- the law FlawIsTrue
 pub flaw_is_true : FlawIsTrue

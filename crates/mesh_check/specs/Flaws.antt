@@ -75,7 +75,6 @@ facet_cmp (Three t) (Two p) = Less
 facet_cmp (Two p) (Three t) = Greater
 facet_cmp (Two p) (Two q) = slice_cmp nat_cmp p q
 
-
 -- ---- the first of them
 
 -- the first flaw, if there is one, else the second

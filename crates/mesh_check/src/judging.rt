@@ -5,9 +5,8 @@ ghost use Rattle.point_order.specs.Sets.{IsAscending};
 ghost use Rattle.del_laws.specs.Keys.{AreKeys};
 ghost use Rattle.mesh_check.specs.declared.flaw.Verdict.TheVariants.{Good as IsGood, Bad as IsBad};
 ghost use Rattle.mesh_check.specs.declared.flaw.Flaw.{Flaw as FlawParts};
-ghost use Rattle.mesh_check.specs.Flaws.{IsVerdict, as_cells};
+ghost use Rattle.mesh_check.specs.Flaws.{IsVerdict, as_cells, IsComplex};
 ghost use Rattle.mesh_check.specs.Laws.{AreCells, IsFlaw};
-ghost use Rattle.mesh_check.specs.Flaws.{IsComplex};
 
 use crate::cells::first_flaw;
 use crate::flaw::{Flaw, Verdict};

@@ -4,9 +4,8 @@ ghost use Rattle.std.specs.Prelude.{◌≡◌, ◌++◌, IfOk, OnOk};
 ghost use Rattle.point_order.specs.Sets.{IsAscending};
 ghost use Rattle.del_laws.specs.Keys.{AreKeys};
 ghost use Rattle.mesh_check.specs.Flaws.{as_cells};
-ghost use Rattle.mesh_check.specs.Laws.{AreCells};
+ghost use Rattle.mesh_check.specs.Laws.{AreCells, IsTold};
 ghost use Rattle.mesh_check.specs.Text.{flaw_words, is_good as is_good_of, places_text};
-ghost use Rattle.mesh_check.specs.Laws.{IsTold};
 ghost use Rattle.mesh_check.specs.Text.{verdict_text as verdict_text_of, verdict_words};
 
 use crate::flaw::{Flaw, Verdict};

@@ -16,26 +16,23 @@ use Rattle.point_order.specs.Coordinates.{x_of, y_of, z_of, IsKey}
 use Rattle.edit_history.specs.declared.history.Reply.{Reply}
 use Rattle.edit_history.specs.declared.history.Reply.TheVariants.{Inserted, Duplicate, Removed, Missing, Flat, Moved}
 use Rattle.edit_history.specs.declared.history.Reply.TheVariants.{Occupied}
-use Rattle.text_readings.specs.Readings.{lines_of}
-use Rattle.text_readings.specs.PointLines.{IsNumber, IsNumberOf}
-use Rattle.text_readings.specs.PointLines.{IsPointLine, line_of_point}
+use Rattle.text_readings.specs.Readings.{lines_of, AllLead}
+use Rattle.text_readings.specs.PointLines.{IsNumber, IsNumberOf, IsPointLine, line_of_point}
 use Rattle.text_readings.proofs.Cited.{HasNo, decimal_is, line_first, number_without, point_line, without_append}
+use Rattle.text_readings.proofs.Cited.{point_no_feed as point_feed}
 use Rattle.text_sheets.specs.Lines.{block, spaced}
 use Rattle.text_sheets.specs.Indices.{index_of}
 use Rattle.mesh_reader.specs.declared.place.Part.{Part}
 use Rattle.mesh_reader.specs.declared.place.Part.TheVariants.{Replies, Points, Cells, Hull}
 use Rattle.mesh_reader.specs.declared.place.Due.{Due}
 use Rattle.mesh_reader.specs.declared.place.Due.TheVariants.{Title, Head, Body, Last, Nothing}
-use Rattle.text_readings.specs.Readings.{AllLead}
 use Rattle.mesh_reader.specs.Grammar.{AreIndices, IsAfter, IsHead, IsIndexLine, IsIndexOf, IsLess, IsMeshText, IsTaken}
 use Rattle.mesh_reader.specs.Grammar.{Leads, LeadsOn, MeshParts, Reached, at_end, at_title, behind, lines_due, most_of}
-use Rattle.mesh_reader.specs.Grammar.{no_parts, point_limit, head_word, reply_word as read_word}
+use Rattle.mesh_reader.specs.Grammar.{no_parts, point_limit, head_word, reply_word as read_word, reply_word}
 use Rattle.mesh_reader.specs.Order.{AreInOrder, IsInOrder}
 use Rattle.mesh_files.specs.Text.{ReportParts, full_corners, hull_corners, mesh_blocks, order_block, report_text}
 use Rattle.mesh_files.specs.Text.{shape_blocks}
-use Rattle.mesh_reader.specs.Grammar.{reply_word}
 use Rattle.mesh_files.specs.Reading.{IsOfMesh, WrittenIsRead, mesh_of}
-use Rattle.text_readings.proofs.Cited.{point_no_feed as point_feed}
 
 -- a place by its parts
 abbrev at : Due → MeshParts → Reached

@@ -5,8 +5,7 @@ use Rattle.std.specs.declared.alloc.Global.{Global}
 use Rattle.mesh_files.specs.declared.report.Report.{Report}
 use Rattle.point_order.specs.Sets.{IsIn, IsAscending}
 use Rattle.alpha_complex.specs.Shapes.{ShapeParts}
-use Rattle.alpha_complex.specs.Slots.{shape_seen}
-use Rattle.alpha_complex.specs.Slots.{ShapeSlots}
+use Rattle.alpha_complex.specs.Slots.{shape_seen, ShapeSlots}
 use Rattle.mesh_files.specs.Text.{ReportParts, counted_points}
 
 -- shapes, each behind its radius

@@ -2,8 +2,7 @@
 use Rattle.std.proofs.Common.{◌≡◌, ℕ, zero, suc, List, [], ◌∷◌, ◌++◌, true, Ok, refl, sym, ap, subst, ◌∙◌}
 use Rattle.std.specs.Prelude.{Option, IfSome}
 use Rattle.std.specs.Borrow.{Bor}
-use Rattle.text_readings.specs.Readings.{lines_of}
-use Rattle.text_readings.specs.Readings.{AllLead}
+use Rattle.text_readings.specs.Readings.{lines_of, AllLead}
 use Rattle.list_laws.specs.Lists.{IsAscending}
 use Rattle.list_laws.proofs.Cited.{ascend_more, if_some}
 use Rattle.mesh_reader.specs.declared.counted.Counted.{Counted}

@@ -15,8 +15,7 @@ use Rattle.mesh_reader.specs.declared.place.Part.{Part}
 use Rattle.mesh_reader.specs.declared.place.Part.TheVariants.{Replies, Points, Cells, Hull}
 use Rattle.mesh_reader.specs.declared.place.Due.{Due}
 use Rattle.mesh_reader.specs.declared.place.Due.TheVariants.{Title, Head, Body, Last, Nothing}
-use Rattle.text_readings.specs.Readings.{lines_of}
-use Rattle.text_readings.specs.Readings.{AllLead}
+use Rattle.text_readings.specs.Readings.{lines_of, AllLead}
 use Rattle.text_readings.specs.declared.fault.ReadRefused.{ReadRefused}
 use Rattle.mesh_reader.specs.declared.mesh_file.PackedMesh.{PackedMesh}
 use Rattle.mesh_reader.specs.Grammar.{AreIndices, IsAfter, IsIndexLine, IsLess, IsMeshText, IsTaken, Leads, LeadsOn}

@@ -3,8 +3,7 @@ use Rattle.std.specs.Prelude.{◌≡◌, ◌≢◌, ℕ, List, ⊤, codes}
 use Rattle.text_readings.specs.declared.fault.Why.{Why}
 use Rattle.text_readings.specs.declared.fault.Why.TheVariants.{Section, Field, Range, TooMany}
 use Rattle.text_readings.specs.declared.fault.Fault.{Fault}
-use Rattle.text_readings.specs.Readings.{lines_of}
-use Rattle.text_readings.specs.Readings.{IsFaultOf, Reading}
+use Rattle.text_readings.specs.Readings.{lines_of, IsFaultOf, Reading}
 use Rattle.mesh_reader.specs.declared.place.Due.{Due}
 use Rattle.mesh_reader.specs.declared.place.Due.TheVariants.{Title, Head, Body, Last, Nothing}
 use Rattle.mesh_reader.specs.Grammar.{HasFormOf, HasHeadForm, IsHead, IsTaken, LeadsOn, MeshParts, Reached, at_title}

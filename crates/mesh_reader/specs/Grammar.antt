@@ -9,10 +9,8 @@ use Rattle.list_laws.specs.Lists.{IsIn, IsAscending}
 use Rattle.edit_history.specs.declared.history.Reply.{Reply}
 use Rattle.edit_history.specs.declared.history.Reply.TheVariants.{Inserted, Duplicate, Removed, Missing, Flat, Moved}
 use Rattle.edit_history.specs.declared.history.Reply.TheVariants.{Occupied}
-use Rattle.text_readings.specs.Readings.{lines_of}
-use Rattle.text_readings.specs.Readings.{AllLead}
-use Rattle.text_readings.specs.PointLines.{IsNumber, IsNumberOf}
-use Rattle.text_readings.specs.PointLines.{HasPointForm, IsPointLine}
+use Rattle.text_readings.specs.Readings.{lines_of, AllLead}
+use Rattle.text_readings.specs.PointLines.{IsNumber, IsNumberOf, HasPointForm, IsPointLine}
 use Rattle.mesh_reader.specs.declared.place.Part.{Part}
 use Rattle.mesh_reader.specs.declared.place.Part.TheVariants.{Replies, Points, Cells, Hull}
 use Rattle.mesh_reader.specs.declared.place.Due.{Due}

@@ -18,8 +18,8 @@ use Rattle.mesh_reader.specs.declared.place.Due.TheVariants.{Title, Head, Body, 
 use Rattle.mesh_reader.specs.declared.mesh_file.PackedMesh.{PackedMesh}
 use Rattle.mesh_reader.specs.declared.reader.Reader.{Reader}
 use Rattle.mesh_reader.specs.Grammar.{MeshParts, Reached, at_end, head_word, lines_due, most_of, point_limit}
-use Rattle.mesh_reader.specs.Packed.{parts}
 use Rattle.mesh_reader.specs.Grammar.{reply_word}
+use Rattle.mesh_reader.specs.Packed.{parts}
 
 -- ---- lines
 

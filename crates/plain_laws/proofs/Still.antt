@@ -3,13 +3,12 @@ use Rattle.std.specs.Prelude.{◌≡◌, ℕ, zero, suc, ◌<◌, Bool, true, fa
 use Rattle.std.specs.Prelude.{All}
 use Rattle.std.specs.List.{filter, last_or}
 use Rattle.std.specs.Option.{option_map_or}
-use Rattle.std.proofs.Common.{refl, sym, ◌∙◌, ap, arith}
+use Rattle.std.proofs.Common.{refl, sym, ◌∙◌, ap, arith, inl, inr}
 use Rattle.list_laws.proofs.Cited.{each_of_all}
 use Rattle.point_order.specs.Sets.{IsIn}
 use Rattle.edit_history.specs.declared.history.Edit.{Edit}
 use Rattle.edit_history.specs.declared.history.Edit.TheVariants.{Add, Take, Move}
 use Rattle.edit_history.specs.Edits.{point_of, is_move}
-use Rattle.std.proofs.Common.{inl, inr}
 use Rattle.plain_laws.specs.Plain.{there_after, there_from}
 use Rattle.plain_laws.specs.Laws.{ThereByLast, is_add}
 

@@ -10,8 +10,7 @@ use Rattle.std.proofs.lemmas.List.Splits.{join_with_byte-slice_split}
 use Rattle.point_order.specs.Coordinates.{x_of, y_of, z_of}
 use Rattle.text_readings.specs.declared.fault.Why.{Why}
 use Rattle.text_readings.specs.declared.fault.Why.TheVariants.{Field, Range}
-use Rattle.text_readings.specs.PointLines.{IsNumber}
-use Rattle.text_readings.specs.PointLines.{HasPointForm, IsPointLine, three_spaced}
+use Rattle.text_readings.specs.PointLines.{IsNumber, HasPointForm, IsPointLine, three_spaced}
 use Rattle.text_readings.specs.Scanning.{number, point, point_at, point_from, point_from_fields, fields_of}
 use Rattle.text_readings.proofs.Values.{number_read, number_some, number_of, of_number, reading}
 use Rattle.text_readings.proofs.Points.{point_at_own, coordinate_below}

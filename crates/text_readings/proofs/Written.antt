@@ -8,8 +8,7 @@ use Rattle.std.proofs.lemmas.Fmt.{decimal_is_IsNumeral}
 use Rattle.std.proofs.lemmas.Str.Parse.{digit_from_value}
 use Rattle.point_order.specs.Coordinates.{x_of, y_of, z_of, IsKey}
 use Rattle.text_readings.specs.Readings.{text_of}
-use Rattle.text_readings.specs.PointLines.{IsNumberOf, after_minus}
-use Rattle.text_readings.specs.PointLines.{IsPointLine, line_of_point}
+use Rattle.text_readings.specs.PointLines.{IsNumberOf, after_minus, IsPointLine, line_of_point}
 use Rattle.text_readings.proofs.Points.{coordinate_below}
 
 -- digits begin with no minus

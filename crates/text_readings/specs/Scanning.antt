@@ -6,8 +6,7 @@ use Rattle.std.specs.Char.{is_ascii_digit}
 use Rattle.std.specs.Str.Parse.{starts_with_minus}
 use Rattle.text_readings.specs.declared.fault.Why.{Why}
 use Rattle.text_readings.specs.declared.fault.Why.TheVariants.{Field, Range}
-use Rattle.text_readings.specs.PointLines.{after_minus}
-use Rattle.text_readings.specs.PointLines.{coordinate_count, key_of}
+use Rattle.text_readings.specs.PointLines.{after_minus, coordinate_count, key_of}
 
 -- beyond every range
 abbrev pub far : ℕ

@@ -2,8 +2,7 @@ use Rattle.std.proofs.Common.{◌≡◌, ◌↔◌, ◌<◌, false, length}
 use Rattle.point_order.specs.Solid.{is_solid}
 use Rattle.edit_files.specs.Content.{Content}
 use Rattle.edit_files.specs.Grammar.{IsFile}
-use Rattle.command_pages.specs.Run.{file_limits}
-use Rattle.command_pages.specs.Run.{HasFault, input_limit}
+use Rattle.command_pages.specs.Run.{file_limits, HasFault, input_limit}
 use Rattle.delaunay_cli.proofs.Promised.{of_verdict}
 use Rattle.delaunay_cli.proofs.laws.run_that_reads.Goals as goal
 

@@ -1,10 +1,9 @@
 use Rattle.std.proofs.Common.{◌≡◌, ap, sym, ◌∙◌, ℕ, List, ◌++◌, true, false}
 use Rattle.std.specs.Prelude.{decimal, map}
 use Rattle.edit_history.specs.declared.history.Edit.{Edit}
-use Rattle.edit_files.specs.Content.{Content}
+use Rattle.edit_files.specs.Content.{Content, row}
 use Rattle.edit_files.specs.Held.{content}
 use Rattle.text_readings.specs.Readings.{text_of}
-use Rattle.edit_files.specs.Content.{row}
 use Rattle.edit_files.specs.Writing.{edit_text}
 use Rattle.text_readings.specs.PointLines.{line_of_point}
 use Rattle.edit_files.proofs.Written.{ended_put, queries_put, title_put, to_radii, to_radii_put}

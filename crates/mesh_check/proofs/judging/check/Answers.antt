@@ -2,9 +2,8 @@ use Rattle.std.proofs.Common.{◌≡◌, subst}
 use Rattle.std.specs.Prelude.{ℕ, List, Ok}
 use Rattle.mesh_check.specs.declared.flaw.Verdict.TheVariants.{Bad as IsBad}
 use Rattle.mesh_check.specs.declared.flaw.Flaw.{Flaw as FlawParts}
-use Rattle.mesh_check.specs.Flaws.{as_cells}
+use Rattle.mesh_check.specs.Flaws.{as_cells, IsComplex}
 use Rattle.mesh_check.specs.Laws.{IsFlaw}
-use Rattle.mesh_check.specs.Flaws.{IsComplex}
 use Rattle.mesh_check.proofs.judging.check.Goals as goal
 
 -- what is told of the packed cells is told of the cells

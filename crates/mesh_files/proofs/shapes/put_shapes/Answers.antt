@@ -1,7 +1,6 @@
 use Rattle.std.proofs.Common.{List, ℕ, refl}
-use Rattle.alpha_complex.specs.Slots.{ShapeSlots}
+use Rattle.alpha_complex.specs.Slots.{ShapeSlots, shape_seen}
 use Rattle.alpha_complex.specs.Shapes.{ShapeParts}
-use Rattle.alpha_complex.specs.Slots.{shape_seen}
 use Rattle.alpha_complex.proofs.Cited.{mapped_at}
 use Rattle.mesh_files.specs.Report.{shapes_seen}
 use Rattle.mesh_files.specs.Text.{shape_text, shape_blocks}

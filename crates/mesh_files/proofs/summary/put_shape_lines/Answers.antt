@@ -1,8 +1,7 @@
 use Rattle.std.proofs.Common.{List, ℕ, refl}
 use Rattle.std.specs.Prelude.{map}
 use Rattle.std.specs.List.{concat}
-use Rattle.alpha_complex.specs.Slots.{ShapeSlots}
-use Rattle.alpha_complex.specs.Slots.{shape_seen}
+use Rattle.alpha_complex.specs.Slots.{ShapeSlots, shape_seen}
 use Rattle.mesh_files.specs.Report.{shapes_seen}
 use Rattle.mesh_files.specs.Summary.{shape_line}
 use Rattle.text_sheets.proofs.Cited.{ends, goes_on, leaves_all}
