@@ -15,7 +15,8 @@ use Rattle.command_pages.specs.Run.{ReadsTo, mesh_limit}
 use Rattle.command_pages.specs.Statuses.{IsEarly}
 use Rattle.command_words.specs.declared.stop.Stop.{Stop}
 use Rattle.command_words.specs.declared.stop.Stop.TheVariants.{Memory}
-use Rattle.command_words.specs.Stops.{status_of, status_of_made, stop_of_read}
+use Rattle.command_words.specs.Stops.{status_of_made, stop_of_read}
+use Rattle.command_words.specs.Lines.{status_of}
 
 -- bytes were taken of a source, so many fewer than one more than the limit
 pub record HasRoom (old now : Option (List ℕ)) (taken : List ℕ) (room : ℕ) : Type 0 where

@@ -1,6 +1,5 @@
--- The command `check`: what is told of the text of a mesh, why nothing is, and what a run of it promises of its end.
-use Rattle.std.specs.Prelude.{◌≡◌, ◌≢◌, ◌⊎◌, ◌↔◌, ◌<◌, ◌≤◌, ℕ, List, [], length, Option, IfSome, if◌then◌else◌, ⊤}
-use Rattle.edit_history.specs.declared.history.Entry.{Entry}
+-- The command `check`: what is told of the text of a mesh, and why nothing is.
+use Rattle.std.specs.Prelude.{◌≡◌, ◌⊎◌, ◌<◌, ◌≤◌, ℕ, List, [], length, Option, IfSome, if◌then◌else◌, ⊤}
 use Rattle.text_readings.specs.declared.fault.Fault.{Fault}
 use Rattle.mesh_reader.specs.Faults.{IsMeshFault}
 use Rattle.mesh_reader.specs.Grammar.{IsMeshText, MeshParts}
@@ -11,7 +10,7 @@ use Rattle.command_words.specs.declared.stop.Stop.{Stop}
 use Rattle.command_words.specs.declared.stop.Stop.TheVariants.{Memory, ReadFault, BadLine, TooLong}
 use Rattle.command_pages.specs.Command.{Command}
 use Rattle.command_pages.specs.Run.{mesh_limit}
-use Rattle.command_pages.specs.Statuses.{IsEarly, IsLineOf, IsWrittenWhole}
+use Rattle.command_pages.specs.Statuses.{IsLineOf}
 
 -- the status of a verdict
 abbrev pub status_of_verdict : Verdict → ℕ
@@ -56,20 +55,6 @@ IsMeshWithin bytes = (length bytes ≤ mesh_limit) × ((mesh : MeshParts) × IsM
 abbrev pub HasMeshFault : List ℕ → Type 0
 HasMeshFault bytes = (fault : Fault) × IsMeshFault bytes fault
 
--- The statuses 7 and 5 tell of these bytes.
-pub record IsMeshVerdict (status : ℕ) (bytes : List ℕ) : Type 0 where
-  pub too_long : status ≡ 7 ↔ (mesh_limit < length bytes)
-  pub bad_line : status ≢ 7 → (status ≡ 5 ↔ HasMeshFault bytes)
-
--- What a run that is to judge a mesh promises of its end: by what the source had left, the status, the history and the
--- text, of which on 4 a front is written.
-pub record CheckEnds (left : Option (List ℕ)) (status : ℕ) (h : List Entry) (text : List ℕ) : Type 0 where
-  pub statuses : (status ≤ 5) ⊎ (status ≡ 7) ⊎ (status ≡ 10)
-  pub no_history : h ≡ []
-  pub verdict : (IsEarly status → ⊥) → IfSome left (IsMeshVerdict status)
-  pub made : IsWrittenWhole status → IfSome left (IsChecked status text)
-  pub cut : status ≡ 4 → IfSome left (λ bytes. (late : ℕ) × IsChecked late text bytes)
-
 -- The command.
 abbrev pub checking : Command
 checking =
@@ -78,5 +63,4 @@ checking =
       is_fault = λ bytes fault. IsMeshFault bytes fault;
       makes = λ words left late h text. TellsVerdict late × (h ≡ []) × IfSome left (IsChecked late text);
       makes_none = λ left failed stop. IsUnchecked left failed stop;
-      ends = λ words left status h text. CheckEnds left status h text;
     }

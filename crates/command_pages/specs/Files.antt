@@ -1,5 +1,5 @@
--- A file that is read: what is made of it, why no mesh is, and what a run that reads one promises of its end.
-use Rattle.std.specs.Prelude.{◌≡◌, ◌≢◌, ◌≤◌, ◌<◌, ◌↔◌, ℕ, List, length, true, false, Option, IfSome, String, ⊤}
+-- A file that is read: what is made of it, and why no mesh is.
+use Rattle.std.specs.Prelude.{◌≡◌, ◌≤◌, ◌<◌, ℕ, List, length, true, false, Option, IfSome, String, ⊤}
 use Rattle.std.specs.declared.alloc.Global.{Global}
 use Rattle.point_order.specs.Solid.{is_solid}
 use Rattle.edit_history.specs.declared.history.Entry.{Entry}
@@ -10,8 +10,8 @@ use Rattle.command_words.specs.declared.stop.Stop.{Stop}
 use Rattle.command_words.specs.declared.stop.Stop.TheVariants.{Memory, ReadFault, BadLine, Flat, TooLong}
 use Rattle.command_words.specs.Words.{worker_count}
 use Rattle.command_pages.specs.Command.{Command}
-use Rattle.command_pages.specs.Run.{HasFault, IsKept, file_limits, input_limit}
-use Rattle.command_pages.specs.Statuses.{HasText, IsEarly, IsLineOf}
+use Rattle.command_pages.specs.Run.{IsKept, file_limits, input_limit}
+use Rattle.command_pages.specs.Statuses.{IsLineOf}
 
 -- The bytes, within the limit, are a solid file, which the history keeps for a number of workers, and of this file
 -- `P` holds.
@@ -38,20 +38,6 @@ HasNoMesh left failed Flat = IfSome left IsFlatFile
 HasNoMesh left failed TooLong = IfSome left (λ bytes. input_limit < length bytes)
 HasNoMesh left failed stop = ⊥
 
--- The statuses 7, 5 and 6 tell of these bytes.
-pub record TellsOfBytes (status : ℕ) (bytes : List ℕ) : Type 0 where
-  pub too_long : status ≡ 7 ↔ (input_limit < length bytes)
-  pub bad_line : status ≢ 7 → (status ≡ 5 ↔ HasFault bytes)
-  pub not_solid : status ≢ 7 → (file : Content) → IsFile file_limits bytes file →
-      (status ≡ 6 ↔ (is_solid file.points ≡ false))
-
--- What a run that makes something of a file promises of its end, where `P` says of what bytes it is made: by what the
--- source had left, and the status.
-pub record FileEnds (P : List ℕ → Type 0) (left : Option (List ℕ)) (status : ℕ) : Type 0 where
-  pub statuses : status ≤ 7
-  pub verdict : (IsEarly status → ⊥) → IfSome left (TellsOfBytes status)
-  pub made : HasText status → IfSome left P
-
 -- A command that reads a file, and makes one text of it: `P` says of which history and text, by the words and the file.
 abbrev pub of_file : (List (String Global) → List Entry → List ℕ → Content → Type 0) → Command
 of_file P =
@@ -60,5 +46,4 @@ of_file P =
       is_fault = λ bytes fault. IsFault file_limits bytes fault;
       makes = λ words left late h text. (late ≡ 0) × IfSome left (IsOfFile (worker_count words) h (P words h text));
       makes_none = λ left failed stop. HasNoMesh left failed stop;
-      ends = λ words left status h text. FileEnds (IsOfFile (worker_count words) h (P words h text)) left status;
     }

@@ -1,5 +1,20 @@
--- The line that tells a status on standard error.
+-- The status of each stop, and the line that tells a status on standard error.
 use Rattle.std.specs.Prelude.{ℕ, List, [], ◌==◌, codes, if◌then◌else◌}
+use Rattle.command_words.specs.declared.stop.Stop.{Stop}
+use Rattle.command_words.specs.declared.stop.Stop.TheVariants.{Memory, Usage, ReadFault, WriteFault, BadLine, Flat}
+use Rattle.command_words.specs.declared.stop.Stop.TheVariants.{TooLong, NoPart, NoAlpha, BadMesh}
+
+abbrev pub status_of : Stop → ℕ
+status_of Memory = 1
+status_of Usage = 2
+status_of ReadFault = 3
+status_of WriteFault = 4
+status_of (BadLine line) = 5
+status_of Flat = 6
+status_of TooLong = 7
+status_of NoPart = 8
+status_of NoAlpha = 9
+status_of BadMesh = 10
 
 -- the line of a status other than 5
 abbrev pub plain_line : ℕ → List ℕ

@@ -1,25 +1,13 @@
--- Why a run stops: the status and the line of each stop.
+-- Why a run stops: the line of each stop, and the status of an end.
 use Rattle.std.specs.Prelude.{◌≡◌, ◌⊎◌, ℕ, List, [], Option, None, Some, Result, Ok, Err, String, ⊤}
 use Rattle.std.specs.declared.alloc.Global.{Global}
 use Rattle.byte_ends.specs.declared.loops.ReadError.{ReadError}
 use Rattle.byte_ends.specs.declared.loops.ReadError.TheVariants.{Fault as SourceFault, Memory as NoRoom}
 use Rattle.command_words.specs.declared.stop.Stop.{Stop}
-use Rattle.command_words.specs.declared.stop.Stop.TheVariants.{Memory, Usage, ReadFault, WriteFault, BadLine, Flat}
-use Rattle.command_words.specs.declared.stop.Stop.TheVariants.{TooLong, NoPart, NoAlpha, BadMesh}
-use Rattle.command_words.specs.Lines.{plain_line}
+use Rattle.command_words.specs.declared.stop.Stop.TheVariants.{Memory, Usage, ReadFault, BadLine, NoPart, NoAlpha}
+use Rattle.command_words.specs.declared.stop.Stop.TheVariants.{BadMesh}
+use Rattle.command_words.specs.Lines.{plain_line, status_of}
 use Rattle.command_words.specs.Words.{AreWordsTaken}
-
-abbrev pub status_of : Stop → ℕ
-status_of Memory = 1
-status_of Usage = 2
-status_of ReadFault = 3
-status_of WriteFault = 4
-status_of (BadLine line) = 5
-status_of Flat = 6
-status_of TooLong = 7
-status_of NoPart = 8
-status_of NoAlpha = 9
-status_of BadMesh = 10
 
 -- the line of a fault if there is one, and else that of the status
 abbrev pub line_of_stop : Stop → List ℕ

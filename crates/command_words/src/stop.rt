@@ -2,7 +2,8 @@
 
 ghost use Rattle.std.specs.Prelude.{◌≡◌};
 ghost use Rattle.command_words.specs.declared.stop.Stop.TheVariants.{Memory};
-ghost use Rattle.command_words.specs.Stops.{line_of_stop, status_of, stop_of_read};
+ghost use Rattle.command_words.specs.Stops.{line_of_stop, stop_of_read};
+ghost use Rattle.command_words.specs.Lines.{status_of};
 
 use byte_ends::ReadError;
 use std::alloc::AllocError;

@@ -6,10 +6,12 @@ use Rattle.edit_history.specs.declared.history.Entry.{Entry}
 use Rattle.mesh_reader.proofs.Cited.{no_fault_of_mesh}
 use Rattle.command_words.specs.declared.stop.Stop.{Stop}
 use Rattle.command_words.specs.declared.stop.Stop.TheVariants.{Memory, ReadFault, BadLine, TooLong}
-use Rattle.command_pages.specs.Checked.{CheckEnds, IsChecked, IsMeshVerdict, IsUnchecked, TellsVerdict, checking}
+use Rattle.command_pages.specs.Checked.{IsChecked, IsUnchecked, TellsVerdict, checking}
 use Rattle.command_pages.specs.Statuses.{HasText, IsEarly, IsWrittenWhole}
-use Rattle.command_words.specs.Stops.{status_of}
+use Rattle.command_words.specs.Lines.{status_of}
+use Rattle.command_words.specs.Words.{Checks}
 use Rattle.delaunay_cli.proofs.Carried.{IsCarried}
+use Rattle.delaunay_cli.proofs.CommandEnds.{CheckEnds, IsMeshVerdict, ends_of}
 use Rattle.delaunay_cli.proofs.TextStatuses.{IsOfNothing, early_only, no_other, stopped_only, whole_only}
 
 -- the status of a verdict is that of a whole text
@@ -156,7 +158,7 @@ module _ (left : Option (List ℕ)) where
       }
 
 -- so the promise of `check` is carried
-pub check_carried : IsCarried checking
+pub check_carried : IsCarried checking (ends_of Checks)
 check_carried =
     record {
       made = λ words left late h text m status s. check_made left late h text m.0 m.1 m.2 status s;

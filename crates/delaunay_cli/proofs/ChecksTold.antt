@@ -15,13 +15,13 @@ use Rattle.mesh_check.specs.declared.flaw.Verdict.TheVariants.{Good, Bad}
 use Rattle.mesh_check.specs.Flaws.{IsVerdict, as_cells}
 use Rattle.mesh_check.specs.Text.{verdict_text}
 use Rattle.mesh_check.proofs.Cited.{flaw_is_true, flaw_shows, good_is_complex}
-use Rattle.command_pages.specs.Checked.{HasMeshFault, IsChecked, IsTrueMesh, IsJudged, IsMeshVerdict, IsMeshWithin}
-use Rattle.command_pages.specs.Checked.{status_of_verdict}
+use Rattle.command_pages.specs.Checked.{HasMeshFault, IsChecked, IsTrueMesh, IsJudged, IsMeshWithin, status_of_verdict}
 use Rattle.delaunay_cli.specs.Ends.{Ends}
 use Rattle.command_pages.specs.Run.{mesh_limit}
 use Rattle.command_pages.specs.Statuses.{IsEarly, IsWrittenWhole}
 use Rattle.command_words.specs.Words.{AreWordsTaken, Asks, Checks}
 use Rattle.command_pages.proofs.Cited.{cells_of}
+use Rattle.delaunay_cli.proofs.CommandEnds.{IsMeshVerdict}
 use Rattle.delaunay_cli.proofs.Promised.{of_check}
 
 -- the status tells whether the mesh is good

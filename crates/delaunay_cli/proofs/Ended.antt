@@ -10,16 +10,17 @@ use Rattle.command_pages.specs.declared.made.Made.{Made}
 use Rattle.command_words.specs.declared.stop.Stop.{Stop}
 use Rattle.command_words.specs.declared.stop.Stop.TheVariants.{Memory, Usage, WriteFault, BadLine}
 use Rattle.delaunay_cli.specs.Commands.{command_of_words}
-use Rattle.delaunay_cli.specs.Ends.{Ends, IsToldLine}
-use Rattle.delaunay_cli.specs.Made.{IsMadeOfWords, IsPutOut, IsUnmade}
+use Rattle.delaunay_cli.specs.Ends.{Ends, IsToldLine, IsDone, IsMadeOfWords, IsUnmade}
+use Rattle.delaunay_cli.specs.PutOut.{IsPutOut}
 use Rattle.command_pages.specs.Page.{IsFitToWrite, text_of_page}
 use Rattle.command_pages.specs.Run.{ReadsTo}
 use Rattle.command_pages.specs.Statuses.{HasText, IsWrittenWhole}
-use Rattle.command_words.specs.Stops.{line_of_stop, line_of_end, status_of, status_of_end, status_of_made}
-use Rattle.command_words.specs.Lines.{plain_line}
+use Rattle.command_words.specs.Stops.{line_of_stop, line_of_end, status_of_end, status_of_made}
+use Rattle.command_words.specs.Lines.{status_of, plain_line}
 use Rattle.command_words.specs.Words.{ReadsSource, AreWordsTaken, kind_of_words}
 use Rattle.command_pages.proofs.Cited.{reads_front}
 use Rattle.delaunay_cli.proofs.Carried.{IsCarried}
+use Rattle.delaunay_cli.proofs.CommandEnds.{ends_of}
 use Rattle.delaunay_cli.proofs.CommandPromises.{carried}
 use Rattle.delaunay_cli.proofs.TextStatuses.{late_whole, no_other, stopped_only, whole_only}
 
@@ -36,8 +37,8 @@ reads_stopped limit old new r = record {
 
 module _ (words : List (String Global)) (left_old left_new : Option (List ℕ)) (read_failed : Type 0)
     (held holds : Option (List ℕ)) (write_failed : Type 0) where
-  -- the promise of the command of the words holds
-  carried_of : IsCarried (command_of_words words)
+  -- what is made for the words is of their command
+  carried_of : IsCarried (command_of_words words) (ends_of (kind_of_words words))
   carried_of = carried (kind_of_words words)
 
   -- how much was read, where the source is
@@ -47,10 +48,10 @@ module _ (words : List (String Global)) (left_old left_new : Option (List ℕ)) 
   -- a run that stopped before a write
   unmade : (status : ℕ) → (status ≤ 7) × (status ≢ 0) × (status ≢ 4) →
       (status ≢ 1 → status ≡ 2 ↔ (AreWordsTaken words → ⊥)) → (status ≡ 3 → read_failed)
-      → (command_of_words words).ends words left_old status [] [] → HasRead status →
+      → IsDone words left_old read_failed status [] [] → HasRead status →
       Keeps held holds
       → Ends words left_old left_new read_failed held holds write_failed status []
-  unmade status n usage read promise reads keeps =
+  unmade status n usage read done reads keeps =
       record {
         statuses = let l = n.0 in omega (arith, l);
         usage = usage;
@@ -60,7 +61,7 @@ module _ (words : List (String Global)) (left_old left_new : Option (List ℕ)) 
         to_its_end = λ r k. absurd (stopped_only status n.0 n.1 n.2 (inl k));
         legal = tt;
         text = [];
-        promise = promise;
+        done = done;
         whole = λ k. absurd (stopped_only status n.0 n.1 n.2 (inl k));
         front = λ e. absurd (n.2 e);
         none_kept = λ k. refl;
@@ -73,14 +74,14 @@ module _ (words : List (String Global)) (left_old left_new : Option (List ℕ)) 
       → Ends words left_old left_new read_failed held holds write_failed (status_of stop) []
   stopped Memory s reads keeps =
       unmade 1 (omega arith, λ e. omega (arith, e), λ e. omega (arith, e)) (λ n. absurd (n refl))
-      (λ e. absurd (omega (arith, e))) (carried_of.early words left_old 1 (inl refl)) reads keeps
+      (λ e. absurd (omega (arith, e))) (inr (Memory, tt, refl, refl, refl)) reads keeps
   stopped Usage s reads keeps =
       unmade 2 (omega arith, λ e. omega (arith, e), λ e. omega (arith, e)) (λ n. (λ e. s, λ k. refl))
-      (λ e. absurd (omega (arith, e))) (carried_of.early words left_old 2 (inr refl)) reads keeps
+      (λ e. absurd (omega (arith, e))) (inr (Usage, s, refl, refl, refl)) reads keeps
   stopped stop s reads keeps =
       let n = carried_of.stops left_old read_failed stop s.1 in
       unmade (status_of stop) (n.0, n.1, n.3) (λ k. (λ e. absurd (n.2 e), λ t. absurd (t s.0))) n.4
-      (carried_of.unmade words left_old read_failed stop s.1) reads keeps
+      (inr (stop, s, refl, refl, refl)) reads keeps
 
   -- a run that wrote
   made : (late : ℕ) (h : List Entry) (text : List ℕ) → IsLegal h → IsMadeOfWords words left_old late h text →
@@ -102,7 +103,7 @@ module _ (words : List (String Global)) (left_old left_new : Option (List ℕ)) 
         to_its_end = λ r e. end r;
         legal = legal;
         text = text;
-        promise = carried_of.made words left_old late h text m.1 status s;
+        done = inl (late, m, s);
         whole = whole;
         front = front;
         none_kept = λ k. absurd (k has);

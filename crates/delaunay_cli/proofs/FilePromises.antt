@@ -11,11 +11,12 @@ use Rattle.edit_files.proofs.Cited.{no_fault_of, one_file_of}
 use Rattle.command_words.specs.declared.stop.Stop.{Stop}
 use Rattle.command_words.specs.declared.stop.Stop.TheVariants.{Memory, Usage, ReadFault, WriteFault, BadLine, Flat}
 use Rattle.command_words.specs.declared.stop.Stop.TheVariants.{TooLong, NoPart, NoAlpha, BadMesh}
-use Rattle.command_words.specs.Stops.{status_of}
+use Rattle.command_words.specs.Lines.{status_of}
 use Rattle.command_words.specs.Words.{worker_count}
-use Rattle.command_pages.specs.Files.{FileEnds, HasNoMesh, IsOfFile, TellsOfBytes, of_file}
+use Rattle.command_pages.specs.Files.{HasNoMesh, IsOfFile, of_file}
 use Rattle.command_pages.specs.Statuses.{HasText, IsEarly}
 use Rattle.delaunay_cli.proofs.Carried.{IsCarried, IsOfBytes}
+use Rattle.delaunay_cli.proofs.CommandEnds.{FileEnds, TellsOfBytes}
 use Rattle.delaunay_cli.proofs.TextStatuses.{IsOfNothing, early_only, has_text, no_other, stopped_only}
 
 -- of bytes of which a text is made, none of the statuses 5, 6 and 7 comes
@@ -153,7 +154,7 @@ module _ (P : List (String Global) → List Entry → List ℕ → Content → T
   Of words h text bytes = IsOfFile (worker_count words) h (P words h text) bytes
 
   -- it is carried
-  pub file_carried : IsCarried (of_file P)
+  pub file_carried : IsCarried (of_file P) (λ words left status h text. FileEnds (Of words h text) left status)
   file_carried =
       record {
         made = λ words left late h text m status s. file_made (worker_count words) h (P words h text) left status m.1
@@ -165,7 +166,7 @@ module _ (P : List (String Global) → List Entry → List ℕ → Content → T
       }
 
   -- and tells of the bytes
-  pub file_of_bytes : IsOfBytes (of_file P)
+  pub file_of_bytes : IsOfBytes (λ words left status h text. FileEnds (Of words h text) left status)
   file_of_bytes =
       record {
         verdict = λ words left status h text e. e.verdict;

@@ -1,5 +1,6 @@
 pub mod FilesRead
 pub mod TextStatuses
+pub mod CommandEnds
 pub mod Carried
 pub mod ChecksEnded
 pub mod FilePromises

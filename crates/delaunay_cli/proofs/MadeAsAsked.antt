@@ -27,7 +27,7 @@ use Rattle.command_pages.specs.Run.{ReadsTo}
 use Rattle.edit_files.specs.Generator.{generated}
 use Rattle.delaunay_cli.specs.Commands.{command_of, command_of_words}
 use Rattle.delaunay_cli.specs.Drawn.{IsDrawn}
-use Rattle.delaunay_cli.specs.Made.{IsMadeOfWords, IsUnmade}
+use Rattle.delaunay_cli.specs.Ends.{IsMadeOfWords, IsUnmade}
 use Rattle.delaunay_cli.specs.Parted.{IsPartedFile, TellsParts}
 use Rattle.delaunay_cli.specs.Queried.{IsQueried}
 use Rattle.delaunay_cli.specs.Meshed.{IsQueriedFile, IsReported, IsSteppedFile}

@@ -5,12 +5,13 @@ use Rattle.list_laws.proofs.Cited.{if_some}
 use Rattle.edit_history.specs.declared.history.Entry.{Entry}
 use Rattle.edit_history.specs.Histories.{replay}
 use Rattle.command_words.specs.declared.stop.Stop.{Stop}
-use Rattle.command_words.specs.Stops.{status_of}
-use Rattle.command_words.specs.Words.{asked_alpha, asked_index, asked_most, worker_count}
-use Rattle.command_pages.specs.Files.{HasNoMesh, IsOfFile, TellsOfBytes}
+use Rattle.command_words.specs.Lines.{status_of}
+use Rattle.command_words.specs.Words.{Parts, asked_alpha, asked_index, asked_most, worker_count}
+use Rattle.command_pages.specs.Files.{HasNoMesh, IsOfFile}
 use Rattle.command_pages.specs.Statuses.{HasText, IsWrittenWhole}
-use Rattle.delaunay_cli.specs.Parted.{IsParted, IsPartedFile, PartEnds, TellsParts, parting}
+use Rattle.delaunay_cli.specs.Parted.{IsParted, IsPartedFile, TellsParts, parting}
 use Rattle.delaunay_cli.proofs.Carried.{IsCarried, IsOfBytes}
+use Rattle.delaunay_cli.proofs.CommandEnds.{PartEnds, TellsOfBytes, ends_of}
 use Rattle.delaunay_cli.proofs.FilePromises.{only_kept, status_unmeshed, verdict_made, verdict_unmade}
 use Rattle.delaunay_cli.proofs.TextStatuses.{early_only, stopped_only, whole_only}
 
@@ -103,7 +104,7 @@ module _ (workers alpha most : ℕ) (index : Option ℕ) (left : Option (List �
           (λ bytes. only_kept workers h (λ file. IsParted (replay h) alpha most index n text) bytes) m
 
 -- so it is carried
-pub part_carried : IsCarried parting
+pub part_carried : IsCarried parting (ends_of Parts)
 part_carried =
     record {
       made = λ words left late h text m status s. part_made (worker_count words) (asked_alpha words)
@@ -117,7 +118,7 @@ part_carried =
     }
 
 -- and tells of the bytes
-pub part_of_bytes : IsOfBytes parting
+pub part_of_bytes : IsOfBytes (ends_of Parts)
 part_of_bytes =
     record {
       verdict = λ words left status h text e. e.verdict;

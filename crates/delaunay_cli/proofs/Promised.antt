@@ -20,23 +20,21 @@ use Rattle.plain_laws.specs.Plain.{IsAnchored}
 use Rattle.solid_parts.specs.Parts.{AreSolidParts}
 use Rattle.solid_parts.proofs.Cited.{same_count}
 use Rattle.alpha_complex.specs.Shapes.{shape_of}
-use Rattle.command_pages.specs.Checked.{CheckEnds}
-use Rattle.delaunay_cli.specs.Commands.{command_of}
-use Rattle.delaunay_cli.specs.Drawn.{DrawEnds, IsKeptOfDrawn, drawn_file}
+use Rattle.delaunay_cli.specs.Drawn.{IsKeptOfDrawn, drawn_file}
 use Rattle.delaunay_cli.specs.Ends.{Ends}
 use Rattle.delaunay_cli.specs.PlainText.{plain_drawn, plain_text}
 use Rattle.command_pages.specs.Report.{text_of_history}
-use Rattle.command_pages.specs.Files.{IsOfFile, TellsOfBytes}
-use Rattle.delaunay_cli.specs.Parted.{HasNoAlpha, HasNoPart, HasParts, IsAskedAlpha, IsParted, IsPartedFile, PartEnds}
-use Rattle.delaunay_cli.specs.Parted.{TellsAt}
+use Rattle.command_pages.specs.Files.{IsOfFile}
+use Rattle.delaunay_cli.specs.Parted.{HasNoAlpha, HasNoPart, HasParts, IsAskedAlpha, IsParted, IsPartedFile, TellsAt}
 use Rattle.delaunay_cli.specs.Queried.{IsQueried}
-use Rattle.delaunay_cli.specs.Meshed.{QueryEnds, IsReported, ReportEnds, IsSteppedFile, StepEnds}
+use Rattle.delaunay_cli.specs.Meshed.{IsReported, IsSteppedFile}
 use Rattle.delaunay_cli.specs.Stepped.{IsStepped}
 use Rattle.command_pages.specs.Statuses.{HasText, IsEarly, IsWrittenWhole}
 use Rattle.command_words.specs.Words.{Checks, Draws, Kind, Parts, Queries, ReadsFile, Reports, Steps, asked_alpha}
 use Rattle.command_words.specs.Words.{asked_index, asked_most, asks_order, asks_shape, asks_text, worker_count}
 use Rattle.command_words.specs.Words.{AreWordsTaken, kind_of_words, Asks}
-use Rattle.delaunay_cli.proofs.CommandPromises.{of_bytes}
+use Rattle.delaunay_cli.proofs.CommandEnds.{TellsOfBytes, ends_of}
+use Rattle.delaunay_cli.proofs.CommandPromises.{of_bytes, of_done}
 use Rattle.delaunay_cli.proofs.MadeAsAsked.{reading}
 use Rattle.delaunay_cli.proofs.TextStatuses.{has_text, stopped_only}
 use Rattle.delaunay_cli.proofs.PlainTexts.{drawn_is_plain, kept_is_plain}
@@ -57,7 +55,7 @@ few kind status l = (
 
 -- what a command promises tells which statuses come
 up_to_10 : (kind : Kind) (words : List (String Global)) (left : Option (List ℕ)) (status : ℕ) (h : List Entry)
-    (text : List ℕ) → (command_of kind).ends words left status h text → IsUpTo kind status
+    (text : List ℕ) → ends_of kind words left status h text → IsUpTo kind status
 unfolding IsUpTo
 up_to_10 Reports words left status h text p = few Reports status p.statuses
 up_to_10 Steps words left status h text p = few Steps status p.statuses
@@ -172,48 +170,50 @@ never_eight s alpha most status text p e = by p.at p.told
 module _ {words : List (String Global)} {left left_after : Option (List ℕ)} {read_failed : Type 0}
     {held holds : Option (List ℕ)} {write_failed : Type 0} {status : ℕ} {kept : List Entry}
     (e : Ends words left left_after read_failed held holds write_failed status kept) where
+  -- what follows of how the words were done
+  promise : ends_of (kind_of_words words) words left status kept e.text
+  promise = of_done words left read_failed status kept e.text e.done
+
   -- how high the status is, and of what command
   pub highest : (status ≤ 10) × ((status ≡ 8) ⊎ (status ≡ 9) → Asks Parts words) × (status ≡ 10 → Asks Checks words)
   unfolding IsUpTo
-  highest = up_to_10 (kind_of_words words) words left status kept e.text e.promise
+  highest = up_to_10 (kind_of_words words) words left status kept e.text promise
 
   -- the status is none of a text
   pub no_text : status ≢ 0 → status ≢ 4 → status ≤ 7 → HasText status → ⊥
   no_text a b l = stopped_only status l a b
 
   -- what a command of the kind of the words promises
-  of_kind : {kind : Kind} → kind_of_words words ≡ kind → (command_of kind).ends words left status kept e.text
-  of_kind w = subst (λ (kind : Kind). (command_of kind).ends words left status kept e.text) w e.promise
+  of_kind : {kind : Kind} → kind_of_words words ≡ kind → ends_of kind words left status kept e.text
+  of_kind w = subst (λ (kind : Kind). ends_of kind words left status kept e.text) w promise
 
   -- what is promised of a report, of the least alphas, of parts, of queries, of a mesh, and of a drawn file
-  pub of_report : Asks Reports words → ReportEnds (worker_count words) (asks_shape words) (asks_order words) left status
-      kept e.text
+  pub of_report : Asks Reports words → ends_of Reports words left status kept e.text
   of_report w = of_kind w
 
   -- of the least alphas
-  pub of_steps : Asks Steps words → StepEnds (worker_count words) left status kept e.text
+  pub of_steps : Asks Steps words → ends_of Steps words left status kept e.text
   of_steps w = of_kind w
 
   -- of parts
-  pub of_parts : Asks Parts words → PartEnds (worker_count words) (asked_alpha words) (asked_most words)
-      (asked_index words) left status kept e.text
+  pub of_parts : Asks Parts words → ends_of Parts words left status kept e.text
   of_parts w = of_kind w
 
   -- of queries
-  pub of_near : Asks Queries words → QueryEnds (worker_count words) left status kept e.text
+  pub of_near : Asks Queries words → ends_of Queries words left status kept e.text
   of_near w = of_kind w
 
   -- of a mesh
-  pub of_check : Asks Checks words → CheckEnds left status kept e.text
+  pub of_check : Asks Checks words → ends_of Checks words left status kept e.text
   of_check w = of_kind w
 
   -- and of a drawn file
-  pub of_drawn : Asks Draws words → DrawEnds (asks_text words) (worker_count words) (drawn_file words) status kept e.text
+  pub of_drawn : Asks Draws words → ends_of Draws words left status kept e.text
   of_drawn d = of_kind d
 
   -- what the statuses tell of the bytes
   verdict : ReadsFile words → (IsEarly status → ⊥) → IfSome left (TellsOfBytes status)
-  verdict w late = (of_bytes (kind_of_words words) w.0 w.1).verdict words left status kept e.text e.promise late
+  verdict w late = (of_bytes (kind_of_words words) w.0 w.1).verdict words left status kept e.text promise late
 
   -- what follows of the verdict follows of the bytes that are read
   pub of_verdict : (P : List ℕ → Type 0) → ((bytes : List ℕ) → TellsOfBytes status bytes → P bytes) → ReadsFile words →
@@ -235,7 +235,7 @@ module _ {words : List (String Global)} {left left_after : Option (List ℕ)} {r
       → ReadsFile words → HasText status → IfSome left
       (λ bytes. (file : Content) → IsFile file_limits bytes file → P file)
   of_kept P f w s = of_one P (λ file. ⊤) (λ file k t. f file k)
-      ((of_bytes (kind_of_words words) w.0 w.1).kept words left status kept e.text e.promise s)
+      ((of_bytes (kind_of_words words) w.0 w.1).kept words left status kept e.text promise s)
 
   -- the answers to the queries of the file, whose text has become part of the output
   abbrev IsAnsweredIn : (List ℕ → Type 0) → Content → Type 0

@@ -1,5 +1,5 @@
 -- The command `gen`: what is written of a file that is drawn.
-use Rattle.std.specs.Prelude.{◌≡◌, ◌⊎◌, ◌≤◌, ℕ, Bool, true, false, List, [], String, if◌then◌else◌}
+use Rattle.std.specs.Prelude.{◌≡◌, ℕ, Bool, true, false, List, [], String, if◌then◌else◌}
 use Rattle.std.specs.declared.alloc.Global.{Global}
 use Rattle.edit_history.specs.declared.history.Entry.{Entry}
 use Rattle.edit_files.specs.Content.{Content}
@@ -9,7 +9,6 @@ use Rattle.mesh_files.specs.Summary.{summary_text}
 use Rattle.command_pages.specs.Command.{Command}
 use Rattle.command_pages.specs.Report.{report_of}
 use Rattle.command_pages.specs.Run.{IsKept, input_limit}
-use Rattle.command_pages.specs.Statuses.{HasText}
 use Rattle.command_words.specs.Words.{asks_text, drawn_count, drawn_start, worker_count}
 
 -- the summary of a history of a file's lines, with a shape for each of its radii
@@ -38,12 +37,6 @@ drawn_text words h = text_of_drawn (asks_text words) (drawn_file words) h
 abbrev pub IsDrawn : Bool → ℕ → Content → List Entry → List ℕ → Type 0
 IsDrawn text workers file h written = IsKeptOfDrawn text file workers h × (written ≡ text_of_drawn text file h)
 
--- What a run that draws a file promises of its end: by the status, the history and the text.
-pub record DrawEnds (text : Bool) (workers : ℕ) (file : Content) (status : ℕ) (h : List Entry)
-    (written : List ℕ) : Type 0 where
-  pub statuses : status ≤ 2 ⊎ (status ≡ 4)
-  pub made : HasText status → IsDrawn text workers file h written
-
 -- The command. It reads nothing, so nothing of that is at fault, and nothing but want of memory stops it.
 abbrev pub drawing : Command
 drawing =
@@ -53,6 +46,4 @@ drawing =
       makes = λ words left late h text. (late ≡ 0)
           × IsDrawn (asks_text words) (worker_count words) (drawn_file words) h text;
       makes_none = λ left failed stop. ⊥;
-      ends = λ words left status h text. DrawEnds (asks_text words) (worker_count words) (drawn_file words) status h
-          text;
     }

@@ -1,15 +1,34 @@
 -- How a run ends, and what it tells.
-use Rattle.std.specs.Prelude.{◌≡◌, ◌≢◌, ◌↔◌, ◌≤◌, ℕ, List, [], Option, String}
+use Rattle.std.specs.Prelude.{◌≡◌, ◌≢◌, ◌⊎◌, ◌↔◌, ◌≤◌, ℕ, List, [], Option, String, ⊤}
 use Rattle.std.specs.declared.alloc.Global.{Global}
 use Rattle.std.specs.Io.KnownBytes.{Appends, Keeps, IsAtEnd}
 use Rattle.byte_ends.specs.Ends.{AppendsFront, Rose}
 use Rattle.edit_history.specs.declared.history.Entry.{Entry}
 use Rattle.edit_history.specs.Histories.{IsLegal}
-use Rattle.command_words.specs.Lines.{plain_line}
+use Rattle.command_words.specs.declared.stop.Stop.{Stop}
+use Rattle.command_words.specs.declared.stop.Stop.TheVariants.{Memory, Usage}
+use Rattle.command_words.specs.Lines.{plain_line, status_of}
 use Rattle.command_words.specs.Words.{Kind, ReadsSource, AreWordsTaken}
 use Rattle.command_pages.specs.Run.{ReadsTo}
 use Rattle.command_pages.specs.Statuses.{HasText, IsLineOf, IsWrittenWhole}
 use Rattle.delaunay_cli.specs.Commands.{command_of, command_of_words}
+
+-- the words are taken, and this is the history and the text that their command makes
+abbrev pub IsMadeOfWords : List (String Global) → Option (List ℕ) → ℕ → List Entry → List ℕ → Type 0
+IsMadeOfWords words left late h text = AreWordsTaken words × (command_of_words words).makes words left late h text
+
+-- why nothing is made, where the source had these bytes left, and by whether it failed
+abbrev pub IsUnmade : List (String Global) → Option (List ℕ) → Type 0 → Stop → Type 0
+IsUnmade words left failed Memory = ⊤
+IsUnmade words left failed Usage = AreWordsTaken words → ⊥
+IsUnmade words left failed stop = AreWordsTaken words × (command_of_words words).makes_none left failed stop
+
+-- How the words are done: this history and this text are made, and the status is what is told of them where the text is
+-- written whole, and 4 where it is cut off, which is not empty; or nothing is made, and the status says why.
+abbrev pub IsDone : List (String Global) → Option (List ℕ) → Type 0 → ℕ → List Entry → List ℕ → Type 0
+IsDone words left failed status h text =
+    ((late : ℕ) × IsMadeOfWords words left late h text × ((status ≡ late) ⊎ ((status ≡ 4) × (text ≢ []))))
+    ⊎ ((stop : Stop) × IsUnmade words left failed stop × (status ≡ status_of stop) × (h ≡ []) × (text ≡ []))
 
 -- The end of a run: its status and history, by what the source told before and after, what the output held and holds,
 -- and whether each failed. Each status comes exactly with its cause; want of memory (1) alone is free.
@@ -23,7 +42,7 @@ pub record Ends (words : List (String Global)) (left_old left_new : Option (List
   pub to_its_end : ReadsSource words → IsWrittenWhole status → IsAtEnd left_new
   pub legal : IsLegal h
   pub text : List ℕ
-  pub promise : (command_of_words words).ends words left_old status h text
+  pub done : IsDone words left_old read_failed status h text
   pub whole : IsWrittenWhole status → Appends held holds text
   pub front : status ≡ 4 → AppendsFront held holds text
   pub none_kept : (HasText status → ⊥) → h ≡ []

@@ -6,6 +6,6 @@ pub mod Drawn
 pub mod Commands
 pub mod Ends
 pub mod PlainText
-pub mod Made
+pub mod PutOut
 pub mod Meshed
 pub mod MeshLists

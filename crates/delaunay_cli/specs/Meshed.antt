@@ -1,5 +1,5 @@
 -- What is made of a file that is read, as functions and lemmas speak of it.
-use Rattle.std.specs.Prelude.{◌≡◌, ◌⊎◌, ℕ, List, Bool, true, false, Option}
+use Rattle.std.specs.Prelude.{◌≡◌, ◌⊎◌, ℕ, List, Bool, true, false}
 use Rattle.point_order.specs.Solid.{is_solid}
 use Rattle.edit_history.specs.declared.history.Entry.{Entry}
 use Rattle.edit_history.specs.Histories.{IsLegal, replay}
@@ -7,7 +7,7 @@ use Rattle.edit_files.specs.Content.{Content}
 use Rattle.mesh_files.specs.Text.{ReportParts}
 use Rattle.command_words.specs.declared.stop.Stop.{Stop}
 use Rattle.command_words.specs.declared.stop.Stop.TheVariants.{Memory, Flat}
-use Rattle.command_pages.specs.Files.{FileEnds, IsOfFile}
+use Rattle.command_pages.specs.Files.{IsOfFile}
 use Rattle.command_pages.specs.Report.{report_of, text_of_history}
 use Rattle.command_pages.specs.Run.{IsKept}
 use Rattle.delaunay_cli.specs.Queried.{IsQueried}
@@ -36,19 +36,11 @@ abbrev pub IsReported : ℕ → Bool → Bool → List Entry → List ℕ → Li
 IsReported workers shape order h text bytes = IsOfFile workers h (λ file. text
     ≡ text_of_history shape order file h) bytes
 
--- what a run that is to write a report promises of its end
-abbrev pub ReportEnds : ℕ → Bool → Bool → Option (List ℕ) → ℕ → List Entry → List ℕ → Type 0
-ReportEnds workers shape order left status h text = FileEnds (IsReported workers shape order h text) left status
-
 -- ---- least alphas
 
 -- the bytes are a solid file, which the history keeps, and the text is that of the points that the history leaves
 abbrev pub IsSteppedFile : ℕ → List Entry → List ℕ → List ℕ → Type 0
 IsSteppedFile workers h text bytes = IsOfFile workers h (λ file. IsStepped (replay h) text) bytes
-
--- what a run that is to write this text promises of its end
-abbrev pub StepEnds : ℕ → Option (List ℕ) → ℕ → List Entry → List ℕ → Type 0
-StepEnds workers left status h text = FileEnds (IsSteppedFile workers h text) left status
 
 -- ---- queries
 
@@ -63,7 +55,3 @@ pub record IsAnswered (workers : ℕ) (file : Content) (h : List Entry) (text : 
 -- the bytes are a solid file, which the history keeps, and the text is that of the points that the history leaves
 abbrev pub IsQueriedFile : ℕ → List Entry → List ℕ → List ℕ → Type 0
 IsQueriedFile workers h text bytes = IsOfFile workers h (λ file. IsQueried (replay h) file.queries text) bytes
-
--- what a run that is to write this text promises of its end
-abbrev pub QueryEnds : ℕ → Option (List ℕ) → ℕ → List Entry → List ℕ → Type 0
-QueryEnds workers left status h text = FileEnds (IsQueriedFile workers h text) left status

@@ -1,4 +1,4 @@
--- The command `parts`: what is made of the points that a history leaves, and what a run of it promises of its end.
+-- The command `parts`: what is made of the points that a history leaves.
 use Rattle.std.specs.Prelude.{◌≡◌, ◌⊎◌, ◌≤◌, ◌<◌, ℕ, zero, suc, List, [], length, Option, None, Some, IfSome}
 use Rattle.std.specs.Prelude.{slice_index_or}
 use Rattle.edit_history.specs.declared.history.Entry.{Entry}
@@ -12,9 +12,8 @@ use Rattle.solid_parts.specs.Text.{parts_text}
 use Rattle.edit_files.specs.Faults.{IsFault}
 use Rattle.command_words.specs.Words.{asked_alpha, asked_index, asked_most, worker_count}
 use Rattle.command_pages.specs.Command.{Command}
-use Rattle.command_pages.specs.Files.{HasNoMesh, IsOfFile, TellsOfBytes}
+use Rattle.command_pages.specs.Files.{HasNoMesh, IsOfFile}
 use Rattle.command_pages.specs.Run.{input_limit, file_limits}
-use Rattle.command_pages.specs.Statuses.{IsEarly, IsWrittenWhole}
 
 -- The alpha at which the parts are taken: the one that is given, and where a most of parts above 0 is asked for, the
 -- least at which every point is in an admitted cell and there are at most so many; then there may be none.
@@ -68,16 +67,6 @@ pub record HasNoPart (s : List ℕ) (alpha most i : ℕ) : Type 0 where
   pub are_parts : AreSolidParts (shape_of s at).cells parts
   pub past : length parts ≤ i
 
--- What a run that is to tell of parts promises of its end: by what the source had left, the status, the history and the
--- text, of which on 4 a front is written.
-pub record PartEnds (workers alpha most : ℕ) (index : Option ℕ) (left : Option (List ℕ)) (status : ℕ) (h : List Entry)
-    (text : List ℕ) : Type 0 where
-  pub statuses : status ≤ 9
-  pub verdict : (IsEarly status → ⊥) → IfSome left (TellsOfBytes status)
-  pub made : IsWrittenWhole status → IfSome left (IsPartedFile workers alpha most index status h text)
-  pub cut : status ≡ 4 → IfSome left (IsPartedFile workers alpha most index 0 h text)
-  pub nothing : 7 < status → text ≡ []
-
 -- The command.
 abbrev pub parting : Command
 parting =
@@ -88,6 +77,4 @@ parting =
           × IfSome left (IsPartedFile (worker_count words) (asked_alpha words) (asked_most words) (asked_index words)
           late h text);
       makes_none = λ left failed stop. HasNoMesh left failed stop;
-      ends = λ words left status h text. PartEnds (worker_count words) (asked_alpha words) (asked_most words)
-          (asked_index words) left status h text;
     }
