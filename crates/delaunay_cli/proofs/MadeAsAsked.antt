@@ -11,13 +11,14 @@ use Rattle.command_words.specs.declared.task.Asked.{Asked}
 use Rattle.command_words.specs.declared.task.Drawn.{Drawn}
 use Rattle.command_words.specs.declared.task.Making.{Making}
 use Rattle.command_words.specs.declared.task.Wanted.{Wanted}
-use Rattle.command_words.specs.declared.task.Task.TheVariants.{Report, Step, Part, Query, Draw}
+use Rattle.command_words.specs.declared.task.Task.{Task}
+use Rattle.command_words.specs.declared.task.Task.TheVariants.{Report, Step, Part, Query, Check, Draw}
 use Rattle.command_words.specs.Stops.{status_of_end}
 use Rattle.command_words.specs.Tasks.{IsTask}
 use Rattle.command_words.specs.Words.{Checks, Draws, Kind, Parts, Queries, ReadsFile, ReadsSource, Reports, Steps}
 use Rattle.command_words.specs.Words.{asked_alpha, asked_index, asked_most, asks_order, asks_shape, AreWordsTaken}
 use Rattle.command_words.specs.Words.{kind_of_words, worker_count, Asks}
-use Rattle.command_words.proofs.Cited.{draw_task, part_task, query_task, report_task, step_task}
+use Rattle.command_words.proofs.Cited.{check_task, draw_task, part_task, query_task, report_task, step_task}
 use Rattle.command_pages.specs.declared.made.Made.{Made}
 use Rattle.command_pages.specs.Checked.{IsChecked, TellsVerdict}
 use Rattle.command_pages.specs.Files.{IsOfFile}
@@ -34,6 +35,25 @@ use Rattle.delaunay_cli.specs.Meshed.{IsQueriedFile, IsReported, IsSteppedFile}
 use Rattle.delaunay_cli.specs.Stepped.{IsStepped}
 use Rattle.delaunay_cli.proofs.CommandPromises.{carried}
 use Rattle.delaunay_cli.proofs.DrawnFiles.{drawn_asked}
+
+-- what the command of a task does
+abbrev pub kind_of_task : Task → Kind
+kind_of_task (Report making asked) = Reports
+kind_of_task (Step making) = Steps
+kind_of_task (Part making wanted) = Parts
+kind_of_task (Query making) = Queries
+kind_of_task Check = Checks
+kind_of_task (Draw making drawn) = Draws
+
+-- the command of the words does what their task is, whatever it is found to be
+pub kind_is : (words : List (String Global)) (task found : Task) → IsTask words task → task ≡ found →
+    kind_of_words words ≡ kind_of_task found
+kind_is words task (Report making asked) t e = (report_task words making asked (subst (IsTask words) e t)).0
+kind_is words task (Step making) t e = (step_task words making (subst (IsTask words) e t)).0
+kind_is words task (Part making wanted) t e = (part_task words making wanted (subst (IsTask words) e t)).0
+kind_is words task (Query making) t e = (query_task words making (subst (IsTask words) e t)).0
+kind_is words task Check t e = check_task words (subst (IsTask words) e t)
+kind_is words task (Draw making drawn) t e = (draw_task words making drawn (subst (IsTask words) e t)).0
 
 -- words of a kind that neither draws nor checks read a file
 reads_of : (words : List (String Global)) (kind : Kind) → kind ≢ Draws → kind ≢ Checks → kind_of_words words ≡ kind →
@@ -52,13 +72,22 @@ reading words (inr (inr (inr w))) = reads_of words Queries (λ e. cc) (λ e. cc)
 pub mesh_reading : (words : List (String Global)) → Asks Checks words → ReadsSource words
 mesh_reading words w e = let z : Checks ≡ Draws = sym w ∙ e in cc
 
--- of a command of the words that is of this kind
-module _ (words : List (String Global)) (left : Option (List ℕ)) (failed : Type 0) (taken : AreWordsTaken words)
-    (kind : Kind) (k : kind_of_words words ≡ kind) where
+-- where their task draws nothing, the source is read
+pub reads_source : (words : List (String Global)) (task found : Task) → IsTask words task → task ≡ found →
+    kind_of_task found ≢ Draws → ReadsSource words
+reads_source words task found t e n d = n (sym (kind_is words task found t e) ∙ d)
+
+-- of the task that the words are found to ask for
+module _ (words : List (String Global)) (task found : Task) (taken : AreWordsTaken words) (t : IsTask words task)
+    (e : task ≡ found) (left : Option (List ℕ)) where
+  -- the command of the words is of this kind
+  k : kind_of_words words ≡ kind_of_task found
+  k = kind_is words task found t e
+
   -- what is made is what the words ask for
   pub made_as : (m : Result Made Stop) →
-      IfOk m (λ made. (command_of kind).makes words left (status_of_end made.after) made.kept.items
-      (text_of_page made.page)) →
+      IfOk m (λ made. (command_of (kind_of_task found)).makes words left (status_of_end made.after)
+      made.kept.items (text_of_page made.page)) →
       IfOk m (λ made. IsMadeOfWords words left (status_of_end made.after) made.kept.items (text_of_page made.page))
   made_as (Err stop) r = tt
   made_as (Ok made) r = (
@@ -68,16 +97,18 @@ module _ (words : List (String Global)) (left : Option (List ℕ)) (failed : Typ
   )
 
   -- why nothing was made is why the words make nothing
-  pub unmade_as : {A : Type 0} (m : Result A Stop) → IfErr m ((command_of kind).makes_none left failed) →
+  pub unmade_as : {A : Type 0} (failed : Type 0) (m : Result A Stop) →
+      IfErr m ((command_of (kind_of_task found)).makes_none left failed) →
       IfErr m (IsUnmade words left failed)
-  unmade_as (Ok made) u = tt
-  unmade_as (Err Memory) u = tt
-  unmade_as (Err Usage) u = absurd (((carried kind).stops left failed Usage u).2 refl)
-  unmade_as (Err stop) u =
+  unmade_as failed (Ok made) u = tt
+  unmade_as failed (Err Memory) u = tt
+  unmade_as failed (Err Usage) u = absurd (((carried (kind_of_task found)).stops left failed Usage u).2 refl)
+  unmade_as failed (Err stop) u =
       (taken, subst (λ (kind : Kind). (command_of kind).makes_none left failed stop) (sym k) u)
 
   -- and how much was read is as it may be
-  pub reads_as : (new : Option (List ℕ)) (status : ℕ) → ReadsTo (command_of kind).limit left new status →
+  pub reads_as : (new : Option (List ℕ)) (status : ℕ) →
+      ReadsTo (command_of (kind_of_task found)).limit left new status →
       ReadsTo (command_of_words words).limit left new status
   reads_as new status r = subst (λ (kind : Kind). ReadsTo (command_of kind).limit left new status) (sym k) r
 
