@@ -110,7 +110,8 @@ returns-in-Check-clause-made g c =
 pub returns-in-Check-clause-stop : goal.returns-in-Check-clause-stop
 returns-in-Check-clause-stop g c =
     unmade_as c.args.words.now _ _ c.in_ok-making.ensures.taken c.in_ok-making.ensures.task c.in-Check.is
-    (g.S.Source.left c.args.src.now) (Rose (g.S.Source.faults c.args.src.now) (g.S.Source.faults c.check_source.new.src))
+    (g.S.Source.left c.args.src.now)
+    (Rose (g.S.Source.faults c.args.src.now) (g.S.Source.faults c.check_source.new.src))
     c.check_source.result c.check_source.ensures.stop
 
 pub returns-in-Check-clause-reads : goal.returns-in-Check-clause-reads
