@@ -8,13 +8,12 @@ ghost use Rattle.command_words.specs.Built.{IsBuilt, IsLine};
 ghost use Rattle.command_words.specs.Words.{command_of, gen_command as gen_command_of, program as program_of};
 ghost use Rattle.command_words.specs.Words.{AreWordsTaken, alpha_option, flag_in as flag_in_of, flag_of};
 ghost use Rattle.command_words.specs.Words.{given_in as given_in_of, grid_option, index_option, most_alpha, most_grid};
-ghost use Rattle.command_words.specs.Words.{most_index, most_option, most_start, meshing_command, count_option};
-ghost use Rattle.command_words.specs.Words.{start_option, number_between as number_between_of};
-ghost use Rattle.command_words.specs.Words.{number_in as number_in_of, number_of as number_of_it};
-ghost use Rattle.command_words.specs.Words.{parts_command as parts_command_of, workers_option};
+ghost use Rattle.command_words.specs.Words.{most_index, most_option, meshing_command, count_option, start_option};
+ghost use Rattle.command_words.specs.Words.{number_between as number_between_of, number_in as number_in_of};
+ghost use Rattle.command_words.specs.Words.{number_of as number_of_it, parts_command as parts_command_of};
+ghost use Rattle.command_words.specs.Words.{workers_option};
 ghost use Rattle.command_words.specs.Stops.{AreRefused};
 ghost use Rattle.command_words.specs.Tasks.{IsMakingOf, IsTask, IsTaskOf};
-ghost use Rattle.edit_files.specs.Generator.{most_edits};
 
 use crate::stop::Stop;
 use crate::task::{Asked, Drawn, Making, Task, Wanted};

@@ -1,5 +1,5 @@
 -- The lines of a generated file, one after another, and its laws.
-use Rattle.std.proofs.Common.{◌≡◌, ◌≢◌, ◌∙◌, refl, sym, ap, subst, ℕ, suc, ◌+◌, ◌-◌, ◌*◌, ◌/◌, ◌%◌, ◌<◌, ◌≤◌, Bool}
+use Rattle.std.proofs.Common.{◌≡◌, ◌≢◌, ◌∙◌, refl, sym, ap, ℕ, suc, ◌+◌, ◌-◌, ◌*◌, ◌/◌, ◌%◌, ◌<◌, ◌≤◌, Bool}
 use Rattle.std.proofs.Common.{true, false, cond, eqb, List, [], ◌∷◌, ◌++◌, map, get_or, length, arith, eq-eqb, inl, inr}
 use Rattle.std.proofs.Common.{Some, lit<, lit≤, slice_index}
 use Rattle.std.specs.List.{range_with_len, AllByRecursion}

@@ -18,9 +18,9 @@ is_word version line =
     bytes_eq line (codes "points") || bytes_eq line (codes "edits") || bytes_eq line (codes "radii")
     || bytes_eq line (codes "end") || ((row version).queries && bytes_eq line (codes "queries"))
 
--- Why a line is wrong where this is due. Section: another word is due, or no line at all; in a list, it is a word, but not
--- the one behind it. Else it is for the list. TooMany: that has as many lines as there may be. Field: it has room, and
--- the line is not of its form. Range: the line is of its form, and yet is not taken.
+-- Why a line is wrong where this is due. Section: another word is due, or no line at all; in a list, it is a word, but
+-- not the one behind it. Else it is for the list. TooMany: that has as many lines as there may be. Field: it has room,
+-- and the line is not of its form. Range: the line is of its form, and yet is not taken.
 abbrev pub IsReason : Limits → Due → Content → List ℕ → Why → Type 0
 IsReason limits Title f line Section = (v : Version) → line ≡ (row v).title → ¬ (IsWithinNewest limits v)
 IsReason limits Heading f line Section = line ≢ codes "points"

@@ -17,7 +17,7 @@ use Rattle.point_order.specs.Conflicts.{are_opposite}
 use Rattle.point_order.specs.Spheres.{is_outside}
 use Rattle.point_order.specs.Sets.{IsIn, is_among}
 use Rattle.point_order.specs.Solid.{is_solid}
-use Rattle.point_order.specs.Facets.{facets_of, points_of}
+use Rattle.point_order.specs.Facets.{facets_of}
 use Rattle.mesh_check.specs.declared.flaw.Flaw.{Flaw}
 use Rattle.mesh_check.specs.declared.flaw.Flaw.TheVariants.{Empty, FlatCell, Sides, Inside, OpenFacet}
 use Rattle.mesh_check.specs.declared.flaw.Verdict.{Verdict}

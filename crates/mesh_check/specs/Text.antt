@@ -1,7 +1,6 @@
 -- The text of a verdict, which names points by their indices.
 use Rattle.std.specs.Prelude.{ℕ, Bool, true, false, List, [], ◌∷◌, ◌++◌, map, codes, decimal}
 use Rattle.std.specs.List.{concat}
-use Rattle.point_order.specs.declared.cell.Cell.{Cell}
 use Rattle.point_order.specs.Facets.{points_of, points_on}
 use Rattle.text_sheets.specs.Indices.{index_of}
 use Rattle.mesh_check.specs.declared.flaw.Flaw.{Flaw}

@@ -8,9 +8,9 @@ use Rattle.mesh_reader.specs.declared.place.Due.{Due}
 use Rattle.mesh_reader.specs.declared.place.Due.TheVariants.{Title, Head, Body, Last, Nothing}
 use Rattle.mesh_reader.specs.Grammar.{HasFormOf, HasHeadForm, IsHead, IsTaken, LeadsOn, MeshParts, Reached, at_title}
 
--- Why a line is wrong where this is due. Section: another word is due, or no line at all. TooMany: a head announces more
--- lines than there may be, or fewer than none. Field: a line of a list is not of its form. Range: it is, and yet is not
--- taken.
+-- Why a line is wrong where this is due. Section: another word is due, or no line at all. TooMany: a head announces
+-- more lines than there may be, or fewer than none. Field: a line of a list is not of its form. Range: it is, and yet is
+-- not taken.
 abbrev pub IsMeshReason : Due → MeshParts → List ℕ → Why → Type 0
 IsMeshReason Title f line Section = line ≢ codes "mesh3-out 1"
 IsMeshReason (Head p) f line Section = ¬ (HasHeadForm p line)

@@ -1,7 +1,6 @@
 use Rattle.std.proofs.Common.{codes}
 use Rattle.clap.specs.Words.{with_rule}
-use Rattle.command_words.specs.Words.{flag_of, meshing_command, most_start, count_option, start_option}
-use Rattle.edit_files.specs.Generator.{most_edits}
+use Rattle.command_words.specs.Words.{flag_of, meshing_command, count_option, start_option}
 use Rattle.command_words.proofs.words.gen_command.Goals as goal
 
 pub returns : goal.returns
