@@ -1,14 +1,13 @@
 -- Tables gathered point by point.
 use Rattle.std.specs.Prelude.{◌≡◌, ℕ, ◌≤◌, ◌<◌, ◌⊎◌, ◌↔◌, List, map, length, slice_index_or}
 use Rattle.std.specs.List.Sorted.{IsStrictlySortedBy}
-use Rattle.std.specs.Ordering.{nat_cmp}
 use Rattle.std.specs.declared.cmp.Ordering.{Ordering}
 use Rattle.point_order.specs.declared.cell.Cell.{Cell}
 use Rattle.point_order.specs.Sets.{IsIn}
 use Rattle.face_list.specs.declared.around.Gathering.{Gathering}
 use Rattle.face_list.specs.declared.table.Table.{Table}
-use Rattle.face_list.specs.Gather.{item_cmp, full_keys, items_from, numbers_of}
-use Rattle.face_list.specs.Tables.{AreStops, IsTable, stretches}
+use Rattle.face_list.specs.Gather.{IsPointTable, item_cmp, full_keys, items_from, numbers_of}
+use Rattle.face_list.specs.Tables.{AreStops, stretches}
 
 -- the first point of a part
 abbrev pub first_point : List ℕ → ℕ
@@ -51,11 +50,10 @@ pub record GathersPoints {K : Type 0} (cmp : K → K → Ordering) (parts_of : C
   pub order : from ≤ to
   pub within : to ≤ length points.keys.items
 
--- to what was gathered of the points of a table, which stand in order, those up to an index may be added
+-- to what was gathered of the points of a table, those up to an index may be added
 pub record CanAdd {K : Type 0} (cmp : K → K → Ordering) (parts_of : Cell → List K) (first_of : K → ℕ)
     (cells : List Cell) (points : Table ℕ) (g : Gathering K) (to : ℕ) : Type 0 where
-  pub table : IsTable (length cells) points
-  pub order : IsStrictlySortedBy nat_cmp points.keys.items
+  pub over : IsPointTable cells points
   pub so_far : GathersPoints cmp parts_of first_of cells points g.from g.to g
   pub range : g.to ≤ to
   pub within : to ≤ length points.keys.items

@@ -1,5 +1,5 @@
 -- Cells that are gathered under keys, as `gather` promises them. An item is a key with the number of a cell.
-use Rattle.std.specs.Prelude.{◌≡◌, ℕ, suc, ◌<◌, ◌↔◌, Bool, true, false, List, [], ◌∷◌, ◌++◌, map}
+use Rattle.std.specs.Prelude.{◌≡◌, ℕ, suc, ◌^◌, ◌<◌, ◌↔◌, Bool, true, false, List, [], ◌∷◌, ◌++◌, map, length}
 use Rattle.std.specs.List.{filter}
 use Rattle.std.specs.List.Sorted.{IsStrictlySortedBy}
 use Rattle.std.specs.Ordering.{nat_cmp, is_eq, ordering_then}
@@ -9,7 +9,7 @@ use Rattle.point_order.specs.declared.cell.Cell.TheVariants.{Full, Open}
 use Rattle.point_order.specs.Facets.{points_of}
 use Rattle.point_order.specs.Sets.{IsAscending, IsIn}
 use Rattle.face_list.specs.declared.table.Table.{Table}
-use Rattle.face_list.specs.Tables.{cell_at, stretches}
+use Rattle.face_list.specs.Tables.{IsTable, cell_at, stretches}
 
 -- the cell is Full
 abbrev pub is_a_full_cell : Cell → Bool
@@ -52,3 +52,10 @@ pub record GathersItems {K : Type 0} (cmp : K → K → Ordering) (cells : List 
 abbrev pub AreAscending : List Cell → Type 0
 AreAscending [] = Unit {0}
 AreAscending (c ∷ cells) = IsAscending (points_of c) × AreAscending cells
+
+-- The table is that of the points of cells that 32 bits count: the points of each cell ascend, and so do its keys.
+pub record IsPointTable (cells : List Cell) (points : Table ℕ) : Type 0 where
+  pub few : length cells < 2 ^ 32
+  pub ascending : AreAscending cells
+  pub table : IsTable (length cells) points
+  pub order : IsStrictlySortedBy nat_cmp points.keys.items

@@ -1,12 +1,10 @@
 //! The faces of cells, gathered by one thread.
 
 ghost use Rattle.std.specs.Prelude.{◌≡◌, ◌<◌, ◌^◌, ◌↔◌, ℕ, length, IfOk, OnOk};
-ghost use Rattle.std.specs.List.Sorted.{IsStrictlySortedBy};
-ghost use Rattle.std.specs.Ordering.{nat_cmp};
 ghost use Rattle.std.proofs.lemmas.Map.Lookups.{CmpEqualImpliesEq};
 ghost use Rattle.point_order.specs.Sets.{IsIn};
 ghost use Rattle.face_list.specs.Faces.{parts_in, points_in, points_with_cells, with_cells_around};
-ghost use Rattle.face_list.specs.Gather.{AreAscending, AreItems, item_cmp, GathersItems};
+ghost use Rattle.face_list.specs.Gather.{AreItems, GathersItems, IsPointTable};
 ghost use Rattle.face_list.specs.Tables.{IsTable, table_seen};
 
 use crate::around::table_around;
@@ -40,12 +38,11 @@ fn gather<K: Ord + Copy>(
 fn point_table(alloc: Global, cells: &[Cell]) -> Result<Table<Point>, AllocError>
     requires { length cells.now < 2 ^ 32 }
     ensures faces { IfOk result (λ t. table_seen cells.now t ≡ points_with_cells (points_in cells.now) cells.now) }
-    ensures table { IfOk result (λ t. IsTable (length cells.now) t) }
-    ensures ascending { OnOk result (AreAscending cells.now) }
-    ensures order { IfOk result (λ t. IsStrictlySortedBy nat_cmp t.keys.items) }
+    ensures table { IfOk result (IsPointTable cells.now) }
 {
     let items = point_items(alloc, cells)?;
-    gather(alloc, cells, items)
+    let table = gather(alloc, cells, items)?;
+    Ok(table)
 }
 
 // The pairs inside Full cells, with the cells that have both points.
@@ -54,10 +51,7 @@ fn pair_table(
     cells: &[Cell],
     points: &Table<Point>,
 ) -> Result<Table<Pair>, AllocError>
-    requires few { length cells.now < 2 ^ 32 }
-    requires ascending { AreAscending cells.now }
-    requires points { IsTable (length cells.now) points.now }
-    requires order { IsStrictlySortedBy nat_cmp points.now.keys.items }
+    requires { IsPointTable cells.now points.now }
     ensures faces { IfOk result (λ t. table_seen cells.now t ≡ with_cells_around (parts_in 2 cells.now) cells.now) }
     ensures table { IfOk result (λ t. IsTable (length cells.now) t) }
 {
@@ -76,10 +70,7 @@ fn triple_table(
     cells: &[Cell],
     points: &Table<Point>,
 ) -> Result<Table<Tri>, AllocError>
-    requires few { length cells.now < 2 ^ 32 }
-    requires ascending { AreAscending cells.now }
-    requires points { IsTable (length cells.now) points.now }
-    requires order { IsStrictlySortedBy nat_cmp points.now.keys.items }
+    requires { IsPointTable cells.now points.now }
     ensures faces { IfOk result (λ t. table_seen cells.now t ≡ with_cells_around (parts_in 3 cells.now) cells.now) }
     ensures table { IfOk result (λ t. IsTable (length cells.now) t) }
 {

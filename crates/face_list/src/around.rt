@@ -11,7 +11,7 @@ ghost use Rattle.point_order.specs.Sets.{IsIn};
 ghost use Rattle.point_order.specs.Subsets.{subsets};
 ghost use Rattle.face_list.specs.declared.table.Table.{Table};
 ghost use Rattle.face_list.specs.Around.{ArePartsPut, CanAdd, GathersPoints, first_point};
-ghost use Rattle.face_list.specs.Gather.{items_from, GathersItems};
+ghost use Rattle.face_list.specs.Gather.{items_from, GathersItems, IsPointTable};
 ghost use Rattle.face_list.specs.Order.{before_by_first};
 ghost use Rattle.face_list.specs.Tables.{IsTable, cell_at};
 
@@ -305,8 +305,7 @@ pub(crate) fn table_around<K: Part>(
     points: &Table<Point>,
 ) -> Result<Option<Table<K>>, AllocError>
     requires exact { CmpEqualImpliesEq K.cmp }
-    requires points { IsTable (length cells.now) points.now }
-    requires order { IsStrictlySortedBy nat_cmp points.now.keys.items }
+    requires points { IsPointTable cells.now points.now }
     ensures gathers { IfOk result
         (λ o. IfSome o (λ t. GathersItems K.cmp cells.now (items_from 0 K.parts_of cells.now) t)) }
     ensures table { IfOk result (λ o. IfSome o (λ t. IsTable (length cells.now) t)) }

@@ -2,14 +2,12 @@
 //! gathered is put together in order, behind what was gathered before.
 
 ghost use Rattle.std.specs.Prelude.{◌≡◌, ◌<◌, ◌≤◌, ◌+◌, ◌++◌, ℕ, List, length, map, IfOk, IfSome, OnOk};
-ghost use Rattle.std.specs.List.Sorted.{IsStrictlySortedBy};
-ghost use Rattle.std.specs.Ordering.{nat_cmp};
 ghost use Rattle.std.specs.Thread.{IsSync};
 ghost use Rattle.std.proofs.lemmas.Map.Lookups.{CmpEqualImpliesEq};
 ghost use Rattle.point_order.specs.declared.cell.Cell.{Cell};
 ghost use Rattle.face_list.specs.declared.table.Table.{Table};
 ghost use Rattle.face_list.specs.Around.{CanAdd, GathersPoints};
-ghost use Rattle.face_list.specs.Gather.{items_from, GathersItems};
+ghost use Rattle.face_list.specs.Gather.{items_from, GathersItems, IsPointTable};
 ghost use Rattle.face_list.specs.Tables.{AreStops, IsTable, stretches};
 
 use crate::around::{Gathering, Part, Room, add_points, nothing, room_for, whole};
@@ -166,8 +164,7 @@ fn gather_in_rounds<R: Threads + Sync, K: Part + Send>(
     threads: usize,
 ) -> Result<Gathering<K>, AllocError>
     requires exact { CmpEqualImpliesEq K.cmp }
-    requires points { IsTable (length cells.now) points.now }
-    requires order { IsStrictlySortedBy nat_cmp points.now.keys.items }
+    requires points { IsPointTable cells.now points.now }
     ensures { IfOk result
         (GathersPoints K.cmp K.parts_of K.first_of cells.now points.now 0 (length points.now.keys.items)) }
 {
@@ -192,8 +189,7 @@ pub(crate) fn table_beside<R: Threads + Sync, K: Part + Send>(
     threads: usize,
 ) -> Result<Option<Table<K>>, AllocError>
     requires exact { CmpEqualImpliesEq K.cmp }
-    requires points { IsTable (length cells.now) points.now }
-    requires order { IsStrictlySortedBy nat_cmp points.now.keys.items }
+    requires points { IsPointTable cells.now points.now }
     ensures gathers { IfOk result
         (λ o. IfSome o (λ t. GathersItems K.cmp cells.now (items_from 0 K.parts_of cells.now) t)) }
     ensures table { IfOk result (λ o. IfSome o (λ t. IsTable (length cells.now) t)) }

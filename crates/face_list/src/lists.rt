@@ -1,11 +1,9 @@
 //! The tables of faces of each kind.
 
 ghost use Rattle.std.specs.Prelude.{◌≡◌, ◌<◌, ◌^◌, length, IfOk, OnOk};
-ghost use Rattle.std.specs.List.Sorted.{IsStrictlySortedBy};
-ghost use Rattle.std.specs.Ordering.{nat_cmp};
 ghost use Rattle.std.specs.Thread.{IsSync};
 ghost use Rattle.face_list.specs.Faces.{points_in, parts_in, points_with_cells, with_cells_around};
-ghost use Rattle.face_list.specs.Gather.{AreAscending};
+ghost use Rattle.face_list.specs.Gather.{IsPointTable};
 ghost use Rattle.face_list.specs.Tables.{IsTable, table_seen};
 
 use crate::beside::table_beside;
@@ -24,12 +22,11 @@ pub(crate) fn point_table<R: Threads + Sync>(
 ) -> Result<Table<Point>, AllocError>
     requires { length cells.now < 2 ^ 32 }
     ensures faces { IfOk result (λ t. table_seen cells.now t ≡ points_with_cells (points_in cells.now) cells.now) }
-    ensures table { IfOk result (λ t. IsTable (length cells.now) t) }
-    ensures ascending { OnOk result (AreAscending cells.now) }
-    ensures order { IfOk result (λ t. IsStrictlySortedBy nat_cmp t.keys.items) }
+    ensures table { IfOk result (IsPointTable cells.now) }
 {
     let items = point_items(alloc, cells)?;
-    gather(rt, alloc, cells, items)
+    let table = gather(rt, alloc, cells, items)?;
+    Ok(table)
 }
 
 // The pairs inside Full cells, with the cells that have both points, by so many threads.
@@ -40,10 +37,7 @@ fn pair_table<R: Threads + Sync>(
     points: &Table<Point>,
     threads: usize,
 ) -> Result<Table<Pair>, AllocError>
-    requires few { length cells.now < 2 ^ 32 }
-    requires ascending { AreAscending cells.now }
-    requires points { IsTable (length cells.now) points.now }
-    requires order { IsStrictlySortedBy nat_cmp points.now.keys.items }
+    requires { IsPointTable cells.now points.now }
     ensures faces { IfOk result (λ t. table_seen cells.now t ≡ with_cells_around (parts_in 2 cells.now) cells.now) }
     ensures table { IfOk result (λ t. IsTable (length cells.now) t) }
 {
@@ -64,10 +58,7 @@ fn triple_table<R: Threads + Sync>(
     points: &Table<Point>,
     threads: usize,
 ) -> Result<Table<Tri>, AllocError>
-    requires few { length cells.now < 2 ^ 32 }
-    requires ascending { AreAscending cells.now }
-    requires points { IsTable (length cells.now) points.now }
-    requires order { IsStrictlySortedBy nat_cmp points.now.keys.items }
+    requires { IsPointTable cells.now points.now }
     ensures faces { IfOk result (λ t. table_seen cells.now t ≡ with_cells_around (parts_in 3 cells.now) cells.now) }
     ensures table { IfOk result (λ t. IsTable (length cells.now) t) }
 {
@@ -96,10 +87,7 @@ pub(crate) fn pair_and_triple_tables<R: Threads + Sync>(
     cells: &[Cell],
     points: &Table<Point>,
 ) -> Result<(Table<Pair>, Table<Tri>), AllocError>
-    requires few { length cells.now < 2 ^ 32 }
-    requires ascending { AreAscending cells.now }
-    requires points { IsTable (length cells.now) points.now }
-    requires order { IsStrictlySortedBy nat_cmp points.now.keys.items }
+    requires { IsPointTable cells.now points.now }
     ensures pairs { IfOk result (λ both. table_seen cells.now both.0
         ≡ with_cells_around (parts_in 2 cells.now) cells.now) }
     ensures triples { IfOk result (λ both. table_seen cells.now both.1
@@ -112,20 +100,14 @@ pub(crate) fn pair_and_triple_tables<R: Threads + Sync>(
         rt,
         || -> Result<Table<Pair>, AllocError>
             requires sync { IsSync R.row }
-            requires few { length cells.now < 2 ^ 32 }
-            requires ascending { AreAscending cells.now }
-            requires points { IsTable (length cells.now) points.now }
-            requires order { IsStrictlySortedBy nat_cmp points.now.keys.items }
+            requires points { IsPointTable cells.now points.now }
             ensures faces { IfOk result (λ t. table_seen cells.entry.now t
                 ≡ with_cells_around (parts_in 2 cells.entry.now) cells.entry.now) }
             ensures table { IfOk result (λ t. IsTable (length cells.entry.now) t) }
         { pair_table(rt, alloc, cells, points, threads) },
         || -> Result<Table<Tri>, AllocError>
             requires sync { IsSync R.row }
-            requires few { length cells.now < 2 ^ 32 }
-            requires ascending { AreAscending cells.now }
-            requires points { IsTable (length cells.now) points.now }
-            requires order { IsStrictlySortedBy nat_cmp points.now.keys.items }
+            requires points { IsPointTable cells.now points.now }
             ensures faces { IfOk result (λ t. table_seen cells.entry.now t
                 ≡ with_cells_around (parts_in 3 cells.entry.now) cells.entry.now) }
             ensures table { IfOk result (λ t. IsTable (length cells.entry.now) t) }

@@ -1,7 +1,6 @@
 use Rattle.std.proofs.Common.{subst, sym, ℕ, List}
 use Rattle.std.specs.Ordering.{nat_cmp}
 use Rattle.std.proofs.lemmas.Map.Lookups.{exact_unsigned}
-use Rattle.std.proofs.lemmas.Result.{IfOk-weaker}
 use Rattle.point_order.specs.Facets.{points_of}
 use Rattle.face_list.specs.Gather.{AreItems, GathersItems}
 use Rattle.face_list.proofs.FaceLists.{items_name, points_gathered}
@@ -15,7 +14,14 @@ gather-requires-clause-numbers c = subst (AreItems _) (sym c.in_ok-items.ensures
     (items_name points_of c.args.cells.now)
 
 pub returns-clause-faces : goal.returns-clause-faces
-returns-clause-faces c = IfOk-weaker c.gather.result _ _
-    (λ t g. points_gathered c.args.cells.now t c.in_ok-items.ensures.ascending
-    (subst (λ (l : List (ℕ × ℕ)). GathersItems nat_cmp c.args.cells.now l t) c.in_ok-items.ensures.items g))
-    c.gather.ensures.gathers
+returns-clause-faces c = points_gathered c.args.cells.now c.in_ok-table.table c.in_ok-items.ensures.ascending
+    (subst (λ (l : List (ℕ × ℕ)). GathersItems nat_cmp c.args.cells.now l c.in_ok-table.table)
+    c.in_ok-items.ensures.items c.in_ok-table.ensures.gathers)
+
+pub returns-clause-table : goal.returns-clause-table
+returns-clause-table c = record {
+  few = c.requires;
+  ascending = c.in_ok-items.ensures.ascending;
+  table = c.in_ok-table.ensures.table;
+  order = c.in_ok-table.ensures.gathers.keys_order;
+}

@@ -12,8 +12,7 @@ add_points-requires-clause-can g c =
     let all = c.len.ensures ∙ c.args.points.now.keys.ok.0 in
     let none_yet = none.end in
     record {
-      table = c.requires.points;
-      order = c.requires.order;
+      over = c.requires.points;
       so_far = gathers_own g.K.Ord.cmp g.K.Part.parts_of g.K.First.first_of c.args.cells.now c.args.points.now 0 0 _
           none;
       range = omega (arith, none_yet);

@@ -21,15 +21,13 @@ join-first-requires-after_bounds g t c κs inside =
     let end = none.end in
     let can = c.requires.can in
     let first : CanAdd g.K.Ord.cmp g.K.Part.parts_of g.K.First.first_of cells table c.args.so_far middle = record {
-      table = can.table;
-      order = can.order;
+      over = can.over;
       so_far = can.so_far;
       range = omega arith;
       within = inner;
     } in
     let second : CanAdd g.K.Ord.cmp g.K.Part.parts_of g.K.First.first_of cells table c.in_ok-part.part to = record {
-      table = can.table;
-      order = can.order;
+      over = can.over;
       so_far = gathers_own g.K.Ord.cmp g.K.Part.parts_of g.K.First.first_of cells table middle middle c.in_ok-part.part
           none;
       range = omega (arith, end, high);
@@ -49,7 +47,7 @@ returns g t c =
     let from = c.args.so_far.from in
     let start = c.args.so_far.to in
     let to = c.args.to in
-    let order = c.requires.can.order in
+    let order = c.requires.can.over.order in
     let range = c.requires.can.range in
     let within = c.requires.can.within in
     let before = c.requires.can.so_far.order in

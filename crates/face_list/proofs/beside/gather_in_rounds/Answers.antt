@@ -18,8 +18,7 @@ add_beside-requires-clause-can g c κs l =
     let from = c.loop-so_far.so_far.to in
     let inside : from + c.min.result ≤ c.len-count.result = search rules in
     record {
-      table = c.requires.points;
-      order = c.requires.order;
+      over = c.requires.points;
       so_far = gathers_own g.K.Ord.cmp g.K.Part.parts_of g.K.First.first_of c.args.cells.now c.args.points.now _ _ _
           was.gathered;
       range = omega arith;
