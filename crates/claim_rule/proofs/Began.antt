@@ -14,7 +14,7 @@ use Rattle.claim_rule.specs.declared.board.Seat.{Seat}
 use Rattle.claim_rule.specs.Boards.{View}
 use Rattle.claim_rule.specs.Good.{Good}
 use Rattle.claim_rule.specs.Opening.{shares_from, opening_board}
-use Rattle.claim_rule.specs.Kept.{homes_of, held_by, view_of, views_of, kept_board}
+use Rattle.claim_rule.specs.Kept.{KeptBoard, homes_of, held_by, with_held, board_of}
 use Rattle.claim_rule.proofs.OneHistory.{shares_count, all_shares}
 use Rattle.claim_rule.proofs.Opening.{opening_is_good}
 use Rattle.claim_rule.proofs.Seats.{held_none}
@@ -57,46 +57,43 @@ mesh_shares mesh hold i placed =
     ∙ ap (λ (n : ℕ). Some (share_at n b h)) i.grid ∙ sym (all_shares g h b (omega (arith, l, count))))
 
 -- a board that is kept so at the start is the opening board of the mesh's history
-pub begun_is : (mesh : MeshView) (hold : InHand) (parts allowance ticket : ℕ) (words : List ℕ)
-    (seats : List (Option Seat)) → IsHoldOf mesh hold → StandAtPlaces hold.grid hold.places →
-    ticket ≡ length mesh.history →
-    words ≡ replicate (mesh.grid * mesh.grid * mesh.grid) 0 → seats
-    ≡ Some (record { first = 0; parts = parts; left = allowance; seen = ticket; since = ticket })
-    ∷ replicate (parts - 1) None →
-    kept_board hold.grid parts (ticket + allowance) mesh.history ticket words hold.places seats
-    ≡ opening_board mesh.grid parts allowance mesh.history
-begun_is mesh hold parts allowance ticket words seats i placed t w s =
+pub begun_is : (mesh : MeshView) (kept : KeptBoard) (allowance : ℕ) → IsHoldOf mesh kept.hold →
+    StandAtPlaces kept.hold.grid kept.hold.places → kept.opening ≡ mesh.history → kept.ticket ≡ length mesh.history →
+    kept.most ≡ length mesh.history + allowance → kept.words ≡ replicate (mesh.grid * mesh.grid * mesh.grid) 0 →
+    kept.seats ≡ Some (record {
+      first = 0;
+      parts = kept.parts;
+      left = allowance;
+      seen = kept.ticket;
+      since = kept.ticket;
+    }) ∷ replicate (kept.parts - 1) None →
+    board_of kept ≡ opening_board mesh.grid kept.parts allowance mesh.history
+begun_is mesh kept allowance i placed o t m w s =
     let g : ℕ = mesh.grid in
     let h : List Entry = mesh.history in
     let n : ℕ = g * g * g in
-    let seat : Seat = record { first = 0; parts = parts; left = allowance; seen = ticket; since = ticket } in
+    let first : ℕ → Seat =
+    λ seen. record { first = 0; parts = kept.parts; left = allowance; seen = seen; since = seen } in
     let zeros : List ℕ = replicate n 0 in
     let homes : List (Option BucketContent) = shares_from g h 0 n in
-    let at : hold.places ≡ homes = mesh_shares mesh hold i placed in
+    let at : kept.hold.places ≡ homes = mesh_shares mesh kept.hold i placed in
     let home : homes_of zeros homes ≡ homes = all_home n homes (shares_count g h 0 n) in
-    let view : view_of zeros homes seat ≡ record {
-      first = 0;
-      parts = parts;
-      left = allowance;
-      seen = length h;
-      since = length h;
-      held = replicate n None;
-    } =
-    λ k. record { first = 0; parts = parts; left = allowance; seen = t k; since = t k; held = none_held n 0 homes k } in
-    let views : views_of zeros homes (Some seat ∷ replicate (parts - 1) None)
-    ≡ Some (record {
-      first = 0;
-      parts = parts;
-      left = allowance;
-      seen = length h;
-      since = length h;
-      held = replicate n None;
-    }) ∷ replicate (parts - 1) None =
-    λ k. Some (view k) ∷ all_none (view_of zeros homes) (parts - 1) k in
-    (λ k. kept_board (i.grid k) parts (t k + allowance) h (t k) (w k) (at k) (s k))
+    let seen : Seat → View = λ v. with_held v (held_by v.first zeros homes) in
+    let views : map (option_map seen) (Some (first kept.ticket) ∷ replicate (kept.parts - 1) None)
+    ≡ Some (with_held (first (length h)) (replicate n None)) ∷ replicate (kept.parts - 1) None =
+    λ k. Some (with_held (first (t k)) (none_held n 0 homes k)) ∷ all_none seen (kept.parts - 1) k in
+    (λ k. board_of (record {
+      hold = record { grid = i.grid k; places = at k; room = kept.hold.room };
+      parts = kept.parts;
+      most = m k;
+      opening = o k;
+      ticket = t k;
+      words = w k;
+      seats = s k;
+    }))
     ∙ (λ k. record {
       grid = g;
-      parts = parts;
+      parts = kept.parts;
       most = length h + allowance;
       opening = h;
       ticket = length h;

@@ -5,18 +5,12 @@ use Rattle.std.specs.Option.{option_map}
 use Rattle.std.proofs.Common.{refl, sym, ◌∙◌, ap, arith, ext_get_or}
 use Rattle.point_order.specs.declared.cell.Cell.{Cell}
 use Rattle.edit_history.specs.declared.history.Entry.{Entry}
-use Rattle.edit_history.specs.declared.history.Edit.{Edit}
-use Rattle.edit_history.specs.declared.history.Edit.TheVariants.{Add, Take, Move}
-use Rattle.edit_history.specs.declared.history.Reply.{Reply}
-use Rattle.edit_history.specs.declared.history.Reply.TheVariants.{Inserted, Duplicate, Removed, Missing, Flat, Moved}
-use Rattle.edit_history.specs.declared.history.Reply.TheVariants.{Occupied}
 use Rattle.edit_history.specs.Edits.{is_move, point_of}
 use Rattle.cell_store.specs.Grids.{bucket_of}
 use Rattle.cell_store.specs.Buckets.{BucketContent, InHand, bucket_at}
 use Rattle.cell_store.specs.Shares.{IsShare, share_at}
 use Rattle.cell_store.specs.Changes.{IsArrived, IsNext, IsSwapped, IsNoted, arrived_in, brought_in, swapped_in}
 use Rattle.cell_store.specs.Changes.{noted_in}
-use Rattle.cell_store.specs.Points.{came}
 use Rattle.cell_store.proofs.Cited.{arrived_rest, share_after_any}
 use Rattle.claim_rule.specs.Good.{AreSharesOf}
 use Rattle.claim_rule.specs.Events.{renewed_from}

@@ -9,7 +9,7 @@ use mathlib.Core.Logic.{dite}
 use native.Mathlib.Decide.{ℕ_discrete}
 use Rattle.edit_history.specs.declared.history.Edit.{Edit}
 use Rattle.edit_history.specs.declared.history.Entry.{Entry}
-use Rattle.edit_history.specs.Edits.{HasKeys, is_move, point_of}
+use Rattle.edit_history.specs.Edits.{HasKeys}
 use Rattle.edit_history.specs.Histories.{replay}
 use Rattle.cell_store.specs.Buckets.{BucketContent, bucket_at}
 use Rattle.cell_store.specs.Touches.{HoldTouched}

@@ -1,10 +1,9 @@
 -- A commit of a board that is kept in one hold with words: when its condition holds, and what it makes of the board.
-use Rattle.std.specs.Prelude.{◌≡◌, ◌⊎◌, ℕ, ◌+◌, ◌-◌, ◌^◌, ◌<◌, ◌≤◌, ◌==◌, List, All, Option, None, Some, IsSome}
-use Rattle.std.specs.Prelude.{IsSomeAnd, true, false, length, slice_index_or, slice_set}
+use Rattle.std.specs.Prelude.{◌≡◌, ◌⊎◌, ℕ, Bool, ◌+◌, ◌*◌, ◌^◌, ◌<◌, ◌≤◌, ◌==◌, List, All, Option, None, Some, IsSome}
+use Rattle.std.specs.Prelude.{IsSomeAnd, true, false, length, slice_index_or}
 use Rattle.std.proofs.Common.{Fits, w64, refl, sym, ◌∙◌, ap, subst, inl, inr, arith}
 use Rattle.std.proofs.lemmas.Bool.{eqb-true, eq-eqb}
-use Rattle.list_laws.proofs.Cited.{all_of_each, each_of_all, one_value, same_there, some_and, some_of, to_some}
-use Rattle.list_laws.proofs.Cited.{within_some}
+use Rattle.list_laws.proofs.Cited.{all_of_each, each_of_all, same_there, some_and, some_of, to_some, within_some}
 use Rattle.point_order.specs.declared.cell.Cell.{Cell}
 use Rattle.point_order.specs.Complex.{complex}
 use Rattle.point_order.specs.Facets.{points_of}
@@ -19,23 +18,22 @@ use Rattle.cell_store.specs.Changes.{IsChange, IsNext, IsSwapped}
 use Rattle.claim_rule.specs.declared.board.Seat.{Seat}
 use Rattle.claim_rule.specs.declared.trial.Trial.{Trial}
 use Rattle.claim_rule.specs.declared.event.Event.TheVariants.{Commit}
-use Rattle.claim_rule.specs.declared.event.Played.TheVariants.{Done, Short}
+use Rattle.claim_rule.specs.declared.event.Played.TheVariants.{Done}
 use Rattle.cell_store.specs.Touches.{HoldTouched}
-use Rattle.claim_rule.specs.Boards.{BoardState, left_in, view_at}
+use Rattle.claim_rule.specs.Boards.{View, BoardState, left_in, view_at}
 use Rattle.claim_rule.specs.Good.{IsGood, Good}
 use Rattle.claim_rule.specs.Events.{Next, CanCommit, entry_after}
-use Rattle.claim_rule.specs.Kept.{held_by, view_of, kept_board}
+use Rattle.claim_rule.specs.Kept.{KeptBoard, held_by, view_of, board_of}
 use Rattle.claim_rule.specs.Trials.{NamesPass, IsOnSome, IsTrialOf}
 use Rattle.claim_rule.proofs.Nexts.{next_of}
 use Rattle.claim_rule.proofs.Kept.{if_so, whose_length, whose_at}
-use Rattle.claim_rule.proofs.Moves.{from_view, live_view}
-use Rattle.claim_rule.proofs.Renewals.{so_true, commit_next}
+use Rattle.claim_rule.proofs.Moves.{first_is, from_view, view_is}
+use Rattle.claim_rule.proofs.Renewals.{so_true, with_commit, commit_next}
 use Rattle.claim_rule.proofs.Brought.{any_brought}
-use Rattle.claim_rule.proofs.Whole.{all_are_shares, all_in_hand, hold_stands}
+use Rattle.claim_rule.proofs.Whole.{all_are_shares, all_in_hand, shown_set}
 use Rattle.claim_rule.specs.Making.{IsExchangedIn, IsEditMade, EditGives}
 use Rattle.edit_history.specs.declared.history.Reply.{Reply}
 use Rattle.cell_store.specs.Shares.{Shows}
-use Rattle.cell_store.proofs.Cited.{stands_shows}
 
 -- ---- the condition
 
@@ -99,54 +97,32 @@ held_touched g n s edit t words places trial touched =
     )
 
 -- what the condition of a commit says of the seat and the words
-pub commit_facts : (g parts most : ℕ) (opening : List Entry) (ticket : ℕ) (words : List ℕ)
-    (places : List (Option BucketContent)) (seats : List (Option Seat)) (h : List Entry) (n : ℕ) (seat : Seat)
-    (edit : Edit) →
-    IsGood (kept_board g parts most opening ticket words places seats) h → slice_index_or seats n None ≡ Some seat →
-    CanCommit h (kept_board g parts most opening ticket words places seats) n edit →
-    (0 < seat.left) × HoldTouched g (replay h) edit (held_by n words places)
-commit_facts g parts most opening ticket words places seats h n seat edit good live can =
-    let s : BoardState = kept_board g parts most opening ticket words places seats in
-    let v = some_and (view_at s n) _ can in
-    let same : v.0 ≡ view_of words places seat =
-    one_value v.0 (view_of words places seat) (sym v.1 ∙ live_view words places seats n seat live) in
-    let first : seat.first ≡ n =
-    ap (λ (x : Rattle.claim_rule.specs.Boards.View). x.first) (sym same) ∙ good.shape.named n v.0 v.1 in (
-      subst (λ (x : Rattle.claim_rule.specs.Boards.View). 0 < x.left) same v.2.0,
-      subst (λ (j : ℕ). HoldTouched g (replay h) edit (held_by j words places)) first
-          (subst (λ (x : Rattle.claim_rule.specs.Boards.View). HoldTouched g (replay h) edit x.held) same v.2.1),
+pub commit_facts : (kept : KeptBoard) (h : List Entry) (n : ℕ) (seat : Seat) (edit : Edit) → IsGood (board_of kept) h →
+    slice_index_or kept.seats n None ≡ Some seat → CanCommit h (board_of kept) n edit →
+    (0 < seat.left) × HoldTouched kept.hold.grid (replay h) edit (held_by n kept.words kept.hold.places)
+commit_facts kept h n seat edit good live can =
+    let v = some_and (view_at (board_of kept) n) _ can in
+    let same : v.0 ≡ view_of kept seat = view_is kept n seat v.0 live v.1 in (
+      subst (λ (x : View). 0 < x.left) same v.2.0,
+      subst (λ (j : ℕ). HoldTouched kept.hold.grid (replay h) edit (held_by j kept.words kept.hold.places))
+          (first_is kept h good n seat live)
+          (subst (λ (x : View). HoldTouched kept.hold.grid (replay h) edit x.held) same v.2.1),
     )
 
 -- ---- a commit that does nothing
 
 -- no live pass with the number may make an edit
-pub none_commits :
-    (g parts most : ℕ) (opening : List Entry) (ticket : ℕ) (words : List ℕ) (places : List (Option BucketContent))
-    (seats : List (Option Seat)) (h : List Entry) (n : ℕ) (edit : Edit) →
-    IsGood (kept_board g parts most opening ticket words places seats) h →
-    (IsSomeAnd (slice_index_or seats n None) (λ x. 0 < x.left) → ⊥) →
-    CanCommit h (kept_board g parts most opening ticket words places seats) n edit → ⊥
-none_commits g parts most opening ticket words places seats h n edit good none can =
-    let v = some_and (view_at (kept_board g parts most opening ticket words places seats) n) _ can in
-    let t = some_of (slice_index_or seats n None) (from_view words places seats n v.0 v.1) in
-    none (to_some (λ (x : Seat). 0 < x.left) _ t.0 t.1
-    (commit_facts g parts most opening ticket words places seats h n t.0 edit good t.1 can).0)
-
--- the board that is seen before is this one, and so is that after it
-pub short_answer :
-    (h : List Entry) (s t after : BoardState) (n tag : ℕ) (edit : Edit) → s ≡ t → after ≡ s →
-    (CanCommit h s n edit → ⊥) → Next h t (Commit n tag edit) Short after
-short_answer h s t after n tag edit same stays cannot =
-    (λ can. cannot (subst (λ (x : BoardState). CanCommit h x n edit) (sym same) can), stays ∙ same)
+pub none_commits : (kept : KeptBoard) (h : List Entry) (n : ℕ) (edit : Edit) → IsGood (board_of kept) h →
+    (IsSomeAnd (slice_index_or kept.seats n None) (λ x. 0 < x.left) → ⊥) → CanCommit h (board_of kept) n edit → ⊥
+none_commits kept h n edit good none can =
+    let v = some_and (view_at (board_of kept) n) _ can in
+    let t = some_of (slice_index_or kept.seats n None) (from_view kept n v.0 v.1) in
+    none (to_some (λ (x : Seat). 0 < x.left) _ t.0 t.1 (commit_facts kept h n t.0 edit good t.1 can).0)
 
 -- the hold is as before
-pub same_board :
-    (old new : InHand) (parts most : ℕ) (opening : List Entry) (ticket : ℕ) (words : List ℕ)
-    (seats : List (Option Seat)) → new ≡ old →
-    kept_board old.grid parts most opening ticket words old.places seats
-    ≡ kept_board new.grid parts most opening ticket words new.places seats
-same_board old new parts most opening ticket words seats e =
-    ap (λ (x : InHand). kept_board x.grid parts most opening ticket words x.places seats) (sym e)
+pub same_board : (kept : KeptBoard) (new : InHand) → new ≡ kept.hold →
+    board_of kept ≡ board_of (record kept { hold = new })
+same_board kept new e = ap (λ (x : InHand). board_of (record kept { hold = x })) (sym e)
 
 -- ---- the change
 
@@ -159,80 +135,58 @@ pub next_fits : (ticket : ℕ) → ticket ≤ 2 ^ 32 → Fits w64 (ticket + 1)
 next_fits ticket few = omega arith
 
 -- so it is with the ticket of a good board
-pub few_so_far :
-    (g parts most : ℕ) (opening : List Entry) (ticket : ℕ) (words : List ℕ) (places : List (Option BucketContent))
-    (seats : List (Option Seat)) (h : List Entry) →
-    IsGood (kept_board g parts most opening ticket words places seats) h →
-    ticket ≤ 2 ^ 32
-few_so_far g parts most opening ticket words places seats h good =
-    few_entries ticket (length h) (left_in (kept_board g parts most opening ticket words places seats).views)
-    most good.ticket
-    good.room good.shape.most
+pub few_so_far : (s : BoardState) (h : List Entry) → IsGood s h → s.ticket ≤ 2 ^ 32
+few_so_far s h good =
+    few_entries s.ticket (length h) (left_in s.views) s.most good.ticket good.room good.shape.most
 
--- The board after a commit, by what is made of the hold.
-committed_next :
-    (old new : InHand) (parts most : ℕ) (opening : List Entry) (ticket : ℕ) (words : List ℕ)
-    (seats : List (Option Seat)) (h : List Entry) (n tag : ℕ) (edit : Edit) (seat : Seat) →
-    IsGood (kept_board old.grid parts most opening ticket words old.places seats) h → length old.places ≡ length words →
-    slice_index_or seats n None ≡ Some seat → HasKeys edit → 0 < seat.left →
-    IsEditMade words (replay h) ticket n tag edit old new →
-    Next h (kept_board old.grid parts most opening ticket words old.places seats) (Commit n tag edit) Done
-    (kept_board new.grid parts most opening (ticket + 1) words new.places
-    (slice_set seats n (Some (record seat { left = seat.left - 1; seen = ticket + 1 }))))
-committed_next old new parts most opening ticket words seats h n tag edit seat good wide live key some made =
-    let g : ℕ = old.grid in
-    let s : BoardState = kept_board g parts most opening ticket words old.places seats in
+-- the hold of a good board has a place for each word
+as_many_places : (kept : KeptBoard) (h : List Entry) → IsGood (board_of kept) h →
+    length kept.hold.places ≡ kept.hold.grid * kept.hold.grid * kept.hold.grid →
+    length kept.hold.places ≡ length kept.words
+as_many_places kept h good places = places ∙ sym good.shape.words
+
+-- What is told of an edit of a hold: by words that are those of the board, for a live pass.
+pub record IsEditTold (kept : KeptBoard) (n tag : ℕ) (edit : Edit) (seat : Seat) (new : InHand) (made : Bool) :
+    Type 0 where
+  pub live : slice_index_or kept.seats n None ≡ Some seat
+  pub places : length kept.hold.places ≡ kept.hold.grid * kept.hold.grid * kept.hold.grid
+  pub words : List ℕ
+  pub same : words ≡ kept.words
+  pub answer : Bool
+  pub is : answer ≡ made
+  pub gives : (s : List ℕ) → Shows kept.hold s → EditGives words s kept.ticket n tag edit kept.hold answer new
+
+-- so it is for the history's set, by the board's words
+edit_told : (kept : KeptBoard) (h : List Entry) (n tag : ℕ) (edit : Edit) (seat : Seat) (new : InHand) (made : Bool) →
+    IsGood (board_of kept) h → IsEditTold kept n tag edit seat new made →
+    EditGives kept.words (replay h) kept.ticket n tag edit kept.hold made new
+edit_told kept h n tag edit seat new made good t =
+    subst (λ (w : List ℕ). EditGives w (replay h) kept.ticket n tag edit kept.hold made new) t.same
+    (subst (λ (b : Bool). EditGives t.words (replay h) kept.ticket n tag edit kept.hold b new) t.is
+    (t.gives (replay h) (shown_set kept h good (as_many_places kept h good t.places))))
+
+-- where it is made, the commit is done: the board is kept with what was made of the hold
+pub made_next : (kept : KeptBoard) (h : List Entry) (n tag : ℕ) (edit : Edit) (seat : Seat) (new : InHand) →
+    IsGood (board_of kept) h → HasKeys edit → 0 < seat.left → IsEditTold kept n tag edit seat new true →
+    Next h (board_of kept) (Commit n tag edit) Done (board_of (with_commit kept new n seat))
+made_next kept h n tag edit seat new good key some told =
+    let g : ℕ = kept.hold.grid in
+    let made : IsEditMade kept.words (replay h) kept.ticket n tag edit kept.hold new =
+    edit_told kept h n tag edit seat new true good told in
     let x = made.exchanged in
-    let next : IsNext h (entry_after h ticket n tag edit) made.gone made.fresh =
-    next_of s h n tag edit made.gone made.fresh good key made.change in
-    let shares = all_are_shares g parts most opening ticket words old.places seats h good wide in
-    let is = any_brought g h (entry_after h ticket n tag edit) made.gone made.fresh old x.between x.with_goal new refl
-    shares next x.swapped x.arrived x.noted in
-    let grid : new.grid ≡ g = x.noted.grid ∙ x.arrived.grid ∙ x.swapped.grid in
-    subst (λ (k : ℕ). Next h s (Commit n tag edit) Done (kept_board k parts most opening (ticket + 1) words new.places
-    (slice_set seats n (Some (record seat { left = seat.left - 1; seen = ticket + 1 }))))) (sym grid)
-    (commit_next g parts most opening ticket words old.places seats h n tag edit seat new.places good live key some
-    made.touched is)
+    let next : IsNext h (entry_after h kept.ticket n tag edit) made.gone made.fresh =
+    next_of (board_of kept) h n tag edit made.gone made.fresh good key made.change in
+    let shares = all_are_shares kept h good (as_many_places kept h good told.places) in
+    commit_next kept h n tag edit seat new good told.live key some made.touched
+    (x.noted.grid ∙ x.arrived.grid ∙ x.swapped.grid)
+    (any_brought g h (entry_after h kept.ticket n tag edit) made.gone made.fresh kept.hold x.between x.with_goal new
+    refl shares next x.swapped x.arrived x.noted)
 
--- the set of the history is one that the hold shows
-pub shown_set :
-    (hold : InHand) (parts most : ℕ) (opening : List Entry) (ticket : ℕ) (words : List ℕ) (seats : List (Option Seat))
-    (h : List Entry) → IsGood (kept_board hold.grid parts most opening ticket words hold.places seats) h →
-    length hold.places ≡ length words → Shows hold (replay h)
-shown_set hold parts most opening ticket words seats h good wide =
-    stands_shows hold h (hold_stands hold parts most opening ticket words seats h good wide)
-
--- so it is next, where the edit is made over words that are those of the board
-pub made_next :
-    (old new : InHand) (parts most : ℕ) (opening : List Entry) (ticket : ℕ) (words words' : List ℕ)
-    (seats : List (Option Seat)) (h : List Entry) (n tag : ℕ) (edit : Edit) (seat : Seat) → words' ≡ words →
-    IsGood (kept_board old.grid parts most opening ticket words old.places seats) h →
-    length old.places ≡ length words' →
-    (slice_index_or seats n None ≡ Some seat) × (0 < seat.left) → HasKeys edit →
-    ((s : List ℕ) → Shows old s → EditGives words' s ticket n tag edit old true new) →
-    Next h (kept_board old.grid parts most opening ticket words old.places seats) (Commit n tag edit) Done
-    (kept_board new.grid parts most opening (ticket + 1) words new.places
-    (slice_set seats n (Some (record seat { left = seat.left - 1; seen = ticket + 1 }))))
-made_next old new parts most opening ticket words words' seats h n tag edit seat same good wide live key made =
-    let wide' = wide ∙ ap length same in
-    let shows = shown_set old parts most opening ticket words seats h good wide' in
-    committed_next old new parts most opening ticket words seats h n tag edit seat good wide' live.0 key live.1
-    (subst (λ (w : List ℕ). IsEditMade w (replay h) ticket n tag edit old new) same (made (replay h) shows))
-
--- and the condition of a commit fails where it is not made
-pub unmade_commits :
-    (old new : InHand) (parts most : ℕ) (opening : List Entry) (ticket : ℕ) (words words' : List ℕ)
-    (seats : List (Option Seat)) (h : List Entry) (n tag : ℕ) (edit : Edit) (seat : Seat) → words' ≡ words →
-    IsGood (kept_board old.grid parts most opening ticket words old.places seats) h →
-    length old.places ≡ length words' →
-    slice_index_or seats n None ≡ Some seat →
-    ((s : List ℕ) → Shows old s → EditGives words' s ticket n tag edit old false new) →
-    CanCommit h (kept_board old.grid parts most opening ticket words old.places seats) n edit → ⊥
-unmade_commits old new parts most opening ticket words words' seats h n tag edit seat same good wide live made can =
-    let shows = shown_set old parts most opening ticket words seats h good (wide ∙ ap length same) in
-    made (replay h) shows (subst (λ (w : List ℕ). HoldTouched old.grid (replay h) edit (held_by n w old.places))
-    (sym same)
-    (commit_facts old.grid parts most opening ticket words old.places seats h n seat edit good live can).1)
+-- and where it is not made, the condition of a commit fails
+pub unmade_commits : (kept : KeptBoard) (h : List Entry) (n tag : ℕ) (edit : Edit) (seat : Seat) (new : InHand) →
+    IsGood (board_of kept) h → IsEditTold kept n tag edit seat new false → CanCommit h (board_of kept) n edit → ⊥
+unmade_commits kept h n tag edit seat new good told can =
+    edit_told kept h n tag edit seat new false good told (commit_facts kept h n seat edit good told.live can).1
 
 -- ---- as the code has it
 
@@ -258,14 +212,10 @@ are_named_same n w g g' l l' f k x =
     subst (λ (m : List Cell). AreNamed n w g' m) k (subst (λ (d : ℕ). AreNamed n w d l) f x)
 
 -- all buckets of a good board are in its hold
-pub words_whole :
-    (hold : InHand) (parts most : ℕ) (opening : List Entry) (ticket : ℕ) (words words' : List ℕ)
-    (seats : List (Option Seat)) → words' ≡ words →
-    Good (kept_board hold.grid parts most opening ticket words hold.places seats) →
-    (b : ℕ) → b < length words' → IsSome (bucket_at hold.places b)
-words_whole hold parts most opening ticket words words' seats same good b below =
-    all_in_hand hold.grid parts most opening ticket words hold.places seats good.0 good.1 b
-    (subst (λ (w : List ℕ). b < length w) same below)
+pub words_whole : (kept : KeptBoard) (words : List ℕ) → words ≡ kept.words → Good (board_of kept) →
+    (b : ℕ) → b < length words → IsSome (bucket_at kept.hold.places b)
+words_whole kept words same good b below =
+    all_in_hand kept good.0 good.1 b (subst (λ (w : List ℕ). b < length w) same below)
 
 -- and all places of a hold are in hand, where a bucket for each word is
 pub places_whole :

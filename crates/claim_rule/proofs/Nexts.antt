@@ -6,7 +6,7 @@ use Rattle.point_order.specs.Complex.{complex}
 use Rattle.point_order.specs.Sets.{IsIn}
 use Rattle.edit_history.specs.declared.history.Edit.{Edit}
 use Rattle.edit_history.specs.declared.history.Entry.{Entry}
-use Rattle.edit_history.specs.Edits.{HasKeys, is_move, point_of, after}
+use Rattle.edit_history.specs.Edits.{HasKeys, after}
 use Rattle.edit_history.specs.Histories.{replay}
 use Rattle.edit_history.proofs.Cited.{leaves_set}
 use Rattle.hole_laws.specs.Edits.{IsSolidSet}

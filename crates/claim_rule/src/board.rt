@@ -44,18 +44,15 @@ pub struct Board {
 
 impl Model for Board {
     ghost use Rattle.claim_rule.specs.Boards.{BoardState};
-    ghost use Rattle.claim_rule.specs.Good.{Good};
-    ghost use Rattle.claim_rule.specs.Kept.{kept_board};
 
     ghost Value = { BoardState };
 
-    ghost view = { λ s.
-        kept_board s.hold.grid s.parts s.most s.begun.value.history s.ticket s.words.items s.hold.places
-        s.seats.items };
+    ghost use Rattle.claim_rule.specs.Good.{Good};
+    ghost use Rattle.claim_rule.specs.Kept.{board_of, kept_of};
 
-    ghost invariant = { λ s. Good
-        (kept_board s.hold.grid s.parts s.most s.begun.value.history s.ticket s.words.items s.hold.places
-        s.seats.items) };
+    ghost view = { λ s. board_of (kept_of s) };
+
+    ghost invariant = { λ s. Good (board_of (kept_of s)) };
 }
 
 // The pass with the number, if it is live.
