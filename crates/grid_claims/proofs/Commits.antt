@@ -6,12 +6,10 @@ use Rattle.std.specs.List.{filter}
 use Rattle.std.specs.Option.{option_map, option_map_or}
 use Rattle.std.proofs.Common.{refl, sym, ◌∙◌, ap, subst, inl, inr, arith, length-set}
 use Rattle.std.proofs.Math.Nat.{mod-eq_of_lt}
-use mathlib.Core.Logic.{dite}
 use mathlib.Core.Option.{some, some-injective}
-use native.Mathlib.Decide.{ℕ_discrete}
 use lib.ListN.{get_elem?}
 use Rattle.atomic_table.specs.Table.{keeps, stepped}
-use Rattle.atomic_table.proofs.Lists.{at_set, at_last}
+use Rattle.atomic_table.proofs.Lists.{at_last}
 use Rattle.list_laws.specs.Lists.{AreDistinct}
 use Rattle.edit_history.specs.Edits.{HasKeys}
 use Rattle.point_order.specs.Sets.{IsIn}
@@ -36,15 +34,14 @@ use Rattle.grid_claims.specs.Faces.{buckets_of, opening_of, plain, plain_child, 
 use Rattle.grid_claims.specs.Trails.{in_hand, in_hand_after, AreStepsFrom, IsStepOf, IsCommitOf, IsExact, AreAllTouched}
 use Rattle.grid_claims.specs.Rule.{IsSeatInOrder, IsRule}
 use Rattle.grid_claims.specs.Plays.{Seated, commits, Committed, IsReady, HandStands, HandShows, entry_of}
-use Rattle.grid_claims.proofs.Boarded.{Table, Live, firsts, alone, shown, same_firsts, others_from, views_set}
-use Rattle.grid_claims.proofs.Boarded.{seats_differ, own_pass}
+use Rattle.grid_claims.proofs.Boarded.{Table, Live, alone, shown, views_set, seats_differ, own_pass}
 use Rattle.grid_claims.proofs.LivePasses.{passes_to}
 use Rattle.grid_claims.specs.declared.view.Child.{Child}
-use Rattle.list_laws.proofs.Cited.{all_of_each, each_of_all}
+use Rattle.list_laws.proofs.Cited.{each_of_all}
 use Rattle.grid_claims.proofs.Trailed.{in_hand_snoc, steps_snoc}
 use Rattle.grid_claims.specs.Reached.{IsLedTo}
 use Rattle.grid_claims.proofs.Reached.{reached_commit}
-use Rattle.grid_claims.proofs.Claims.{IsAlone, below, on_board, hand_stands, Taken}
+use Rattle.grid_claims.proofs.Claims.{IsAlone, below, on_board, hand_stands, set_rule, Taken}
 
 -- ---- a history with one more entry
 
@@ -176,12 +173,8 @@ commits_keep k slots id tag edit reply me s h r a ready some_left key =
     let w : View = commits v h' e in
     let x : ℕ = (found + 1) % 2 ^ 64 in
     let s' : Table = stepped s 0 x id me.1 w keeps in
-    let views' : List View = slice_set s.views id w in
     let inside : v.first < k.parts = below k s h id v r a in
     let is_v : passes_of count v ≡ plain v ∷ [] = alone count v a.live a.lone in
-    let is_w : passes_of count w ≡ plain w ∷ [] = alone count w a.live a.lone in
-    let same : firsts (passes_in count views') ≡ firsts (passes_in count s.views) =
-    same_firsts count s.views id v w a.there (ap firsts is_w ∙ sym (ap firsts is_v)) in
     let touched : HoldTouched k.grid (replay h) edit v.held =
     subst (λ (g : ℕ). HoldTouched g (replay h) edit v.held) (ok.table a.live).0 (ready.touched (replay h) seen) in
     let good1 : IsGood (committed h old v.first tag edit) (h ++ d ∷ []) =
@@ -270,31 +263,11 @@ commits_keep k slots id tag edit reply me s h r a ready some_left key =
             p.made ∙ not_by c.first c.parts (λ t. not_theirs j u (plain_child count c) n at (child_pass count u c q) t);
       };
     } in
-    let rule : IsRule k s' h' = record {
-      good = good';
-      words = length-set s.words 0 x ∙ r.words;
-      apart = subst (λ (l : List ℕ). AreDistinct l) (sym same) r.apart;
-      below = all_of_each (λ (u : Live). u.first < k.parts) (passes_in count views') (λ u i.
-          dite (ℕ_discrete u.first v.first)
-          (λ q. omega arith)
-          (λ n. each_of_all (λ (z : Live). z.first < k.parts) (passes_in count s.views) r.below u
-          (others_from count s.views id w u (λ j. elim (subst (λ (l : List Live). IsIn u l) is_w j) [
-            | inl q ↦ n (ap (λ (z : Live). z.first) (sym q))
-            | inr q ↦ q
-          ]) i)));
-      seats = λ j u q. elim (at_set s.views id j w u q) [
-        | inl y ↦ subst (IsSeatInOrder k h') y.1 mine
-        | inr y ↦ other j u y.0 y.1
-      ];
-      reached = subst (λ (x : Entry). IsLedTo k s' (h ++ x ∷ [])) (sym same_entry)
-          (reached_commit k s s' h id tag edit v w r.reached record {
-            apart = r.apart;
-            there = a.there;
-            live = a.live;
-            views = refl;
-            first = refl;
-          } refl shows key some_left touched event);
-    } in (
+    let rule : IsRule k s' h' = set_rule k s h h' id v w s'.words s'.homes r a refl a.live a.lone
+    (length-set s.words 0 x ∙ r.words)
+    (λ one. subst (λ (x : Entry). IsLedTo k s' (h ++ x ∷ [])) (sym same_entry)
+    (reached_commit k s s' h id tag edit v w r.reached one refl shows key some_left touched event)) good' mine other
+    in (
       w,
       keeps,
       tt,

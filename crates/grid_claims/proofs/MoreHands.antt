@@ -1,6 +1,6 @@
 -- Hands with one more bucket, and with a claim that failed.
 use Rattle.std.specs.Prelude.{◌≡◌, ◌⊎◌, ℕ, zero, suc, ◌+◌, ◌<◌, ◌≤◌, List, [], ◌∷◌, ◌++◌, map, length, vec_capacity}
-use Rattle.std.specs.Prelude.{Option, None, Some, IsSome, slice_set}
+use Rattle.std.specs.Prelude.{Option, None, Some, slice_set}
 use Rattle.std.proofs.Common.{refl, sym, ◌∙◌, ap, subst, arith, length-set, get_or-set_other}
 use Rattle.std.proofs.lemmas.List.{append_assoc, append-nil, map-append, length-append}
 use mathlib.Core.Logic.{dite}
@@ -21,11 +21,9 @@ use Rattle.grid_claims.specs.Passes.{Carries}
 use Rattle.grid_claims.specs.Plays.{Seated, claims, fails, HandStands}
 use Rattle.grid_claims.specs.Claiming.{empty_places, AreHands, HasClaimed, HasStopped, HasOthersWord, last_step}
 use Rattle.grid_claims.specs.Claiming.{ShowsOne}
-use Rattle.edit_plans.specs.Plans.{HoldsHome}
 use Rattle.grid_claims.specs.Looking.{HasClaimedMore}
 use Rattle.grid_claims.specs.declared.refused.Refused.{Refused}
 use Rattle.grid_claims.specs.declared.refused.Refused.TheVariants.{Spent, Busy, Memory}
-use Rattle.cell_store.specs.Grids.{bucket_of}
 use Rattle.cell_store.specs.Meshes.{AreAmong}
 use Rattle.grid_claims.proofs.Trailed.{in_hand_snoc}
 

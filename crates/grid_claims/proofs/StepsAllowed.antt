@@ -1,7 +1,6 @@
 -- The step lemmas, as the table asks for them.
-use Rattle.std.specs.Prelude.{◌≡◌, ℕ, ◌+◌, ◌-◌, ◌^◌, ◌<◌, ◌≤◌, ◌%◌, eqb, List, ◌∷◌, None, Some, length, slice_set}
+use Rattle.std.specs.Prelude.{◌≡◌, ℕ, ◌+◌, ◌-◌, ◌^◌, ◌<◌, ◌≤◌, ◌%◌, eqb, ◌∷◌, None, Some, length}
 use Rattle.std.proofs.Common.{refl, sym, subst, arith}
-use lib.Seq.{set-get_or}
 use Rattle.cell_store.specs.Buckets.{BucketContent, bucket_at}
 use Rattle.edit_history.specs.Edits.{HasKeys}
 use Rattle.edit_history.specs.declared.history.Edit.{Edit}
@@ -18,10 +17,10 @@ use Rattle.atomic_table.proofs.Lists.{exchanged}
 use Rattle.std.specs.Prelude.{slice_index}
 use Rattle.grid_claims.specs.declared.view.Key.{Key}
 use Rattle.grid_claims.specs.Faces.{buckets_of, plain, board_of}
-use Rattle.grid_claims.specs.Rule.{Rule, IsRule}
+use Rattle.grid_claims.specs.Rule.{Rule}
 use Rattle.grid_claims.specs.Plays.{Seated, Committed, IsReady, Released, Claimed, Looked, SplitTold, splits}
 use Rattle.grid_claims.specs.Plays.{without_child, child_of}
-use Rattle.grid_claims.proofs.Claims.{IsAlone, hits, on_board, Taken}
+use Rattle.grid_claims.proofs.Claims.{IsAlone, hits, on_board, Taken, word_stays}
 use Rattle.grid_claims.proofs.Divides.{split_keeps_rule, seating_keeps_rule}
 use Rattle.grid_claims.proofs.Looks.{looks_keep, misses_keep}
 
@@ -77,11 +76,7 @@ splits_allowed k slots id parts left me live lone nothing some_parts fewer less 
       w,
       keeps,
       tt,
-      (
-        h,
-        subst (λ (l : List ℕ). IsRule k record { words = l; homes = s.homes; views = slice_set s.views id w } h)
-            (sym (set-get_or s.words 0 0)) (split_keeps_rule k s h id parts left v r a nothing some_parts fewer less),
-      ),
+      word_stays k s h id 0 w (split_keeps_rule k s h id parts left v r a nothing some_parts fewer less),
       record { later = omega arith; few = omega arith; inside = omega arith; view = refl; slots = refl },
     )
 
