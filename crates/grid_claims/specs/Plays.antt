@@ -3,6 +3,7 @@ use Rattle.std.specs.Prelude.{◌≡◌, ◌≢◌, ◌⊎◌, ℕ, ◌+◌, ◌
 use Rattle.std.specs.Prelude.{slice_set, Option, None, Some}
 use Rattle.std.specs.Option.{option_map_or}
 use Rattle.atomic_table.specs.Table.{Me, Step, rest}
+use Rattle.atomic_table.specs.Seated.{TableId}
 use Rattle.edit_history.specs.declared.history.Edit.{Edit}
 use Rattle.edit_history.specs.declared.history.Entry.{Entry}
 use Rattle.edit_history.specs.declared.history.Reply.{Reply}
@@ -25,6 +26,10 @@ Seated = Me (Option BucketContent) View
 
 abbrev pub At : Type 0
 At = Step (Option BucketContent)
+
+-- a seat of the table, in which a pass is live, and from which none was split off that has no seat yet
+abbrev pub IsLiveIn : TableId → TableId → Seated → Type 0
+IsLiveIn id own m = (own ≡ id) × (0 < m.0.parts) × (m.0.child ≡ None)
 
 -- what a pass holds shows the set
 abbrev pub HandShows : View → List ℕ → Type 0

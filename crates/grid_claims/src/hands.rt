@@ -7,7 +7,7 @@ ghost use Rattle.cell_store.specs.Buckets.{BucketContent, bucket_at};
 ghost use Rattle.grid_claims.specs.Faces.{buckets_of};
 ghost use Rattle.grid_claims.specs.Claiming.{releases_of};
 ghost use Rattle.grid_claims.specs.Passes.{Carries};
-ghost use Rattle.grid_claims.specs.Plays.{claims, fails, releases, HandStands, IsOthers};
+ghost use Rattle.grid_claims.specs.Plays.{claims, fails, releases, HandStands, IsLiveIn, IsOthers};
 
 use crate::slot::Slot;
 use crate::steps::{claim_at, release_at};
@@ -33,10 +33,9 @@ pub(crate) fn take_in(
     first: u32,
     b: u32,
 ) -> Result<(), u64>
-    requires table { place.old.table_id ≡ board.now.shared.table_id }
+    requires live { IsLiveIn board.now.shared.table_id place.old.table_id place.old.me }
     requires words { (board.now.shared.table_id.words ≡ buckets_of board.now.shared.key + 1)
         × (b < buckets_of board.now.shared.key) }
-    requires alone { (0 < place.old.me.0.parts) × (place.old.me.0.child ≡ None) }
     requires first { first ≡ place.old.me.0.first }
     requires carries { Carries place.old.me hold.old.places order.old.items }
     requires grid { hold.old.grid ≡ place.old.me.0.grid }
@@ -70,9 +69,8 @@ pub(crate) fn take_in(
 
 // Gives the bucket back that was claimed last.
 pub(crate) fn give_back(board: &Board, place: &mut Place, hold: &mut Hold, order: &mut Vec<u32>)
-    requires table { place.old.table_id ≡ board.now.shared.table_id }
+    requires live { IsLiveIn board.now.shared.table_id place.old.table_id place.old.me }
     requires words { length hold.old.places + 1 ≡ board.now.shared.table_id.words }
-    requires alone { (0 < place.old.me.0.parts) × (place.old.me.0.child ≡ None) }
     requires carries { Carries place.old.me hold.old.places order.old.items }
     requires some { 0 < length order.old.items }
     ensures seat { (place.new.table_id ≡ place.old.table_id) × (place.new.id ≡ place.old.id) }
@@ -92,9 +90,8 @@ pub(crate) fn give_back(board: &Board, place: &mut Place, hold: &mut Hold, order
 
 // Gives all buckets back, the last one first.
 pub(crate) fn release_all(board: &Board, place: &mut Place, hold: &mut Hold, order: &mut Vec<u32>)
-    requires table { place.old.table_id ≡ board.now.shared.table_id }
+    requires live { IsLiveIn board.now.shared.table_id place.old.table_id place.old.me }
     requires words { length hold.old.places + 1 ≡ board.now.shared.table_id.words }
-    requires alone { (0 < place.old.me.0.parts) × (place.old.me.0.child ≡ None) }
     requires carries { Carries place.old.me hold.old.places order.old.items }
     ensures seat { (place.new.table_id ≡ place.old.table_id) × (place.new.id ≡ place.old.id) }
     ensures view { place.new.me.0

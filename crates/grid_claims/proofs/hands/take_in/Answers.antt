@@ -9,7 +9,7 @@ use Rattle.grid_claims.proofs.hands.take_in.Goals as goal
 pub exchange-requires : goal.exchange-requires
 exchange-requires c =
     let t = (c.claim_at-found.ensures.claimed c.args.b refl).0 c.if-found-ne0.false in (
-      c.claim_at-found.ensures.seat.0 ∙ c.requires.table,
+      c.claim_at-found.ensures.seat.0 ∙ c.requires.live.0,
       (
         Some t.0,
         t.2

@@ -4,8 +4,8 @@ use Rattle.grid_claims.proofs.steps.show_at.Goals as goal
 pub load-requires : goal.load-requires
 load-requires c =
     let t = c.args.board.now.shared in (
-      c.requires.table,
+      c.requires.live.0,
       c.requires.words,
       shows_allowed t.key t.table_id.slots c.args.place.now.id c.args.place.now.me
-          c.requires.alone.0 c.requires.alone.1,
+          c.requires.live.1 c.requires.live.2,
     )
