@@ -23,7 +23,7 @@ use Rattle.grid_claims.specs.declared.view.Act.{Act}
 use Rattle.grid_claims.specs.declared.view.Act.TheVariants.{Claim, Miss, Commit}
 use Rattle.grid_claims.specs.declared.view.View.{View}
 use Rattle.grid_claims.specs.Trails.{AreAllTouched}
-use Rattle.grid_claims.specs.Passes.{Standing, standing}
+use Rattle.grid_claims.specs.Passes.{Opened, Standing, standing}
 use Rattle.grid_claims.specs.Plays.{entry_of}
 use Rattle.grid_claims.specs.Tries.{AreClaimsAround, IsEdited, IsAsBefore, IsRefused, IsStill}
 use Rattle.grid_claims.specs.Claiming.{AreHands, HasRest, HasClaimed, HasStopped, HasGivenBack, IsFinished, releases_of}
@@ -58,6 +58,14 @@ rested_hands id n w r table words places =
           (let l : length w.order.items ≡ 0 = ap length r.order in omega (Rattle.std.proofs.Common.arith, l, empty));
       room = r.room;
     }
+
+-- so it is with the hands of a pass of a table that is seen so
+pub table_hands : (t : Opened) (w : Hands) → HasRest w → (standing w.place.table_id w.place.me.0).table ≡ t →
+    t.id.words ≡ t.grid * t.grid * t.grid + 1 → length w.hold.places ≡ w.hold.grid * w.hold.grid * w.hold.grid →
+    AreHands t.id (t.grid * t.grid * t.grid) w
+table_hands t w r e words places =
+    rested_hands t.id (t.grid * t.grid * t.grid) w r (ap (λ (x : Opened). x.id) e) words
+    (places ∙ ap (λ (n : ℕ). n * n * n) (r.grid ∙ ap (λ (x : Opened). x.grid) e))
 
 -- hands that held nothing hold just what they claimed
 pub claimed_all : (w mid : Hands) (steps : List Act) → w.order.items ≡ [] → (c : HasClaimed w mid steps) →
