@@ -120,18 +120,15 @@ impl Joins<'_> {
         }
     }
 
-    // The place across a side of the cell that is put at the place.
-    #[inline(always)]
-    fn across(&self, rim: &mut Vec<Joint>, place: u32, beside: Beside) -> Result<u32, AllocError> {
+    // The place across a side of a cell that is put, where another one that comes lies there.
+    fn inside(&self, beside: Beside) -> u32 {
         match beside {
-            Beside::Nothing => Ok(NONE),
-            Beside::Fresh(other) => Ok(self.place_of(other)),
-            Beside::Behind(side) => self.behind(rim, place, side),
+            Beside::Fresh(other) => self.place_of(other),
+            _ => NONE,
         }
     }
 
     // The place that lay across a side of a cell that goes: its cell is to be linked with the one that is put.
-    #[inline(never)]
     fn behind(&self, rim: &mut Vec<Joint>, place: u32, side: Side) -> Result<u32, AllocError> {
         let freed = number_at(&self.moves.gone.places, side.cell);
         let outside = links_at(self.slots, freed).across(usize::from(side.side));
@@ -161,13 +158,17 @@ impl Joins<'_> {
         ensures { OnOk result (put.new ≡ put.old) }
     {
         let [a, b, c, d] = sides;
-        let place = put.0;
-        let around = [
-            self.across(rim, place, a)?,
-            self.across(rim, place, b)?,
-            self.across(rim, place, c)?,
-            self.across(rim, place, d)?,
+        let mut around = [
+            self.inside(a),
+            self.inside(b),
+            self.inside(c),
+            self.inside(d),
         ];
+        for (side, beside) in sides.iter().enumerate() {
+            if let Beside::Behind(from) = *beside {
+                around[side] = self.behind(rim, put.0, from)?;
+            }
+        }
         put.1.link(Links { around });
         Ok(())
     }
