@@ -6,6 +6,7 @@ pub mod KeyLaws
 pub mod PartLaws
 pub mod Placing
 pub mod MoveLaws
+pub mod Pairs
 pub mod Moved
 pub mod Orders
 pub mod Search

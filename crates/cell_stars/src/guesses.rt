@@ -59,10 +59,12 @@ impl Guesses {
         ensures { IfSome result (λ i. at_slot slots.now i ≡ Some cell.now) }
     {
         let sides = joined.before.get(self.places.len())?;
-        for side in sides.iter().flatten() {
-            let place = self.place_across(slots, *side);
-            if stands_at(slots, place, cell) {
-                return Some(place);
+        for side in sides {
+            if let Some(side) = side {
+                let place = self.place_across(slots, *side);
+                if stands_at(slots, place, cell) {
+                    return Some(place);
+                }
             }
         }
         None

@@ -1,6 +1,6 @@
 //! What goes and comes in an exchange, by places.
 
-ghost use Rattle.std.specs.Prelude.{◌≡◌, ◌⊎◌, ℕ, true, Some, IfOk, MatchOption};
+ghost use Rattle.std.specs.Prelude.{◌≡◌, ◌⊎◌, ℕ, true, Some, IfOk, MatchOption, length};
 ghost use Rattle.std.specs.List.{zip};
 ghost use Rattle.point_order.specs.declared.cell.Cell.{Cell};
 ghost use Rattle.point_order.specs.Facets.{points_of};
@@ -34,19 +34,21 @@ pub(crate) struct Moves {
     pub(crate) listed: bool,
 }
 
-// Each number beside the element at its place in the other list.
-fn pairs<T: Copy>(
+// Each number beside the cell at its place in the other list, which is as long.
+fn pairs(
     alloc: Global,
+    stock: &mut Stock,
     numbers: &[u32],
-    elements: &[T],
-) -> Result<Vec<(u32, T)>, AllocError>
-    ensures { IfOk result (λ list. list.items ≡ zip numbers.now elements.now) }
+    cells: &[Cell],
+) -> Result<Vec<(u32, Cell)>, AllocError>
+    requires { length numbers.now ≡ length cells.now }
+    ensures { IfOk result (λ list. list.items ≡ zip numbers.now cells.now) }
 {
-    numbers
-        .iter()
-        .zip(elements)
-        .map(|(n, x)| (*n, *x))
-        .collect(alloc)
+    let mut list = list_of(&mut stock.placed, alloc, numbers.len())?;
+    for k in 0..numbers.len() {
+        list.push((numbers[k], cells[k]))?;
+    }
+    Ok(list)
 }
 
 impl Cells {
@@ -163,7 +165,7 @@ impl Cells {
             coming.len(),
             self.free.behind(),
         )?;
-        let placed = pairs(alloc, &places, &coming)?;
+        let placed = pairs(alloc, stock, &places, &coming)?;
         keep(&mut stock.numbers, places);
         keep(&mut stock.cells, coming);
         Ok(Moves {

@@ -29,6 +29,7 @@ pub struct Stock {
     // Places and numbers of stars.
     pub(crate) numbers: Vec<Vec<u32>>,
     pub(crate) cells: Vec<Vec<Cell>>,
+    pub(crate) placed: Vec<Vec<(u32, Cell)>>,
     pub(crate) positions: Vec<Vec<Position>>,
     pub(crate) turns: Vec<Vec<(u32, Point)>>,
     pub(crate) stars: Vec<Vec<(u32, Around)>>,
@@ -78,6 +79,7 @@ impl Stock {
             places: Vec::new(alloc),
             numbers: Vec::new(alloc),
             cells: Vec::new(alloc),
+            placed: Vec::new(alloc),
             positions: Vec::new(alloc),
             turns: Vec::new(alloc),
             stars: Vec::new(alloc),
@@ -123,8 +125,14 @@ impl Stock {
 
     // Keeps the lists of what goes and comes.
     pub(crate) fn keep_moves(&mut self, moves: Moves) {
-        let Moves { freed, gone, .. } = moves;
+        let Moves {
+            freed,
+            placed,
+            gone,
+            ..
+        } = moves;
         keep(&mut self.numbers, freed);
+        keep(&mut self.placed, placed);
         keep(&mut self.numbers, gone.places);
     }
 
