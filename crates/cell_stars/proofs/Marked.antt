@@ -1,15 +1,14 @@
 -- Marks of numbers, and of cells.
-use Rattle.std.specs.Prelude.{◌≡◌, ℕ, suc, ◌+◌, ◌%◌, ◌<◌, ◌≤◌, Bool, true, false, List, [], ◌∷◌, drop, length}
+use Rattle.std.specs.Prelude.{◌≡◌, ℕ, ◌+◌, ◌%◌, ◌<◌, ◌≤◌, Bool, true, false, List, drop, length}
 use Rattle.std.specs.Prelude.{slice_index_or, slice_set}
-use Rattle.std.proofs.Common.{add-one, refl, sym, subst, ◌∙◌, ap, arith, inl, inr, take}
+use Rattle.std.proofs.Common.{refl, sym, subst, ◌∙◌, arith, inl, inr, take}
 use Rattle.std.proofs.lemmas.Bool.{cases_eq}
 use Rattle.std.proofs.lemmas.List.{get_or-set_same, get_or-set_other}
-use Rattle.std.proofs.Math.ListN.{drop_of_length-le, length-set}
-use Rattle.std.proofs.Math.Seq.{drop-cons}
+use Rattle.std.proofs.Math.ListN.{length-set}
 use Rattle.list_laws.proofs.Cited.{among_from, each_more, each_none, each_taken}
 use Rattle.point_order.specs.declared.cell.Cell.{Cell}
-use Rattle.point_order.specs.Sets.{IsIn, is_among}
-use Rattle.cell_stars.specs.Swaps.{Differ, cell_rest}
+use Rattle.point_order.specs.Sets.{is_among}
+use Rattle.cell_stars.specs.Swaps.{Differ}
 use Rattle.cell_stars.specs.Moves.{AreCellsMarked, AreMarked}
 
 -- of no number yet none needs a mark

@@ -1,12 +1,10 @@
 -- Lists in order, each element once.
-use Rattle.std.specs.Prelude.{◌≡◌, List, [], ◌∷◌, length}
+use Rattle.std.specs.Prelude.{◌≡◌, List, [], ◌∷◌}
 use Rattle.std.specs.List.Sorted.{IsStrictlySortedBy}
 use Rattle.std.specs.declared.cmp.Ordering.TheVariants.{Less}
-use Rattle.std.proofs.Common.{sym, subst, arith}
 use Rattle.list_laws.proofs.Cited.{each_by}
 use Rattle.point_order.specs.declared.cell.Cell.{Cell}
 use Rattle.point_order.specs.CellOrder.{cell_cmp}
-use Rattle.point_order.specs.Sets.{IsIn}
 use Rattle.point_order.proofs.Cited.{cell_self}
 use Rattle.cell_stars.specs.Swaps.{Differ}
 
