@@ -9,7 +9,7 @@ ghost use Rattle.cell_store.specs.Buckets.{room_both, room_for, swap_after, buck
 ghost use Rattle.cell_store.specs.Changes.{IsArrived, IsDropped, IsNoted, IsPut, IsSwapped};
 ghost use Rattle.cell_store.specs.Missing.{ArePointsHeld};
 ghost use Rattle.cell_store.specs.Between.{Enters, HasWay, IsEntered, IsLeft, WasEntered};
-ghost use Rattle.cell_store.specs.Points.{came};
+ghost use Rattle.cell_store.specs.Points.{came, goal_of, last_of};
 ghost use Rattle.cell_store.specs.Ready.{AreHeld, CanCome, FindsCells};
 
 use crate::hold::Hold;
@@ -18,6 +18,46 @@ use crate::room::{Exchange, drop_point_in, made, make_rooms, note_in, put_point_
 use edit_history::{Edit, Entry};
 use point_order::{Cell, Point};
 use std::alloc::{AllocError, Global};
+
+// What there is to be room for beside an exchange, and what is known of it.
+#[derive(Clone, Copy)]
+struct Wanted {
+    // The point of the entry that is put last.
+    note: Option<Point>,
+    // The point that comes and goes.
+    point: Option<Point>,
+    // The exchange is made back too.
+    back: bool,
+    // The exchange finds its cells, so that none is looked for.
+    found: bool,
+}
+
+impl Wanted {
+    // Beside an exchange that is made once an entry of the edit, and the place to which it moves a point.
+    fn once(edit: &Edit) -> Wanted
+        ensures { result ≡ record
+            { note = Some (point_of edit.now); point = goal_of edit.now; back = false; found = false } }
+    {
+        Wanted {
+            note: Some(edit.point()),
+            point: goal(edit),
+            back: false,
+            found: false,
+        }
+    }
+
+    // Beside an exchange that is made back and again the last point of the edit.
+    fn both(edit: &Edit) -> Wanted
+        ensures { result ≡ record { note = None; point = Some (last_of edit.now); back = true; found = false } }
+    {
+        Wanted {
+            note: None,
+            point: Some(last(edit)),
+            back: true,
+            found: false,
+        }
+    }
+}
 
 impl Hold {
     /// Makes room for one exchange of the gone for the fresh cells and for one entry of the edit, which then take no
@@ -39,15 +79,7 @@ impl Hold {
         ensures ok { OnOk result (self.new ≡ record self.old { room = room_for gone.now fresh.now edit.now }) }
         ensures err { OnErr result (self.new ≡ self.old) }
     {
-        self.make_ready(
-            alloc,
-            gone,
-            fresh,
-            Some(edit.point()),
-            goal(edit),
-            false,
-            false,
-        )
+        self.make_ready(alloc, gone, fresh, Wanted::once(edit))
     }
 
     /// Makes the room that `reserve` makes, for an exchange that is to find its cells: in the buckets in hand all gone
@@ -69,15 +101,11 @@ impl Hold {
         ensures ok { OnOk result (self.new ≡ record self.old { room = room_for gone.now fresh.now edit.now }) }
         ensures err { OnErr result (self.new ≡ self.old) }
     {
-        self.make_ready(
-            alloc,
-            gone,
-            fresh,
-            Some(edit.point()),
-            goal(edit),
-            false,
-            true,
-        )
+        let wanted = Wanted {
+            found: true,
+            ..Wanted::once(edit)
+        };
+        self.make_ready(alloc, gone, fresh, wanted)
     }
 
     /// Makes the room that `reserve_both` makes, for an exchange that is to find its cells, as `reserve_found` does.
@@ -98,7 +126,11 @@ impl Hold {
         ensures ok { OnOk result (self.new ≡ record self.old { room = room_both gone.now fresh.now edit.now }) }
         ensures err { OnErr result (self.new ≡ self.old) }
     {
-        self.make_ready(alloc, gone, fresh, None, Some(last(edit)), true, true)
+        let wanted = Wanted {
+            found: true,
+            ..Wanted::both(edit)
+        };
+        self.make_ready(alloc, gone, fresh, wanted)
     }
 
     /// Makes room for exchanges of the gone for the fresh cells there and back, and for the last point of the edit to
@@ -120,40 +152,36 @@ impl Hold {
         ensures ok { OnOk result (self.new ≡ record self.old { room = room_both gone.now fresh.now edit.now }) }
         ensures err { OnErr result (self.new ≡ self.old) }
     {
-        self.make_ready(alloc, gone, fresh, None, Some(last(edit)), true, false)
+        self.make_ready(alloc, gone, fresh, Wanted::both(edit))
     }
 
-    // Makes room for an exchange, there or there and back, for an entry of a point, and for a point to come and go.
-    // Where it is told that the exchange finds its cells, it is to do so.
+    // Makes room for an exchange and for what is wanted beside it.
     fn make_ready(
         &mut self,
         alloc: Global,
         gone: &[Cell],
         fresh: &[Cell],
-        note: Option<Point>,
-        point: Option<Point>,
-        back: bool,
-        found: bool,
+        wanted: Wanted,
     ) -> Result<(), AllocError>
         requires gone { AreHeld self.old gone.now }
         requires fresh { AreHeld self.old fresh.now }
-        requires note { IfSome note (λ p. IsSome (bucket_at self.old.places (number_of self.old.grid p))) }
-        requires point { IfSome point (λ p. IsSome (bucket_at self.old.places (number_of self.old.grid p))) }
-        requires found { found ≡ true → FindsCells self.old gone.now fresh.now }
+        requires note { IfSome wanted.note (λ p. IsSome (bucket_at self.old.places (number_of self.old.grid p))) }
+        requires point { IfSome wanted.point (λ p. IsSome (bucket_at self.old.places (number_of self.old.grid p))) }
+        requires found { wanted.found ≡ true → FindsCells self.old gone.now fresh.now }
         ensures ok { OnOk result (self.new ≡ record self.old {
           room = record
-              { swap = Some (gone.now, fresh.now); push = note; point = point; back = back };
+              { swap = Some (gone.now, fresh.now); push = wanted.note; point = wanted.point; back = wanted.back };
         }) }
         ensures err { OnErr result (self.new ≡ self.old) }
     {
         let grid = self.grid();
         let kept = &mut self.kept;
-        let exchange = Exchange::new(alloc, kept, grid, &self.places, gone, fresh, found)?;
-        make_rooms(&mut self.places, grid, &note, &point)?;
+        let exchange = Exchange::new(alloc, kept, grid, &self.places, gone, fresh, wanted.found)?;
+        make_rooms(&mut self.places, grid, &wanted.note, &wanted.point)?;
         self.exchange = Some(exchange);
-        self.note = note;
-        self.point = point;
-        self.back = back;
+        self.note = wanted.note;
+        self.point = wanted.point;
+        self.back = wanted.back;
         Ok(())
     }
 

@@ -33,7 +33,7 @@ pub make_rooms-requires-clause-note : goal.make_rooms-requires-clause-note
 make_rooms-requires-clause-note c =
     let hold = c.args.self.now in
     if_some (λ p. IsSome (bucket_at hold.places (bucket_of hold.grid p)))
-    (λ p. IsSome (layout_at c.deref_mut.result.now (bucket_of c.grid-grid.result p))) c.args.note
+    (λ p. IsSome (layout_at c.deref_mut.result.now (bucket_of c.grid-grid.result p))) c.args.wanted.note
     (λ p k. held_there hold c.grid-grid.result p c.deref_mut.result.now c.grid-grid.ensures.grid
     (ap shown c.deref_mut.ensures.value ∙ ap (λ h. h.places) c.self.view_is) k) c.requires.note
 
@@ -41,7 +41,7 @@ pub make_rooms-requires-clause-point : goal.make_rooms-requires-clause-point
 make_rooms-requires-clause-point c =
     let hold = c.args.self.now in
     if_some (λ p. IsSome (bucket_at hold.places (bucket_of hold.grid p)))
-    (λ p. IsSome (layout_at c.deref_mut.result.now (bucket_of c.grid-grid.result p))) c.args.point
+    (λ p. IsSome (layout_at c.deref_mut.result.now (bucket_of c.grid-grid.result p))) c.args.wanted.point
     (λ p k. held_there hold c.grid-grid.result p c.deref_mut.result.now c.grid-grid.ensures.grid
     (ap shown c.deref_mut.ensures.value ∙ ap (λ h. h.places) c.self.view_is) k) c.requires.point
 
@@ -110,12 +110,12 @@ invariant_of-self-2 c =
     x.fresh.items c.deref.result.now places x.plans.items grid (sym c.in_ok-exchange.ensures.gone)
     (sym c.in_ok-exchange.ensures.fresh) c.deref.ensures.value c.in_ok-exchange.ensures.ready in
     subst (λ ps. (length ps ≡ i.grid * i.grid * i.grid) × ArePlansReady x.turned i.grid x.gone.items x.fresh.items ps
-    x.plans.items × IfSome c.args.note (λ n. IsNoteReady i.grid ps n) ×
-    IfSome c.args.point (λ n. IsPointReady i.grid ps n) × StandAtPlaces i.grid (shown ps)) (sym e) (
+    x.plans.items × IfSome c.args.wanted.note (λ n. IsNoteReady i.grid ps n) ×
+    IfSome c.args.wanted.point (λ n. IsPointReady i.grid ps n) × StandAtPlaces i.grid (shown ps)) (sym e) (
       m.count ∙ c.self.invariant.0,
       all_ready x.turned i.grid x.gone.items x.fresh.items places after x.plans.items m ready,
-      subst (λ (g : ℕ). IfSome c.args.note (λ n. IsNoteReady g after n)) grid c.in_ok-make_rooms.ensures.note,
-      subst (λ (g : ℕ). IfSome c.args.point (λ n. IsPointReady g after n)) grid c.in_ok-make_rooms.ensures.point,
+      subst (λ (g : ℕ). IfSome c.args.wanted.note (λ n. IsNoteReady g after n)) grid c.in_ok-make_rooms.ensures.note,
+      subst (λ (g : ℕ). IfSome c.args.wanted.point (λ n. IsPointReady g after n)) grid c.in_ok-make_rooms.ensures.point,
       subst (StandAtPlaces i.grid) (sym (all_shown places after m)) c.self.invariant.4,
     )
 
@@ -136,18 +136,18 @@ returns-clause-ok c =
     ∙ ap (λ (l : List Cell). record hold {
       room = record {
         swap = Some (l, x.fresh.items);
-        push = c.args.note;
+        push = c.args.wanted.note;
         point =
-            c.args.point;
-        back = c.args.back;
+            c.args.wanted.point;
+        back = c.args.wanted.back;
       };
     }) c.in_ok-exchange.ensures.gone
     ∙ ap (λ (l : List Cell). record hold {
       room = record {
         swap = Some (c.args.gone.now, l);
-        push = c.args.note;
+        push = c.args.wanted.note;
         point =
-            c.args.point;
-        back = c.args.back;
+            c.args.wanted.point;
+        back = c.args.wanted.back;
       };
     }) c.in_ok-exchange.ensures.fresh
