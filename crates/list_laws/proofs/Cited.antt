@@ -18,7 +18,6 @@ pub use Rattle.list_laws.proofs.Distinct.{without_last}
 pub use Rattle.list_laws.proofs.Filters.{IsFound, all_from, all_pass, all_true, any_from, any_none, any_true}
 pub use Rattle.list_laws.proofs.Filters.{filter_and, filter_twice, filtered_from, filtered_true, found_from}
 pub use Rattle.list_laws.proofs.Filters.{in_filtered, none_pass, passes, same_filter, search_pair, searched}
-pub use Rattle.list_laws.proofs.Fronts.{begins, same_front}
 pub use Rattle.list_laws.proofs.Gathered.{Gathered, gather_all, gather_none, gather_push, gather_skip, gather_step}
 pub use Rattle.list_laws.proofs.Gathered.{gathers}
 pub use Rattle.list_laws.proofs.Inserted.{fold_comes, in_fold, sorted_fold}
@@ -53,5 +52,5 @@ pub use Rattle.list_laws.proofs.Zero.{less_true, low_of, low_turned, most_from, 
 pub use Rattle.list_laws.proofs.Zero.{not_below, not_other, not_zero, one_above, opposite, other_factor, positive}
 pub use Rattle.list_laws.proofs.Zero.{positive_factor, self_negative, settled, turned_below, turned_most, two_signs}
 pub use Rattle.list_laws.proofs.Zero.{weak, weak_below, zero_terms, zero_weak}
-pub use Rattle.list_laws.proofs.Zips.{length_zip, zip_all, zip_map, zip_push}
+pub use Rattle.list_laws.proofs.Zips.{length_zip, zip_push}
 pub use Rattle.list_laws.proofs.Parity.{shuffle, odd_xor}

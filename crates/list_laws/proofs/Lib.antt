@@ -14,7 +14,6 @@ pub mod Ranges
 pub mod Zips
 pub mod Gathered
 pub mod Inserted
-pub mod Fronts
 pub mod BelowFronts
 pub mod Sorted
 pub mod Later
