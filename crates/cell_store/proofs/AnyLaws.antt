@@ -2,7 +2,7 @@
 use Rattle.std.specs.Prelude.{◌≡◌, ℕ, ◌+◌, ◌==◌, Bool, true, false, cond, List, [], ◌∷◌, ◌++◌, Option, None, Some}
 use Rattle.std.specs.Prelude.{IfSome}
 use Rattle.std.specs.List.{filter}
-use Rattle.std.specs.Option.{option_map, option_map_or}
+use Rattle.std.specs.Option.{option_map_or}
 use Rattle.std.proofs.Common.{refl, sym, ◌∙◌, ap, subst}
 use Rattle.std.proofs.lemmas.Bool.{eqb-true}
 use Rattle.list_laws.proofs.Cited.{any_from, filtered_from, filtered_true, some_of}
@@ -10,7 +10,6 @@ use Rattle.point_order.specs.declared.cell.Cell.{Cell}
 use Rattle.point_order.specs.Complex.{complex}
 use Rattle.point_order.specs.Facets.{points_of}
 use Rattle.point_order.specs.Sets.{IsIn, IsAscending, is_among, with_point}
-use Rattle.point_order.proofs.Cited.{ascending_with}
 use Rattle.edit_history.specs.declared.history.Edit.{Edit}
 use Rattle.edit_history.specs.declared.history.Edit.TheVariants.{Add, Take, Move}
 use Rattle.edit_history.specs.declared.history.Entry.{Entry}
@@ -21,13 +20,12 @@ use Rattle.edit_history.specs.Edits.{point_of, reply_to, arrived, changed, after
 use Rattle.edit_history.specs.Histories.{replay, replay_from, IsLegal, IsLegalFrom}
 use Rattle.edit_history.proofs.Cited.{has_moved, leaves_set}
 use Rattle.cell_store.specs.Grids.{bucket_of}
-use Rattle.cell_store.specs.Buckets.{BucketContent, InHand, bucket_at, cells_in}
+use Rattle.cell_store.specs.Buckets.{BucketContent, bucket_at, cells_in}
 use Rattle.cell_store.specs.Points.{came, goal_of}
 use Rattle.cell_store.specs.Ready.{ChangeFindsCells}
 use Rattle.cell_store.specs.Shares.{IsShare, cells_share}
 use Rattle.cell_store.specs.Swaps.{touches, swapped}
-use Rattle.cell_store.specs.Changes.{arrived_in, brought_in, noted_in, put_in, swapped_in, AnyKeepsHold, IsArrived}
-use Rattle.cell_store.specs.Changes.{IsPut, ShareAfterAny}
+use Rattle.cell_store.specs.Changes.{arrived_in, brought_in, noted_in, put_in, swapped_in, AnyKeepsHold, ShareAfterAny}
 use Rattle.cell_store.proofs.NextLaws.{cells_after, entries_after, entries_stay, filter_with, filter_with_else, lies}
 use Rattle.cell_store.proofs.NextLaws.{mapped_some, points_after, points_stay}
 use Rattle.edit_history.proofs.Cited.{ascending_arrived as arrived_ascending}

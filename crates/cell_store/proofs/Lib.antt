@@ -5,6 +5,7 @@ pub mod BetweenLaws
 pub mod Layouts
 pub mod RoomLaws
 pub mod NoteLaws
+pub mod Homes
 pub mod SwapLaws
 pub mod HandLaws
 pub mod TouchLaws

@@ -1,25 +1,22 @@
 -- What an entry makes of the points of its bucket, and of the buckets of a hold.
-use Rattle.std.specs.Prelude.{◌≡◌, ◌≢◌, ℕ, ◌<◌, ◌≤◌, ◌==◌, Bool, true, false, cond, not, ◌||◌, List, [], ◌∷◌, ◌++◌}
-use Rattle.std.specs.Prelude.{Option, None, Some, IfSome, IsSome, IsSomeAnd, length, slice_index, slice_index_or}
-use Rattle.std.specs.Prelude.{slice_set, suc, ◌+◌, Result, Ok, Err, MatchResult, OnOk, OnErr}
+use Rattle.std.specs.Prelude.{◌≡◌, ℕ, ◌<◌, ◌≤◌, ◌==◌, Bool, true, false, cond, not, ◌||◌, List, [], ◌∷◌, Option, None}
+use Rattle.std.specs.Prelude.{Some, IfSome, IsSome, IsSomeAnd, length, slice_index, slice_set, suc, ◌+◌, Result, Ok}
+use Rattle.std.specs.Prelude.{Err, MatchResult, OnOk, OnErr}
 use Rattle.std.specs.Option.{option_map, option_map_or}
 use Rattle.std.proofs.Common.{refl, sym, ◌∙◌, ap, subst, inl, inr, arith}
 use Rattle.std.proofs.lemmas.List.{get_or-set_same, get_or-set_other}
-use Rattle.std.proofs.lemmas.Bool.{cases_eq, ne_eqb}
-use Rattle.list_laws.proofs.Cited.{among_true, below_each, if_some, index_in, len_set, of_some, one_value, same_true}
-use Rattle.list_laws.proofs.Cited.{to_some, within_list}
+use Rattle.std.proofs.lemmas.Bool.{cases_eq}
+use Rattle.list_laws.proofs.Cited.{among_true, below_each, if_some, index_in, of_some, one_value, to_some}
 use Rattle.point_order.specs.declared.cell.Cell.{Cell}
 use Rattle.point_order.specs.Sets.{IsIn, IsAscending, is_among, with_point, without_point}
 use Rattle.point_order.proofs.Cited.{in_with_new, with_cases}
 use Rattle.edit_history.specs.declared.history.Entry.{Entry}
-use Rattle.edit_history.specs.Edits.{point_of, changed}
 use Rattle.edit_history.proofs.Cited.{among_gap}
 use Rattle.cell_store.specs.Grids.{bucket_of}
 use Rattle.cell_stars.specs.Places.{Placed, cells_of}
 use Rattle.cell_store.specs.Buckets.{BucketContent, Layout, InHand, Room, bucket_at, content_of, layout_at, shown}
 use Rattle.cell_store.specs.Buckets.{StandAtPlaces, points_at}
 use Rattle.cell_store.specs.declared.room.PlanFor.{PlanFor}
-use Rattle.cell_store.specs.Changes.{dropped_in, noted_in, put_in, IsDropped, IsNoted, IsPut}
 use Rattle.cell_store.specs.Ready.{AllRoomier, AreRoomier, HasMuchRoom, HasPlaceFor, HasRoom, IsExchange, IsNoteReady}
 use Rattle.cell_store.specs.Ready.{IsPointReady, ArePlansReady, IsReadyFor, IsRoomier}
 use Rattle.cell_store.proofs.Layouts.{shown_at}
@@ -103,45 +100,6 @@ ready_noted t g b gone fresh places plans c d h e f r =
       | inl w ↦ here l w q
       | inr w ↦ subst (λ o. IsSomeAnd o (λ y. IsExchange t gone fresh y.cells l.plan))
           (sym (get_or-set_other places b l.number (Some d) None w)) q
-    ]
-
--- the bucket with the entry
-abbrev with_entry : Entry → BucketContent → BucketContent
-with_entry e c = record c { points = changed c.points (point_of e.edit) e.reply; entries = c.entries ++ e ∷ [] }
-
--- the bucket of the entry's point has the entry
-noted_here : (g b : ℕ) (e : Entry) (c : BucketContent) → b ≡ bucket_of g (point_of e.edit) →
-    noted_in g b e c ≡ with_entry e c
-noted_here g b e c h = rw (same_true (bucket_of g (point_of e.edit)) b (sym h)) refl
-
--- another bucket is as before
-noted_elsewhere : (g k : ℕ) (e : Entry) (o : Option BucketContent) → k ≢ bucket_of g (point_of e.edit) →
-    option_map (noted_in g k e) o ≡ o
-noted_elsewhere g k e None h = refl
-noted_elsewhere g k e (Some c) h = rw (ne_eqb (bucket_of g (point_of e.edit)) k (λ q. h (sym q))) refl
-
--- a hold in which the bucket of the entry's point has the entry, and nothing else is changed, is noted
-pub noted_is : (old new : InHand) (g b : ℕ) (places : List (Option BucketContent)) (e : Entry) (c d : BucketContent) →
-    g ≡ old.grid → places ≡ old.places → new.grid ≡ g → new.places ≡ slice_set places b (Some d) →
-    b ≡ bucket_of g (point_of e.edit) → b < length places → bucket_at places b ≡ Some c → d ≡ with_entry e c →
-    IsNoted e old new
-noted_is old new g b places e c d e1 e2 e3 e4 h l k f = record {
-  grid = e3 ∙ e1;
-  count = ap length e4 ∙ len_set places b (Some d) ∙ ap length e2;
-  places = λ n.
-      ap (λ m. bucket_at m n) e4 ∙ by n
-      ∙ ap (λ m. option_map (noted_in m n e) (bucket_at places n)) e1
-      ∙ ap (λ m. option_map (noted_in old.grid n e) (bucket_at m n)) e2;
-}
-  where
-    by : (n : ℕ) → bucket_at (slice_set places b (Some d)) n ≡ option_map (noted_in g n e) (bucket_at places n)
-    by n = elim (cases_eq n b) [
-      | inl w ↦
-          ap (bucket_at (slice_set places b (Some d))) w ∙ get_or-set_same places b (Some d) None l
-          ∙ ap (λ (y : BucketContent). Some y) (f ∙ sym (noted_here g n e c (w ∙ h)))
-          ∙ sym (ap (option_map (noted_in g n e)) (ap (bucket_at places) w ∙ k))
-      | inr w ↦ get_or-set_other places b n (Some d) None w
-          ∙ sym (noted_elsewhere g n e (bucket_at places n) (λ q. w (q ∙ sym h)))
     ]
 
 -- ---- places
@@ -372,11 +330,6 @@ all_twice old mid new r s = record {
           for_entries = omega arith;
         }
 
--- what an option has, that has one value
-pub named : (o : Option ℕ) (p : ℕ) → o ≡ Some p → IfSome o (λ q. q ≡ p)
-named None p e = tt
-named (Some q) p e = one_value q p e
-
 -- the bucket of a point that can come, and of one that can go
 pub point_room : (g b p : ℕ) (places : List (Option Layout)) (x : Option Layout) → IsPointReady g places p →
     b ≡ bucket_of g p → is_among p (points_at (shown places) b) ≡ false → layout_at places b ≡ x →
@@ -407,20 +360,10 @@ point_there b p places None e w = (let u : is_among p [] ≡ true =
 point_there b p places (Some c) e w = point_is b p true places c e w
 
 -- a bucket with other points, as it is shown
-pub content_put : (p : ℕ) (c d : Layout) → d.points ≡ with_point p c.points → d.cells ≡ c.cells →
-    d.entries ≡ c.entries → content_of d ≡ record (content_of c) { points = with_point p c.points }
-content_put p c d e f h = λ i. record { points = e i; cells = cells_of (f i).slots; entries = h i; place = (f i).place }
-
--- so with the point taken out
-pub content_dropped : (p : ℕ) (c d : Layout) → d.points ≡ without_point p c.points → d.cells ≡ c.cells →
-    d.entries ≡ c.entries → content_of d ≡ record (content_of c) { points = without_point p c.points }
-content_dropped p c d e f h = λ i. record {
-  points = e i;
-  cells = cells_of (f i).slots;
-  entries = h i;
-  place =
-      (f i).place;
-}
+pub content_points : (points : List ℕ) (c d : Layout) → d.points ≡ points → d.cells ≡ c.cells →
+    d.entries ≡ c.entries → content_of d ≡ record (content_of c) { points = points }
+content_points points c d e f h =
+    λ i. record { points = e i; cells = cells_of (f i).slots; entries = h i; place = (f i).place }
 
 -- the bucket of the point after it came or went
 pub point_ready : (g b : ℕ) (places : List (Option Layout)) (p : ℕ) (d : Layout) → b < length places →
@@ -452,69 +395,6 @@ dropped_note c d r s k = (let x = k.points in let y = k.entries in
 pub dropped_has_place : (p : ℕ) (c d : Layout) → HasPlaceFor p c → is_among p c.points ≡ true →
     c.room_points < d.room_points → HasPlaceFor p d
 dropped_has_place p c d h n r = (let x = h.there n in record { absent = λ k. omega arith; there = λ k. omega arith })
-
--- ---- a point that comes or goes
-
--- where one bucket is changed by a map that leaves all others, every bucket is as the map makes it
-one_in : (F : ℕ → BucketContent → BucketContent) (old new : InHand) (b : ℕ) (places : List (Option BucketContent))
-    (c d : BucketContent) → new.places ≡ slice_set places b (Some d) → places ≡ old.places → b < length places →
-    bucket_at places b ≡ Some c → d ≡ F b c → ((n : ℕ) (x : BucketContent) → n ≢ b → F n x ≡ x) →
-    (n : ℕ) → bucket_at new.places n ≡ option_map (F n) (bucket_at old.places n)
-one_in F old new b places c d e f l k q other n =
-    ap (λ m. bucket_at m n) e ∙ by ∙ ap (λ m. option_map (F n) (bucket_at m n)) f
-  where
-    same : (o : Option BucketContent) → n ≢ b → o ≡ option_map (F n) o
-    same None w = refl
-    same (Some x) w = ap (λ (y : BucketContent). Some y) (sym (other n x w))
-
-    by : bucket_at (slice_set places b (Some d)) n ≡ option_map (F n) (bucket_at places n)
-    by = elim (cases_eq n b) [
-      | inl w ↦
-          ap (bucket_at (slice_set places b (Some d))) w ∙ get_or-set_same places b (Some d) None l
-          ∙ ap (λ (y : BucketContent). Some y) q
-          ∙ ap (λ m. option_map (F m) (Some c)) (sym w)
-          ∙ sym (ap (option_map (F n)) (ap (bucket_at places) w ∙ k))
-      | inr w ↦ get_or-set_other places b n (Some d) None w ∙ same (bucket_at places n) w
-    ]
-
--- a hold in which the point's bucket has the point more, and nothing else is changed, is put
-pub put_is : (old new : InHand) (g b p : ℕ) (places : List (Option BucketContent)) (c d : BucketContent) →
-    g ≡ old.grid → places ≡ old.places → new.grid ≡ g → new.places ≡ slice_set places b (Some d) → b ≡ bucket_of g p →
-    b < length places → bucket_at places b ≡ Some c → d ≡ record c { points = with_point p c.points } → IsPut p old new
-put_is old new g b p places c d e1 e2 e3 e4 h l k f = record {
-  grid = e3 ∙ e1;
-  count = ap length e4 ∙ len_set places b (Some d) ∙ ap length e2;
-  places = one_in (λ n x. put_in old.grid n p x) old new b places c d e4 e2 l k (f ∙ sym here) elsewhere;
-}
-  where
-    number : b ≡ bucket_of old.grid p
-    number = h ∙ ap (λ n. bucket_of n p) e1
-
-    here : put_in old.grid b p c ≡ record c { points = with_point p c.points }
-    here = rw (same_true (bucket_of old.grid p) b (sym number)) refl
-
-    elsewhere : (n : ℕ) (x : BucketContent) → n ≢ b → put_in old.grid n p x ≡ x
-    elsewhere n x w = rw (ne_eqb (bucket_of old.grid p) n (λ q. w (sym q ∙ sym number))) refl
-
--- and one in which it has the point less is dropped
-pub dropped_is : (old new : InHand) (g b p : ℕ) (places : List (Option BucketContent)) (c d : BucketContent) →
-    g ≡ old.grid → places ≡ old.places → new.grid ≡ g → new.places ≡ slice_set places b (Some d) → b ≡ bucket_of g p →
-    b < length places → bucket_at places b ≡ Some c → d ≡ record c { points = without_point p c.points } →
-    IsDropped p old new
-dropped_is old new g b p places c d e1 e2 e3 e4 h l k f = record {
-  grid = e3 ∙ e1;
-  count = ap length e4 ∙ len_set places b (Some d) ∙ ap length e2;
-  places = one_in (λ n x. dropped_in old.grid n p x) old new b places c d e4 e2 l k (f ∙ sym here) elsewhere;
-}
-  where
-    number : b ≡ bucket_of old.grid p
-    number = h ∙ ap (λ n. bucket_of n p) e1
-
-    here : dropped_in old.grid b p c ≡ record c { points = without_point p c.points }
-    here = rw (same_true (bucket_of old.grid p) b (sym number)) refl
-
-    elsewhere : (n : ℕ) (x : BucketContent) → n ≢ b → dropped_in old.grid n p x ≡ x
-    elsewhere n x w = rw (ne_eqb (bucket_of old.grid p) n (λ q. w (sym q ∙ sym number))) refl
 
 -- the hold with other places
 pub hold_with : (h : InHand) (g : ℕ) (ps qs xs : List (Option BucketContent)) (r s : Room) →

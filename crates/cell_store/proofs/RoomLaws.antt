@@ -10,7 +10,7 @@ use Rattle.std.proofs.lemmas.Bool.{cases_eq}
 use Rattle.std.proofs.lemmas.List.{drop-set-lt, take_all, take_more_set}
 use Rattle.list_laws.proofs.Cited.{any_none, at_place, below_each, from_append, in_left, in_right, mapped_from}
 use Rattle.list_laws.proofs.Cited.{mapped_true, numbers_same, of_some, one_value, same_from, take_next, take_suc}
-use Rattle.list_laws.proofs.Cited.{to_some, within_list}
+use Rattle.list_laws.proofs.Cited.{to_some}
 use Rattle.point_order.specs.declared.cell.Cell.{Cell}
 use Rattle.point_order.specs.Facets.{points_of}
 use Rattle.point_order.specs.Sets.{IsIn}

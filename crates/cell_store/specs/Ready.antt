@@ -1,18 +1,16 @@
 -- What a hold keeps ready for an exchange of cells and for an entry.
-use Rattle.std.specs.Prelude.{◌≡◌, ◌≢◌, ℕ, ◌+◌, ◌<◌, ◌≤◌, Bool, true, false, not, List, [], ◌∷◌, ◌++◌, Option, None}
-use Rattle.std.specs.Prelude.{Some, length, IsSome, IsSomeAnd, map}
+use Rattle.std.specs.Prelude.{◌≡◌, ◌≢◌, ℕ, ◌<◌, ◌≤◌, Bool, true, false, not, List, [], ◌∷◌, Option, None, Some, length}
+use Rattle.std.specs.Prelude.{IsSome, IsSomeAnd, map}
 use Rattle.std.specs.List.{flat_map}
 use Rattle.point_order.specs.declared.cell.Cell.{Cell}
 use Rattle.point_order.specs.Facets.{points_of}
-use Rattle.point_order.specs.Sets.{IsIn, is_among, with_point, without_point}
-use Rattle.edit_history.specs.declared.history.Entry.{Entry}
-use Rattle.edit_history.specs.Edits.{point_of, changed}
+use Rattle.point_order.specs.Sets.{IsIn, is_among}
 use Rattle.cell_store.specs.Grids.{bucket_of}
 use Rattle.cell_stars.specs.Places.{Placed, cells_of}
 use Rattle.cell_stars.specs.Plans.{PlanView, Allows, MakesExchange}
 use Rattle.cell_stars.specs.Turns.{AreReady, IsTurn, IsWayBack, WasTurned}
 use Rattle.cell_store.specs.Swaps.{touches, swapped}
-use Rattle.cell_store.specs.Buckets.{Layout, InHand, bucket_at, cells_in, content_of, layout_at, points_at}
+use Rattle.cell_store.specs.Buckets.{Layout, InHand, bucket_at, cells_in, layout_at, points_at}
 use Rattle.cell_store.specs.Changes.{IsChange, NoneTouches}
 use Rattle.cell_store.specs.Shares.{Shows}
 use Rattle.point_order.specs.Complex.{complex}
@@ -165,30 +163,6 @@ pub record HasPlaceFor (p : ℕ) (c : Layout) : Type 0 where
 abbrev pub IsPointReady : ℕ → List (Option Layout) → ℕ → Type 0
 IsPointReady g places p = IsSomeAnd (layout_at places (bucket_of g p)) (HasPlaceFor p)
 
--- the bucket has the point, and keeps its cells, its entries and its place for the point
-pub record IsPointPut (p : ℕ) (old new : Option Layout) : Type 0 where
-  pub before : Layout
-  pub was : old ≡ Some before
-  pub after : Layout
-  pub is : new ≡ Some after
-  pub points : after.points ≡ with_point p before.points
-  pub cells : after.cells ≡ before.cells
-  pub entries : after.entries ≡ before.entries
-  pub for_points : before.room_points ≤ after.room_points + 1
-  pub for_entries : after.room_entries ≡ before.room_entries
-
--- the bucket has it no more
-pub record IsPointDropped (p : ℕ) (old new : Option Layout) : Type 0 where
-  pub before : Layout
-  pub was : old ≡ Some before
-  pub after : Layout
-  pub is : new ≡ Some after
-  pub points : after.points ≡ without_point p before.points
-  pub cells : after.cells ≡ before.cells
-  pub entries : after.entries ≡ before.entries
-  pub for_points : before.room_points < after.room_points
-  pub for_entries : after.room_entries ≡ before.room_entries
-
 -- the same bucket, with no less room
 pub record IsRoomier (old new : Layout) : Type 0 where
   pub points : new.points ≡ old.points
@@ -206,16 +180,6 @@ AreRoomier (Some c) new = IsSomeAnd new (IsRoomier c)
 pub record AllRoomier (old new : List (Option Layout)) : Type 0 where
   pub count : length new ≡ length old
   pub each : (b : ℕ) → AreRoomier (layout_at old b) (layout_at new b)
-
--- the bucket has the entry last, and its point as the reply says, and keeps its cells
-pub record IsNotedIn (e : Entry) (old new : Option Layout) : Type 0 where
-  pub before : Layout
-  pub was : old ≡ Some before
-  pub after : Layout
-  pub is : new ≡ Some after
-  pub content : content_of after ≡ record (content_of before)
-      { points = changed before.points (point_of e.edit) e.reply; entries = before.entries ++ e ∷ [] }
-  pub cells : after.cells ≡ before.cells
 
 -- An exchange of exactly what is gone and new finds its cells, where those that go are held.
 abbrev pub ChangeFindsCells : Type 0

@@ -14,7 +14,7 @@ ghost use Rattle.cell_store.specs.Ready.{AreHeld, CanCome, FindsCells};
 
 use crate::hold::Hold;
 use crate::note::{came_by, goal, last};
-use crate::room::{Exchange, drop_point_in, made, make_rooms, note_in, put_point_in};
+use crate::room::{Exchange, bucket_mut, made, make_rooms};
 use edit_history::{Edit, Entry};
 use point_order::{Cell, Point};
 use std::alloc::{AllocError, Global};
@@ -209,7 +209,7 @@ impl Hold {
         ensures room { self.new.room ≡ record self.old.room { push = None; point = None } }
     {
         let b = self.grid().bucket_of(entry.edit.point()) as usize;
-        note_in(&mut self.places[b], entry);
+        bucket_mut(&mut self.places[b]).note(entry);
         self.note = None;
         self.point = None;
     }
@@ -223,7 +223,7 @@ impl Hold {
         ensures room { self.new.room ≡ self.old.room }
     {
         let b = self.grid().bucket_of(p) as usize;
-        put_point_in(&mut self.places[b], p);
+        bucket_mut(&mut self.places[b]).put_point(p);
     }
 
     /// Takes the point out of its bucket, where it is there. There is to be room for it to come and go.
@@ -234,7 +234,7 @@ impl Hold {
         ensures room { self.new.room ≡ self.old.room }
     {
         let b = self.grid().bucket_of(p) as usize;
-        drop_point_in(&mut self.places[b], p);
+        bucket_mut(&mut self.places[b]).drop_point(p);
     }
 
     /// Puts the place to which a point has moved into its bucket, if the entry tells of one. There is to be room for

@@ -2,20 +2,21 @@
 
 ghost use Rattle.std.specs.Prelude.{◌≡◌, ◌≢◌, ◌↔◌, ◌⊎◌, ℕ, ◌*◌, ◌<◌, true, false, not, IfOk, IfSome, IsSome, IsSomeAnd};
 ghost use Rattle.std.specs.Prelude.{IsTrue, MatchOption, None, OnOk, Some, [], map};
-ghost use Rattle.point_order.specs.Sets.{IsIn, IsAscending, is_among};
+ghost use Rattle.std.specs.Borrow.{sem};
+ghost use Rattle.std.specs.Option.Follows.{option_follows_value};
+ghost use Rattle.point_order.specs.Sets.{IsIn, IsAscending};
 ghost use Rattle.list_laws.specs.Lists.{Gathers};
 ghost use Rattle.cell_stars.specs.Plans.{IsOnceFor};
 ghost use Rattle.cell_store.specs.Buckets.{layout_at};
 ghost use Rattle.cell_store.specs.Grids.{bucket_of as number_of};
 ghost use Rattle.cell_store.specs.Ready.{AreForOthers, AreFound, AreInHand, AreMade, AllRoomier, AreRoomier};
-ghost use Rattle.cell_store.specs.Ready.{HasMuchRoom, HasRoom, IsAllowed, IsExchangeMade, IsNoteReady, IsNotedIn};
-ghost use Rattle.cell_store.specs.Ready.{IsBucketOf, IsPointDropped, IsPointPut, IsPointReady, ArePlansReady};
-ghost use Rattle.cell_store.specs.Ready.{IsReadyFor, IsTurnedIn, buckets_of_cells};
+ghost use Rattle.cell_store.specs.Ready.{HasMuchRoom, IsAllowed, IsExchangeMade, IsNoteReady, IsBucketOf, IsPointReady};
+ghost use Rattle.cell_store.specs.Ready.{ArePlansReady, IsReadyFor, IsTurnedIn, buckets_of_cells};
 ghost use Rattle.cell_store.specs.declared.room.PlanFor.{PlanFor};
+ghost use Rattle.cell_store.specs.contracts.bucket.Bucket.{the_row};
 
 use crate::bucket::Bucket;
 use cell_stars::{Grid, Matched, Plan, Stock};
-use edit_history::Entry;
 use point_order::{Cell, Point};
 use smallvec::SmallVec;
 use std::alloc::{AllocError, Global};
@@ -255,14 +256,14 @@ pub(crate) fn made(
     None
 }
 
-// Makes room for an entry in the bucket, which is to be there, and for one point more.
-fn make_room(place: &mut Option<Bucket>) -> Result<(), AllocError>
+// The bucket, which is to be there.
+pub(crate) fn bucket_mut(place: &mut Option<Bucket>) -> &mut Bucket
     requires { IsSome place.old }
-    ensures same { AreRoomier place.old place.new }
-    ensures room { OnOk result (IsSomeAnd place.new HasMuchRoom) }
+    ensures value { place.old ≡ Some result.now }
+    ensures* writes_back { sem 𝓛 (option_follows_value the_row place.entry result) }
 {
     match place {
-        Some(bucket) => bucket.make_room(),
+        Some(bucket) => bucket,
         None => unreachable!(),
     }
 }
@@ -278,7 +279,7 @@ fn make_room_at(
     ensures room { OnOk result (IfSome p.now (λ p. IsSomeAnd (layout_at places.new (number_of grid p)) HasMuchRoom)) }
 {
     match p {
-        Some(p) => make_room(&mut places[grid.bucket_of(*p) as usize]),
+        Some(p) => bucket_mut(&mut places[grid.bucket_of(*p) as usize]).make_room(),
         None => Ok(()),
     }
 }
@@ -300,49 +301,13 @@ pub(crate) fn make_rooms(
     make_room_at(places, grid, point)
 }
 
-// Puts the entry into the bucket, which is to be there and to have room for it. It takes no memory.
-pub(crate) fn note_in(place: &mut Option<Bucket>, entry: Entry)
-    requires { IsSomeAnd place.old HasRoom }
-    ensures { IsNotedIn entry place.old place.new }
-{
-    match place {
-        Some(bucket) => bucket.note(entry),
-        None => unreachable!(),
-    }
-}
-
-// Puts the point into the bucket, which is to be there and to have room for it. It takes no memory.
-pub(crate) fn put_point_in(place: &mut Option<Bucket>, p: Point)
-    requires { IsSomeAnd place.old (λ c. 0 < c.room_points) }
-    ensures { IsPointPut p place.old place.new }
-{
-    match place {
-        Some(bucket) => bucket.put_point(p),
-        None => unreachable!(),
-    }
-}
-
-// Takes the point out of the bucket, which is to be there and to have it.
-pub(crate) fn drop_point_in(place: &mut Option<Bucket>, p: Point)
-    requires { IsSomeAnd place.old (λ c. is_among p c.points ≡ true) }
-    ensures { IsPointDropped p place.old place.new }
-{
-    match place {
-        Some(bucket) => bucket.drop_point(p),
-        None => unreachable!(),
-    }
-}
-
 // Carries the plan out in its bucket, which is to be there, or turns it back.
 fn turn(places: &mut [Option<Bucket>], item: &mut PlanFor, turned: bool)
     requires { IsAllowed turned places.old item.old }
     ensures turned { IsTurnedIn turned item.old item.new places.old places.new }
     ensures others { (b : ℕ) → b ≢ item.old.number → layout_at places.new b ≡ layout_at places.old b }
 {
-    match &mut places[item.number as usize] {
-        Some(bucket) => bucket.turn(&mut item.plan, turned),
-        None => unreachable!(),
-    }
+    bucket_mut(&mut places[item.number as usize]).turn(&mut item.plan, turned);
 }
 
 // Carries each plan out in its bucket, or turns each back. There is to be one at most for each bucket.

@@ -1,7 +1,7 @@
 use Rattle.std.proofs.Common.{◌≡◌, ◌∙◌, ℕ, List, ap, eqb, length, subst}
 use Rattle.std.specs.List.{dedup}
 use Rattle.std.specs.List.Sorted.{IsPermutation}
-use Rattle.smallvec.specs.SmallVec.{SmallVec, small_vec_len, with_items}
+use Rattle.smallvec.specs.SmallVec.{SmallVec, with_items}
 use Rattle.smallvec.proofs.SmallVecLemmas.{items-with_items}
 use Rattle.list_laws.proofs.Cited.{numbers_ascend}
 use Rattle.cell_store.proofs.RoomLaws.{numbers_are}
