@@ -14,11 +14,11 @@ use Rattle.alpha_complex.specs.Admitted.{is_admitted, is_admitted_cell, kind}
 use Rattle.alpha_complex.specs.Leasts.{AreLeastOf, IsLeastOf}
 use Rattle.alpha_complex.specs.Told.{TellsFace}
 use Rattle.alpha_complex.specs.declared.numbers.FaceAlphas.{FaceAlphas}
-use Rattle.alpha_complex.proofs.Cited.{zip_at, zip_places}
+use Rattle.alpha_complex.proofs.Cited.{firsts_are, zip_at, zip_places}
 use Rattle.face_list.proofs.Cited.{around_seen, keys_seen, points_of_complex}
 use Rattle.hole_laws.specs.Edits.{IsSet}
 use Rattle.list_laws.proofs.Cited.{length_zip}
-use Rattle.mesh_rows.specs.Around.{AreAround, IsAround, numbers_at}
+use Rattle.mesh_rows.specs.Around.{AreAlphasAround, IsAround, numbers_at}
 use Rattle.mesh_rows.specs.Held.{ShowsParts}
 use Rattle.mesh_rows.specs.Meshes.{AreCellAlphas, IsCloud}
 use Rattle.mesh_rows.proofs.FullFirst.{kinds, kinds_of}
@@ -57,16 +57,11 @@ faces_of s cells faces k c p q t =
       cells = c ∙ e;
     }
 
--- faces by themselves
-firsts : (parts : List (List ℕ)) (cells : List Cell) → map (λ f. f.0) (with_cells_around parts cells) ≡ parts
-firsts [] cells = refl
-firsts (p ∷ parts) cells = ap (λ (l : List (List ℕ)). p ∷ l) (firsts parts cells)
-
 -- the parts of a complex, each without its cells
 pub parts_mapped : (n : ℕ) (s : List ℕ) (faces : List (List ℕ × List Cell)) →
     faces ≡ with_cells_around (parts_in n (complex s)) (complex s) → map (λ f. f.0) faces ≡ parts_in n (complex s)
 parts_mapped n s faces e =
-    ap (λ (l : List (List ℕ × List Cell)). map (λ f. f.0) l) e ∙ firsts (parts_in n (complex s)) (complex s)
+    ap (λ (l : List (List ℕ × List Cell)). map (λ f. f.0) l) e ∙ firsts_are (parts_in n (complex s)) (complex s)
 
 -- the points of a complex, each without its cells
 pub points_mapped : (s : List ℕ) (faces : FaceLists) → AreFacesOf s faces → map (λ f. f.0) faces.points ≡ s
@@ -148,7 +143,7 @@ held_counts n s t leasts admitted k z m = (
 pub parts_told :
     (n : ℕ) (s : List ℕ) (t : Table (List ℕ)) (leasts admitted : List ℕ) (alphas : List FaceAlphas) →
     ShowsParts n s t → AreLeastOf (is_admitted_cell s) (complex s) leasts →
-    AreLeastOf (is_admitted s) (parts_in n (complex s)) admitted → AreAround leasts t admitted alphas →
+    AreLeastOf (is_admitted s) (parts_in n (complex s)) admitted → AreAlphasAround leasts t admitted alphas →
     AllZip (TellsFace s) (parts_in n (complex s)) alphas
 parts_told n s t leasts admitted alphas k z m w =
     let parts = parts_in n (complex s) in

@@ -1,19 +1,14 @@
 -- The numbers of faces by the cells around them.
-use Rattle.std.proofs.Common.{◌≡◌, ◌∙◌, ℕ, ◌<◌, ◌+◌, ◌^◌, min, max, ap, sym, subst, arith, Bool, true, false, List, []}
-use Rattle.std.proofs.Common.{length, map, get_or, nat_le}
-use Rattle.std.specs.Prelude.{◌&&◌, ◌||◌}
-use Rattle.std.specs.List.{All, list_all, list_any}
-use Rattle.std.proofs.lemmas.Bool.Decides.{nat_tests}
-use Rattle.std.proofs.lemmas.List.{drop_all}
+use Rattle.std.proofs.Common.{◌≡◌, ℕ, ◌<◌, ◌+◌, min, max, sym, subst, arith, Bool, List, []}
+use Rattle.std.proofs.Common.{length, get_or}
+use Rattle.std.specs.List.{All}
 use Rattle.std.proofs.lemmas.List.Elements.{All-get_or}
-use Rattle.std.proofs.Math.Bool.{and-true, or-false}
 use Rattle.list_laws.proofs.Cited.{length_zip}
 use Rattle.point_order.specs.declared.cell.Cell.{Cell}
 use Rattle.point_order.specs.declared.cell.Cell.TheVariants.{Full}
 use Rattle.face_list.specs.Tables.{cell_at}
 use Rattle.alpha_complex.specs.Leasts.{AreLeastOf, IsLeastOf}
 use Rattle.alpha_complex.proofs.Cited.{AllLeft, AnyLeft, all_step, any_step, zip_at}
-use Rattle.mesh_rows.specs.Around.{AreLeastOfAll, AreLeastOfSome}
 
 -- the number of a cell is the least alpha of whatever the numbers are
 least_of : (test : ℕ → Cell → Bool) (cells : List Cell) (leasts : List ℕ) (n m : ℕ) → AreLeastOf test cells leasts →
@@ -29,14 +24,6 @@ abbrev pub SomeLeft : List ℕ → List ℕ → ℕ → ℕ → Type 0
 SomeLeft leasts around i least = (cells : List Cell) (test : ℕ → Cell → Bool) → AreLeastOf test cells leasts →
     AnyLeft test (cell_at cells) around i least
 
--- at first
-pub some_first : (leasts around : List ℕ) → SomeLeft leasts around 0 17179869184
-some_first leasts around cells test z a l =
-    ap (λ (b : Bool). b || list_any (test a) (map (cell_at cells) around)) (beyond a l)
-  where
-    beyond : (a : ℕ) → a < 2 ^ 34 → nat_le 17179869184 a ≡ false
-    beyond a l = grind (arith, nat_tests)
-
 -- with one more
 pub some_step : (leasts around : List ℕ) (i d least m r : ℕ) → i < length around →
     All (λ n. n < length leasts) around → m ≡ get_or leasts (get_or around i d) 0 → r ≡ min least m →
@@ -46,26 +33,10 @@ some_step leasts around i d least m r h k e q left cells test z =
     (least_of test cells leasts (get_or around i d) m z
     (All-get_or (λ n. n < length leasts) around i d h k) e) q (left cells test z)
 
--- at last
-pub some_last : (leasts around : List ℕ) (i least : ℕ) → i ≡ length around → SomeLeft leasts around i least →
-    AreLeastOfSome leasts around least
-some_last leasts around i least e left cells test z a l =
-    sym (left cells test z a l)
-    ∙ ap (λ (v : List ℕ). nat_le least a || list_any (test a) (map (cell_at cells) v))
-    (drop_all i around (omega (arith, e)))
-    ∙ or-false (nat_le least a)
-
 -- so of the greatest
 abbrev pub EachLeft : List ℕ → List ℕ → ℕ → ℕ → Type 0
 EachLeft leasts around i most = (cells : List Cell) (test : ℕ → Cell → Bool) → AreLeastOf test cells leasts →
     AllLeft test (cell_at cells) around i most
-
-pub each_first : (leasts around : List ℕ) → EachLeft leasts around 0 0
-each_first leasts around cells test z a l =
-    ap (λ (b : Bool). b && list_all (test a) (map (cell_at cells) around)) (from_0 a)
-  where
-    from_0 : (a : ℕ) → nat_le 0 a ≡ true
-    from_0 a = grind (arith, nat_tests)
 
 pub each_step : (leasts around : List ℕ) (i d most m r : ℕ) → i < length around →
     All (λ n. n < length leasts) around → m ≡ get_or leasts (get_or around i d) 0 → r ≡ max most m →
@@ -74,11 +45,3 @@ each_step leasts around i d most m r h k e q left cells test z =
     all_step test (cell_at cells) around i d most m r h
     (least_of test cells leasts (get_or around i d) m z
     (All-get_or (λ n. n < length leasts) around i d h k) e) q (left cells test z)
-
-pub each_last : (leasts around : List ℕ) (i most : ℕ) → i ≡ length around → EachLeft leasts around i most →
-    AreLeastOfAll leasts around most
-each_last leasts around i most e left cells test z a l =
-    sym (left cells test z a l)
-    ∙ ap (λ (v : List ℕ). nat_le most a && list_all (test a) (map (cell_at cells) v))
-    (drop_all i around (omega (arith, e)))
-    ∙ and-true (nat_le most a)

@@ -28,7 +28,7 @@ pub record IsAround (leasts around : List ℕ) (admitted : ℕ) (a : FaceAlphas)
   pub interior : AreLeastOfAll leasts around a.interior
 
 -- so of each face of a table
-pub record AreAround {K : Type 0} (leasts : List ℕ) (t : Table K) (admitted : List ℕ)
+pub record AreAlphasAround {K : Type 0} (leasts : List ℕ) (t : Table K) (admitted : List ℕ)
     (alphas : List FaceAlphas) : Type 0 where
   pub count : length alphas ≡ length t.keys.items
   pub each : (i : ℕ) (d : FaceAlphas) → i < length t.keys.items →

@@ -16,7 +16,7 @@ pub record ShowsParts (n : ℕ) (s : List ℕ) (t : Table (List ℕ)) : Type 0 w
   pub shows : table_seen (complex s) t ≡ with_cells_around (parts_in n (complex s)) (complex s)
 
 -- The tables are those of a set, and the numbers tell from which alpha on pairs, triples and cells are admitted.
-pub record AreHeld (s : List ℕ) (held : Held) : Type 0 where
+pub record HoldsFaces (s : List ℕ) (held : Held) : Type 0 where
   pub of_points : AllZip (λ p a. TellsFace s (p ∷ []) a) s held.point_alphas.items
   pub pairs : ShowsParts 2 s held.pairs
   pub triples : ShowsParts 3 s held.triples

@@ -6,7 +6,7 @@ use Rattle.mesh_rows.specs.declared.mesh.Made.{Made}
 use Rattle.mesh_rows.specs.declared.levels.Levels.{Levels}
 
 -- the rows stand in the front of the room, and what is behind them is as before
-pub record IsPut {A : Type 0} (rows old new : List A) : Type 0 where
+pub record AreRowsPut {A : Type 0} (rows old new : List A) : Type 0 where
   pub front : take (length rows) new ≡ rows
   pub behind : drop (length rows) new ≡ drop (length rows) old
 

@@ -2,7 +2,7 @@
 
 ghost use Rattle.std.specs.Prelude.{◌≡◌, ◌<◌, All, length, max, slice_index_or, IfOk};
 ghost use Rattle.face_list.specs.Tables.{IsTable};
-ghost use Rattle.mesh_rows.specs.Around.{AreAround, AreLeastOfAll, AreLeastOfSome, IsAround, numbers_at};
+ghost use Rattle.mesh_rows.specs.Around.{AreAlphasAround, AreLeastOfAll, AreLeastOfSome, IsAround, numbers_at};
 
 use alpha_complex::FaceAlphas;
 use face_list::Table;
@@ -11,8 +11,8 @@ use std::alloc::{AllocError, Global};
 // No alpha is as great.
 const BEYOND: u64 = 1 << 34;
 
-// The number of a cell.
-fn number_of(cells: &[u64], cell: u32) -> u64
+// The alpha of a cell.
+fn alpha_of(cells: &[u64], cell: u32) -> u64
     requires { cell < length cells.now }
     ensures { result ≡ slice_index_or cells.now cell 0 }
 {
@@ -26,7 +26,7 @@ fn least_among(cells: &[u64], around: &[u32]) -> u64
 {
     let mut least = BEYOND;
     for number in around {
-        least = least.min(number_of(cells, *number));
+        least = least.min(alpha_of(cells, *number));
     }
     least
 }
@@ -45,7 +45,7 @@ fn most_among(cells: &[u64], around: &[u32]) -> u64
 {
     let mut most = 0;
     for number in around {
-        most = greater(most, number_of(cells, *number));
+        most = greater(most, alpha_of(cells, *number));
     }
     most
 }
@@ -76,7 +76,7 @@ pub(crate) fn alphas_around<K: Copy>(
 ) -> Result<Vec<FaceAlphas>, AllocError>
     requires table { IsTable (length cells.now) table.now }
     requires admitted { length admitted.items ≡ length table.now.keys.items }
-    ensures { IfOk result (λ v. AreAround cells.now table.now admitted.items v.items) }
+    ensures { IfOk result (λ v. AreAlphasAround cells.now table.now admitted.items v.items) }
 {
     let count = admitted.len();
     let mut alphas = Vec::with_capacity(alloc, count)?;

@@ -9,14 +9,13 @@ ghost use Rattle.alpha_complex.specs.Told.{TellsFace};
 ghost use Rattle.face_list.specs.Faces.{full_cells};
 ghost use Rattle.face_list.specs.Tables.{IsTable, table_seen};
 ghost use Rattle.hole_laws.specs.Edits.{IsSet};
-ghost use Rattle.mesh_rows.specs.Around.{AreAround};
-ghost use Rattle.mesh_rows.specs.Held.{AreHeld};
+ghost use Rattle.mesh_rows.specs.Around.{AreAlphasAround};
+ghost use Rattle.mesh_rows.specs.Held.{HoldsFaces};
 ghost use Rattle.mesh_rows.specs.Meshes.{AreFaceRows, AreFiltered, IsStopCause, IsCloud};
-ghost use Rattle.mesh_rows.specs.Rows.{edge_row, triangle_row};
 
 use crate::around::alphas_around;
 use crate::cloud::{Cloud, cloud_of};
-use crate::numbers::{edges, triangles};
+use crate::numbers::{Face, rows_of_faces};
 use crate::rows::{EdgeRow, Place, TriangleRow};
 use crate::stop::Stop;
 use alpha_complex::{Alphas, FaceAlphas, alphas_alone};
@@ -112,7 +111,7 @@ pub(crate) struct Held {
 // Of a set and its cells, which are not looked at again.
 pub(crate) fn held_of(alloc: Global, set: &[Point], all: &[Cell]) -> Result<Held, AllocError>
     requires { IsCloud set.now all.now }
-    ensures { IfOk result (AreHeld set.now) }
+    ensures { IfOk result (HoldsFaces set.now) }
 {
     let faces = few_faces(alloc, all)?;
     let known = alphas_alone(alloc, &faces)?;
@@ -138,43 +137,23 @@ fn keys_of<K: Copy>(table: Table<K>) -> Vec<K>
     keys
 }
 
-// The rows of pairs and their numbers. What these were made of is let go on the way.
-fn edge_levels(
+// The rows of the faces of a table and their numbers. What these were made of is let go on the way.
+fn levels_of_faces<F: Face>(
     alloc: Global,
     set: &[Point],
-    pairs: Table<Pair>,
+    table: Table<F>,
     admitted: Vec<u64>,
     cells: &[u64],
-) -> Result<(Vec<EdgeRow>, Vec<FaceAlphas>), AllocError>
+) -> Result<(Vec<F::Row>, Vec<FaceAlphas>), AllocError>
     requires few { length set.now < 2 ^ 32 }
     requires ascending { IsAscending set.now }
-    requires table { IsTable (length cells.now) pairs }
-    requires admitted { length admitted.items ≡ length pairs.keys.items }
-    ensures rows { IfOk result (λ made. made.0.items ≡ map (edge_row set.now) pairs.keys.items) }
-    ensures alphas { IfOk result (λ made. AreAround cells.now pairs admitted.items made.1.items) }
+    requires table { IsTable (length cells.now) table }
+    requires admitted { length admitted.items ≡ length table.keys.items }
+    ensures rows { IfOk result (λ made. made.0.items ≡ map (F.row_of set.now) table.keys.items) }
+    ensures alphas { IfOk result (λ made. AreAlphasAround cells.now table admitted.items made.1.items) }
 {
-    let alphas = alphas_around(alloc, &pairs, admitted, cells)?;
-    let rows = edges(alloc, set, &keys_of(pairs))?;
-    Ok((rows, alphas))
-}
-
-// So of triples.
-fn triangle_levels(
-    alloc: Global,
-    set: &[Point],
-    triples: Table<Tri>,
-    admitted: Vec<u64>,
-    cells: &[u64],
-) -> Result<(Vec<TriangleRow>, Vec<FaceAlphas>), AllocError>
-    requires few { length set.now < 2 ^ 32 }
-    requires ascending { IsAscending set.now }
-    requires table { IsTable (length cells.now) triples }
-    requires admitted { length admitted.items ≡ length triples.keys.items }
-    ensures rows { IfOk result (λ made. made.0.items ≡ map (triangle_row set.now) triples.keys.items) }
-    ensures alphas { IfOk result (λ made. AreAround cells.now triples admitted.items made.1.items) }
-{
-    let alphas = alphas_around(alloc, &triples, admitted, cells)?;
-    let rows = triangles(alloc, set, &keys_of(triples))?;
+    let alphas = alphas_around(alloc, &table, admitted, cells)?;
+    let rows = rows_of_faces(alloc, set, &keys_of(table))?;
     Ok((rows, alphas))
 }
 
@@ -182,7 +161,7 @@ fn triangle_levels(
 pub(crate) fn face_rows(alloc: Global, set: &[Point], held: Held) -> Result<Levels, AllocError>
     requires few { length set.now < 2 ^ 32 }
     requires set { IsSet set.now }
-    requires held { AreHeld set.now held }
+    requires held { HoldsFaces set.now held }
     ensures rows { IfOk result (λ l. AreFaceRows set.now l.point_alphas.items l.edges.items l.edge_alphas.items
         l.triangles.items l.triangle_alphas.items l.cell_alphas.items) }
     ensures edge_count { IfOk result (λ l. length l.edge_alphas.items ≡ length l.edges.items) }
@@ -197,8 +176,8 @@ pub(crate) fn face_rows(alloc: Global, set: &[Point], held: Held) -> Result<Leve
         of_cells,
         full,
     } = held;
-    let (edges, edge_alphas) = edge_levels(alloc, set, pairs, of_pairs, &of_cells)?;
-    let (triangles, triangle_alphas) = triangle_levels(alloc, set, triples, of_triples, &of_cells)?;
+    let (edges, edge_alphas) = levels_of_faces(alloc, set, pairs, of_pairs, &of_cells)?;
+    let (triangles, triangle_alphas) = levels_of_faces(alloc, set, triples, of_triples, &of_cells)?;
     let mut cell_alphas = of_cells;
     cell_alphas.truncate(full);
     Ok(Levels {

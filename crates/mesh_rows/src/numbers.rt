@@ -1,6 +1,6 @@
 //! Rows of numbers of points.
 
-ghost use Rattle.std.specs.Prelude.{◌≡◌, ◌<◌, ◌^◌, ◌++◌, ◌∷◌, [], length, map, IfOk, OnOk};
+ghost use Rattle.std.specs.Prelude.{◌≡◌, ◌<◌, ◌^◌, ◌++◌, ◌∷◌, [], ℕ, List, length, map, IfOk, OnOk};
 ghost use Rattle.face_list.specs.Faces.{full_cells};
 ghost use Rattle.point_order.specs.Sets.{IsAscending};
 ghost use Rattle.mesh_rows.specs.Rows.{cell_row, edge_row, rank_of, open_cells, point_place, triangle_row};
@@ -43,30 +43,47 @@ fn number(points: &[Point], ranks: &Ranks, point: Point) -> u32
     points.partition_point(|q| q.key() < key) as u32
 }
 
-// The row of an edge.
-fn edge(points: &[Point], ranks: &Ranks, pair: &Pair) -> EdgeRow
-    requires few { length points.now < 2 ^ 32 }
-    requires ascending { IsAscending points.now }
-    ensures { result ≡ edge_row points.now pair.now }
-{
-    let (a, b) = pair.corners();
-    EdgeRow {
-        a: number(points, ranks, a),
-        b: number(points, ranks, b),
+/// A kind of faces, each told by the numbers of its points.
+pub trait Face: Copy {
+    /// These numbers.
+    type Row: Copy;
+
+    /// Those of a face, in a list of points that ascends.
+    ghost row_of: { List ℕ → Self → Self.Row };
+
+    /// The row of a face.
+    fn row(&self, points: &[Point], ranks: &Ranks) -> Self::Row
+        requires few { length points.now < 2 ^ 32 }
+        requires ascending { IsAscending points.now }
+        ensures { result ≡ row_of points.now self.now };
+}
+
+impl Face for Pair {
+    type Row = EdgeRow;
+
+    ghost row_of = { edge_row };
+
+    fn row(&self, points: &[Point], ranks: &Ranks) -> EdgeRow {
+        let (a, b) = self.corners();
+        EdgeRow {
+            a: number(points, ranks, a),
+            b: number(points, ranks, b),
+        }
     }
 }
 
-// The row of a triangle.
-fn triangle(points: &[Point], ranks: &Ranks, tri: &Tri) -> TriangleRow
-    requires few { length points.now < 2 ^ 32 }
-    requires ascending { IsAscending points.now }
-    ensures { result ≡ triangle_row points.now tri.now }
-{
-    let (a, b, c) = tri.corners();
-    TriangleRow {
-        a: number(points, ranks, a),
-        b: number(points, ranks, b),
-        c: number(points, ranks, c),
+impl Face for Tri {
+    type Row = TriangleRow;
+
+    ghost row_of = { triangle_row };
+
+    fn row(&self, points: &[Point], ranks: &Ranks) -> TriangleRow {
+        let (a, b, c) = self.corners();
+        TriangleRow {
+            a: number(points, ranks, a),
+            b: number(points, ranks, b),
+            c: number(points, ranks, c),
+        }
     }
 }
 
@@ -85,34 +102,20 @@ pub fn tetrahedron(points: &[Point], ranks: &Ranks, quad: &Quad) -> CellRow
     }
 }
 
-/// The rows of edges.
-pub fn edges(alloc: Global, points: &[Point], pairs: &[Pair]) -> Result<Vec<EdgeRow>, AllocError>
-    requires few { length points.now < 2 ^ 32 }
-    requires ascending { IsAscending points.now }
-    ensures { IfOk result (λ rows. rows.items ≡ map (edge_row points.now) pairs.now) }
-{
-    let ranks = ranks_of(alloc, points)?;
-    let mut rows = Vec::with_capacity(alloc, pairs.len())?;
-    for pair in pairs {
-        rows.push(edge(points, &ranks, pair))?;
-    }
-    Ok(rows)
-}
-
-/// The rows of triangles.
-pub fn triangles(
+/// The rows of faces.
+pub fn rows_of_faces<F: Face>(
     alloc: Global,
     points: &[Point],
-    tris: &[Tri],
-) -> Result<Vec<TriangleRow>, AllocError>
+    faces: &[F],
+) -> Result<Vec<F::Row>, AllocError>
     requires few { length points.now < 2 ^ 32 }
     requires ascending { IsAscending points.now }
-    ensures { IfOk result (λ rows. rows.items ≡ map (triangle_row points.now) tris.now) }
+    ensures { IfOk result (λ rows. rows.items ≡ map (F.row_of points.now) faces.now) }
 {
     let ranks = ranks_of(alloc, points)?;
-    let mut rows = Vec::with_capacity(alloc, tris.len())?;
-    for tri in tris {
-        rows.push(triangle(points, &ranks, tri))?;
+    let mut rows = Vec::with_capacity(alloc, faces.len())?;
+    for face in faces {
+        rows.push(face.row(points, &ranks))?;
     }
     Ok(rows)
 }
@@ -162,7 +165,7 @@ fn put_open(
         ≡ rows.old.items ++ map (triangle_row points.now) (open_cells (cell.now ∷ []))) }
 {
     if let Cell::Open(tri) = cell {
-        rows.push(triangle(points, ranks, tri))?;
+        rows.push(tri.row(points, ranks))?;
     }
     Ok(())
 }

@@ -7,7 +7,7 @@ ghost use Rattle.solid_parts.specs.Parts.{cells_of_parts};
 ghost use Rattle.solid_parts.specs.Seen.{parts_seen};
 ghost use Rattle.mesh_rows.specs.Meshes.{IsCloud, IsStopCause};
 ghost use Rattle.mesh_rows.specs.Parts.{AreParts, ArePartRows, IsLeastAlphaOf, LacksPartRoom};
-ghost use Rattle.mesh_rows.specs.Rooms.{IsPut};
+ghost use Rattle.mesh_rows.specs.Rooms.{AreRowsPut};
 ghost use Rattle.mesh_rows.specs.Rows.{cell_row};
 
 use crate::cloud::cloud_of;
@@ -157,8 +157,8 @@ pub fn lacks_part_room(sizes: &PartSizes, cells: &[CellRow], counts: &[u64]) -> 
 pub fn put_parts(made: &Parts, cells: &mut [CellRow], counts: &mut [u64])
     requires cells { length made.now.cells.items ≤ length cells.old }
     requires counts { length made.now.counts.items ≤ length counts.old }
-    ensures cells { IsPut made.now.cells.items cells.old cells.new }
-    ensures counts { IsPut made.now.counts.items counts.old counts.new }
+    ensures cells { AreRowsPut made.now.cells.items cells.old cells.new }
+    ensures counts { AreRowsPut made.now.counts.items counts.old counts.new }
 {
     put(cells, &made.cells);
     put(counts, &made.counts);

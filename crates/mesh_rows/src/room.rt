@@ -1,7 +1,7 @@
 //! Rooms of the caller's, and whether they are enough.
 
 ghost use Rattle.std.specs.Prelude.{◌≤◌, ◌↔◌, IsTrue, length};
-ghost use Rattle.mesh_rows.specs.Rooms.{AreFaceCounts, AreMeshCounts, IsPut, LacksFaceRoom, LacksMeshRoom};
+ghost use Rattle.mesh_rows.specs.Rooms.{AreFaceCounts, AreMeshCounts, AreRowsPut, LacksFaceRoom, LacksMeshRoom};
 
 use crate::levels::Levels;
 use crate::mesh::Made;
@@ -11,7 +11,7 @@ use alpha_complex::FaceAlphas;
 /// Puts rows to the front of a room, and leaves what is behind them.
 pub fn put<T: Copy>(room: &mut [T], rows: &[T])
     requires { length rows.now ≤ length room.old }
-    ensures { IsPut rows.now room.old room.new }
+    ensures { AreRowsPut rows.now room.old room.new }
 {
     room[..rows.len()].copy_from_slice(rows);
 }
@@ -19,7 +19,7 @@ pub fn put<T: Copy>(room: &mut [T], rows: &[T])
 // The same, and lets the rows go.
 fn put_away<T: Copy>(room: &mut [T], rows: Vec<T>)
     requires { length rows.items ≤ length room.old }
-    ensures { IsPut rows.items room.old room.new }
+    ensures { AreRowsPut rows.items room.old room.new }
 {
     put(room, &rows);
 }
@@ -64,10 +64,10 @@ pub fn put_mesh(
     requires cells { length made.cells.items ≤ length cells.old }
     requires neighbours { length made.neighbours.items ≤ length neighbours.old }
     requires hull { length made.hull.items ≤ length hull.old }
-    ensures points { IsPut made.points.items points.old points.new }
-    ensures cells { IsPut made.cells.items cells.old cells.new }
-    ensures neighbours { IsPut made.neighbours.items neighbours.old neighbours.new }
-    ensures hull { IsPut made.hull.items hull.old hull.new }
+    ensures points { AreRowsPut made.points.items points.old points.new }
+    ensures cells { AreRowsPut made.cells.items cells.old cells.new }
+    ensures neighbours { AreRowsPut made.neighbours.items neighbours.old neighbours.new }
+    ensures hull { AreRowsPut made.hull.items hull.old hull.new }
 {
     put_away(points, made.points);
     put_away(cells, made.cells);
@@ -124,12 +124,12 @@ pub fn put_faces(
     requires triangles { length levels.triangles.items ≤ length triangles.old }
     requires triangle_alphas { length levels.triangle_alphas.items ≤ length triangle_alphas.old }
     requires cell_alphas { length levels.cell_alphas.items ≤ length cell_alphas.old }
-    ensures point_alphas { IsPut levels.point_alphas.items point_alphas.old point_alphas.new }
-    ensures edges { IsPut levels.edges.items edges.old edges.new }
-    ensures edge_alphas { IsPut levels.edge_alphas.items edge_alphas.old edge_alphas.new }
-    ensures triangles { IsPut levels.triangles.items triangles.old triangles.new }
-    ensures triangle_alphas { IsPut levels.triangle_alphas.items triangle_alphas.old triangle_alphas.new }
-    ensures cell_alphas { IsPut levels.cell_alphas.items cell_alphas.old cell_alphas.new }
+    ensures point_alphas { AreRowsPut levels.point_alphas.items point_alphas.old point_alphas.new }
+    ensures edges { AreRowsPut levels.edges.items edges.old edges.new }
+    ensures edge_alphas { AreRowsPut levels.edge_alphas.items edge_alphas.old edge_alphas.new }
+    ensures triangles { AreRowsPut levels.triangles.items triangles.old triangles.new }
+    ensures triangle_alphas { AreRowsPut levels.triangle_alphas.items triangle_alphas.old triangle_alphas.new }
+    ensures cell_alphas { AreRowsPut levels.cell_alphas.items cell_alphas.old cell_alphas.new }
 {
     put_away(point_alphas, levels.point_alphas);
     put_away(edges, levels.edges);

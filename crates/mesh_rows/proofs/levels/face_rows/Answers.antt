@@ -5,24 +5,24 @@ use Rattle.mesh_rows.specs.Rows.{edge_row, triangle_row}
 use Rattle.mesh_rows.proofs.Alphas.{full_alphas, held_counts, keys_told, parts_told}
 use Rattle.mesh_rows.proofs.levels.face_rows.Goals as goal
 
-pub edge_levels-requires-clause-table : goal.edge_levels-requires-clause-table
-edge_levels-requires-clause-table c =
+pub levels_of_faces-requires-clause-table : goal.levels_of_faces-requires-clause-table
+levels_of_faces-requires-clause-table c =
     let h = c.requires.held in
     rw c.deref.ensures.value (held_counts 2 c.args.set.now c.args.held.pairs _ _ h.pairs h.of_cells h.of_pairs).0
 
-pub edge_levels-requires-clause-admitted : goal.edge_levels-requires-clause-admitted
-edge_levels-requires-clause-admitted c =
+pub levels_of_faces-requires-clause-admitted : goal.levels_of_faces-requires-clause-admitted
+levels_of_faces-requires-clause-admitted c =
     let h = c.requires.held in
     (held_counts 2 c.args.set.now c.args.held.pairs _ _ h.pairs h.of_cells h.of_pairs).1
 
-pub triangle_levels-requires-clause-table : goal.triangle_levels-requires-clause-table
-triangle_levels-requires-clause-table c =
+pub levels_of_faces-requires-2-clause-table : goal.levels_of_faces-requires-2-clause-table
+levels_of_faces-requires-2-clause-table c =
     let h = c.requires.held in
     rw c.deref-2.ensures.value
     (held_counts 3 c.args.set.now c.args.held.triples _ _ h.triples h.of_cells h.of_triples).0
 
-pub triangle_levels-requires-clause-admitted : goal.triangle_levels-requires-clause-admitted
-triangle_levels-requires-clause-admitted c =
+pub levels_of_faces-requires-2-clause-admitted : goal.levels_of_faces-requires-2-clause-admitted
+levels_of_faces-requires-2-clause-admitted c =
     let h = c.requires.held in
     (held_counts 3 c.args.set.now c.args.held.triples _ _ h.triples h.of_cells h.of_triples).1
 
