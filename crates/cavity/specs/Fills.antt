@@ -2,15 +2,13 @@
 use Rattle.std.specs.Prelude.{ℕ, List, IsSome}
 use Rattle.list_laws.specs.Lists.{AreDistinct}
 use Rattle.point_order.specs.declared.cell.Cell.{Cell}
-use Rattle.point_order.specs.declared.cell.Facet.{Facet}
 use Rattle.point_order.specs.Complex.{complex}
-use Rattle.point_order.specs.Sets.{IsIn, with_point}
+use Rattle.point_order.specs.Sets.{with_point}
 use Rattle.hole_laws.specs.Edits.{IsSolidSet, IsNew}
 use Rattle.cell_store.specs.Grids.{bucket_of}
 use Rattle.cell_store.specs.Buckets.{InHand, bucket_at}
 use Rattle.cell_store.specs.Changes.{IsChange}
 use Rattle.cell_store.specs.Ready.{AreHeld}
-use Rattle.cell_store.specs.Shares.{points_on}
 
 -- Gone are exactly the cells of the complex of s that are none of that of s with p, and fresh are exactly the cells of
 -- the complex of s with p that are none of that of s, each once.

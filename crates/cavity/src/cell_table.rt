@@ -46,7 +46,7 @@ fn mixed_points(cell: &Cell) -> u64
 
 // A number for the cell that depends on all of its points.
 #[tactic(auto, unfolding(crate::specs::Tables::cell_number))]
-pub(crate) fn number_of(cell: &Cell) -> usize
+pub(crate) fn hash_of(cell: &Cell) -> usize
     ensures { result ≡ cell_number cell.now }
 {
     (mixed_points(cell) >> 32) as usize
@@ -127,7 +127,7 @@ pub(crate) fn table_of(alloc: Global, mask: usize, goes: &[Spot]) -> Result<Vec<
     let mut marks = Vec::new(alloc);
     marks.resize(mask + 1, Mark::Free)?;
     for (i, cell) in goes.iter().enumerate() {
-        let home = home_of(number_of(cell.cell()), mask);
+        let home = home_of(hash_of(cell.cell()), mask);
         put(&mut marks, home, Mark::Gone(i))?;
     }
     Ok(marks)

@@ -9,7 +9,7 @@ ghost use Rattle.cell_store.specs.Missing.{ArePointsHeld};
 ghost use Rattle.cavity.specs.Exploring.{ShowsAt, ShowsNewAt};
 ghost use Rattle.hole_laws.specs.Digs.{Crosses, Explores};
 
-use crate::cell_table::number_of;
+use crate::cell_table::hash_of;
 use crate::judged::Judged;
 use cell_conflict::is_spot_in_conflict;
 use cell_store::{Hold, Spot};
@@ -40,7 +40,7 @@ fn cross(
         return Ok(());
     }
     let other = hold.spot_across(cell, facet);
-    let number = number_of(other.cell());
+    let number = hash_of(other.cell());
     if judged.has(number, other.cell()) {
         return Ok(());
     }

@@ -1,7 +1,6 @@
 -- What buckets get of a history at once.
 use Rattle.std.specs.Prelude.{◌≡◌, ℕ, zero, suc, ◌+◌, ◌*◌, ◌<◌, ◌≤◌, ◌==◌, ◌||◌, Bool, true, false, List, [], ◌∷◌, ◌++◌}
-use Rattle.std.specs.Prelude.{◌⊎◌, Option, None, Some, IsSome, length, map, replicate, slice_get, slice_index_or}
-use Rattle.std.specs.Prelude.{slice_set}
+use Rattle.std.specs.Prelude.{Option, None, Some, IsSome, length, map, replicate, slice_get, slice_index_or, slice_set}
 use Rattle.std.specs.List.{filter, list_any}
 use Rattle.std.specs.List.Sorted.{IsStrictlySortedBy}
 use Rattle.std.proofs.Common.{Vec, Global, refl, sym, ◌∙◌, ap, subst, inl, inr, arith, take}
@@ -27,7 +26,7 @@ use Rattle.cell_store.specs.Grids.{bucket_of}
 use Rattle.cell_store.specs.Meshes.{AllInHand, with_bucket}
 use Rattle.cell_store.specs.Shares.{IsShare, IsSound, Stands, cells_share, entries_share, points_share}
 use Rattle.cell_store.specs.Swaps.{touches}
-use Rattle.cell_store.specs.Wholes.{AreAt, AreCellsParted, AreParted, AreParts, HasFirst, IsPushedAt, IsPushedWhere}
+use Rattle.cell_store.specs.Wholes.{AreAt, AreCellsParted, AreParted, ArePartsFrom, HasFirst, IsPushedAt, IsPushedWhere}
 use Rattle.cell_store.specs.Wholes.{is_noted_at, lies_at, list_at}
 use Rattle.cell_store.specs.declared.whole.Parts.{Parts}
 use Rattle.cell_store.proofs.HandLaws.{empty_stands, put_stands}
@@ -349,7 +348,7 @@ pub parts_are : (g : ℕ) (h : List Entry) (points : List ℕ) (cells : List Cel
     cells ≡ complex (replay h) →
     AreParted g (lies_at g) points (lists_in parts.points.items) →
     AreParted g (is_noted_at g) h (lists_in parts.entries.items) →
-    AreCellsParted g cells cells (lists_in parts.cells.items) → AreParts g 0 h cells parts
+    AreCellsParted g cells cells (lists_in parts.cells.items) → ArePartsFrom g 0 h cells parts
 parts_are g h points cells parts e f p q r = record {
   points_count = p.count;
   entries_count = q.count;
@@ -364,7 +363,7 @@ pub parts_next : (g b : ℕ) (h : List Entry) (cells : List Cell) (old : Parts) 
     (r : Vec ℕ Global) (new : Parts) →
     new.points.items ≡ slice_set old.points.items b p → new.entries.items ≡ slice_set old.entries.items b q →
     new.cells.items ≡ slice_set old.cells.items b r →
-    AreParts g b h cells old → AreParts g (b + 1) h cells new
+    ArePartsFrom g b h cells old → ArePartsFrom g (b + 1) h cells new
 parts_next g b h cells old p q r new e f i s = record {
   points_count = ap (λ l. length (lists_in l)) e ∙ count_vec old.points.items b p ∙ s.points_count;
   entries_count = ap (λ l. length (lists_in l)) f ∙ count_vec old.entries.items b q ∙ s.entries_count;
@@ -380,7 +379,7 @@ parts_next g b h cells old p q r new e f i s = record {
 -- what is taken for the bucket with the number is its part
 pub part_points : (g b : ℕ) (h : List Entry) (cells : List Cell) (parts : Parts) (v : Vec ℕ Global) → b < g * g * g →
     v ≡ slice_index_or parts.points.items b v →
-    AreParts g b h cells parts → v.items ≡ points_share g b h
+    ArePartsFrom g b h cells parts → v.items ≡ points_share g b h
 part_points g b h cells parts v m e s =
     sym (at_vec parts.points.items b v (let k = s.points_count in let l = length_vec parts.points.items in
     omega (arith, m, k, l)) e) ∙ s.points_are b (omega arith) m
@@ -388,7 +387,7 @@ part_points g b h cells parts v m e s =
 -- so are its entries
 pub part_entries : (g b : ℕ) (h : List Entry) (cells : List Cell) (parts : Parts) (v : Vec Entry Global) →
     b < g * g * g → v ≡ slice_index_or parts.entries.items b v →
-    AreParts g b h cells parts → v.items ≡ entries_share g b h
+    ArePartsFrom g b h cells parts → v.items ≡ entries_share g b h
 part_entries g b h cells parts v m e s =
     sym (at_vec parts.entries.items b v (let k = s.entries_count in let l = length_vec parts.entries.items in
     omega (arith, m, k, l)) e) ∙ s.entries_are b (omega arith) m
@@ -396,7 +395,7 @@ part_entries g b h cells parts v m e s =
 -- and the places of its cells
 pub part_cells : (g b : ℕ) (h : List Entry) (cells : List Cell) (parts : Parts) (v : Vec ℕ Global) → b < g * g * g →
     v ≡ slice_index_or parts.cells.items b v →
-    AreParts g b h cells parts → AreAt cells v.items (cells_share g b h)
+    ArePartsFrom g b h cells parts → AreAt cells v.items (cells_share g b h)
 part_cells g b h cells parts v m e s =
     ap (map (slice_get cells)) (sym (at_vec parts.cells.items b v (let k = s.cells_count in let l =
     length_vec parts.cells.items in omega (arith, m, k, l)) e)) ∙ s.cells_are b (omega arith) m

@@ -49,7 +49,7 @@ pub record IsPushedWhere {X : Type 0} (test : ℕ → Bool) (x : X) (old new : L
   pub others : (b : ℕ) → test b ≡ false → list_at new b ≡ list_at old b
 
 -- What the buckets from number n on get of a history, and of the list of its cells.
-pub record AreParts (g n : ℕ) (h : List Entry) (cells : List Cell) (parts : Parts) : Type 0 where
+pub record ArePartsFrom (g n : ℕ) (h : List Entry) (cells : List Cell) (parts : Parts) : Type 0 where
   pub points_count : length (map (λ v. v.items) parts.points.items) ≡ g * g * g
   pub entries_count : length (map (λ v. v.items) parts.entries.items) ≡ g * g * g
   pub cells_count : length (map (λ v. v.items) parts.cells.items) ≡ g * g * g

@@ -1,7 +1,7 @@
 //! What a hold keeps ready, so that an exchange of cells takes no memory.
 
-ghost use Rattle.std.specs.Prelude.{◌≡◌, ◌≢◌, ◌↔◌, ◌⊎◌, ℕ, ◌*◌, ◌<◌, true, false, not, IfOk, IfSome, IsSome, IsSomeAnd};
-ghost use Rattle.std.specs.Prelude.{IsTrue, MatchOption, None, OnOk, Some, [], map};
+ghost use Rattle.std.specs.Prelude.{◌≡◌, ◌≢◌, ◌↔◌, ◌⊎◌, ℕ, true, false, not, IfOk, IfSome, IsSome, IsSomeAnd, IsTrue};
+ghost use Rattle.std.specs.Prelude.{MatchOption, None, OnOk, Some, [], map};
 ghost use Rattle.std.specs.Borrow.{sem};
 ghost use Rattle.std.specs.Option.Follows.{option_follows_value};
 ghost use Rattle.point_order.specs.Sets.{IsIn, IsAscending};
@@ -9,8 +9,8 @@ ghost use Rattle.list_laws.specs.Lists.{Gathers};
 ghost use Rattle.cell_stars.specs.Plans.{IsOnceFor};
 ghost use Rattle.cell_store.specs.Buckets.{layout_at};
 ghost use Rattle.cell_store.specs.Grids.{bucket_of as number_of};
-ghost use Rattle.cell_store.specs.Ready.{AreForOthers, AreFound, AreInHand, AreMade, AllRoomier, AreRoomier};
-ghost use Rattle.cell_store.specs.Ready.{HasMuchRoom, IsAllowed, IsExchangeMade, IsNoteReady, IsBucketOf, IsPointReady};
+ghost use Rattle.cell_store.specs.Ready.{AreForOthers, AreFound, AreInHand, AreMade, AllRoomier, HasMuchRoom};
+ghost use Rattle.cell_store.specs.Ready.{IsAllowed, IsExchangeMade, IsNoteReady, IsBucketOf, IsPointReady};
 ghost use Rattle.cell_store.specs.Ready.{ArePlansReady, IsReadyFor, IsTurnedIn, buckets_of_cells};
 ghost use Rattle.cell_store.specs.declared.room.PlanFor.{PlanFor};
 ghost use Rattle.cell_store.specs.contracts.bucket.Bucket.{the_row};

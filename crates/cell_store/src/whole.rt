@@ -17,7 +17,7 @@ ghost use Rattle.cell_store.specs.Buckets.{content_of};
 ghost use Rattle.cell_store.specs.Grids.{bucket_of as number_of};
 ghost use Rattle.cell_store.specs.Shares.{IsShare, IsSound};
 ghost use Rattle.cell_store.specs.Swaps.{touches as touches_of};
-ghost use Rattle.cell_store.specs.Wholes.{AreAt, AreCellsParted, AreParted, AreParts, IsPushedAt, IsPushedWhere};
+ghost use Rattle.cell_store.specs.Wholes.{AreAt, AreCellsParted, AreParted, ArePartsFrom, IsPushedAt, IsPushedWhere};
 ghost use Rattle.cell_store.specs.Wholes.{is_noted_at, lies_at, list_at};
 
 use crate::bucket::Bucket;
@@ -181,7 +181,7 @@ impl Parts {
         requires points { points.now ≡ replay entries.now }
         requires cells { cells.now ≡ complex (replay entries.now) }
         requires small { length cells.now < 2 ^ 32 }
-        ensures { IfOk result (AreParts grid 0 entries.now cells.now) }
+        ensures { IfOk result (ArePartsFrom grid 0 entries.now cells.now) }
     {
         Ok(Parts {
             points: points_by_bucket(alloc, grid, points)?,
@@ -199,10 +199,10 @@ impl Parts {
         cells: &[Cell],
     ) -> Result<Bucket, AllocError>
         requires below { b < grid * grid * grid }
-        requires parts { (h : List EntryOf) × IsSound h × AreParts grid b h cells.now self.old }
-        ensures parts { OnOk result ((h : List EntryOf) → AreParts grid b h cells.now self.old →
-            AreParts grid (b + 1) h cells.now self.new) }
-        ensures share { IfOk result (λ bucket. (h : List EntryOf) → AreParts grid b h cells.now self.old →
+        requires parts { (h : List EntryOf) × IsSound h × ArePartsFrom grid b h cells.now self.old }
+        ensures parts { OnOk result ((h : List EntryOf) → ArePartsFrom grid b h cells.now self.old →
+            ArePartsFrom grid (b + 1) h cells.now self.new) }
+        ensures share { IfOk result (λ bucket. (h : List EntryOf) → ArePartsFrom grid b h cells.now self.old →
             IsShare grid b h (content_of bucket)) }
         ensures place { IfOk result (λ bucket. (content_of bucket).place ≡ Some (grid, b)) }
     {

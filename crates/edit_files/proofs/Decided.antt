@@ -24,7 +24,7 @@ use Rattle.edit_files.specs.Content.{Content, row}
 use Rattle.edit_files.specs.Faults.{IsReason, is_word}
 use Rattle.edit_files.specs.Grammar.{HasEditForm, IsEditLine, IsRadiusLine, HasFormOf, IsTaken, IsWithinNewest, Leads}
 use Rattle.edit_files.specs.Grammar.{Limits, Reached, due_behind, lines_in, most_of, word_behind}
-use Rattle.edit_files.specs.Judging.{after_line, edit, is_full, radius, step_at, taken, with_title, titled}
+use Rattle.edit_files.specs.Judging.{after_line, edit, is_list_full, radius, step_at, taken, with_title, titled}
 use Rattle.edit_files.proofs.DecidedEdits.{edits_decided, radii_decided}
 use Rattle.edit_files.proofs.Words.{none_behind, none_word, not_behind, taken_none}
 
@@ -176,15 +176,18 @@ body_is : (w k full : Bool) (next : Reached) (r : Result Reached Why) → w ≡ 
 body_is w k full next r a b c = rw (a, b, c) refl
 
 -- a list that is not full has room
-has_room : (limits : Limits) (p : Part) (f : Content) → is_full limits p f ≡ false → lines_in p f < most_of limits p
+has_room : (limits : Limits) (p : Part) (f : Content) → is_list_full limits p f ≡ false →
+    lines_in p f < most_of limits p
 has_room limits p f h = leb-false (most_of limits p) (lines_in p f) h
 
 -- one with room is not full
-room_has : (limits : Limits) (p : Part) (f : Content) → lines_in p f < most_of limits p → is_full limits p f ≡ false
+room_has : (limits : Limits) (p : Part) (f : Content) → lines_in p f < most_of limits p →
+    is_list_full limits p f ≡ false
 room_has limits p f h = lt-leb (most_of limits p) (lines_in p f) h
 
 -- and one without is
-no_room : (limits : Limits) (p : Part) (f : Content) → ¬ (lines_in p f < most_of limits p) → is_full limits p f ≡ true
+no_room : (limits : Limits) (p : Part) (f : Content) → ¬ (lines_in p f < most_of limits p) →
+    is_list_full limits p f ≡ true
 no_room limits p f h = elim (cases_lt (lines_in p f) (most_of limits p)) [
   | inl lt ↦ absurd (h lt)
   | inr le ↦ le-leb (most_of limits p) (lines_in p f) le
@@ -200,7 +203,7 @@ at_sound limits Title f line b h =
     (k.0, title_is line k.0 k.1, k.2, k.3)
 at_sound limits Heading f line b h = word_ok line (codes "points") (at (Body Points) f) b h
 at_sound limits (Body p) f line b h =
-    elim (body_ok (bytes_eq line (word_behind f.version p)) (is_word f.version line) (is_full limits p f)
+    elim (body_ok (bytes_eq line (word_behind f.version p)) (is_word f.version line) (is_list_full limits p f)
     (at (due_behind f.version p) f) (then_at (at (Body p)) (taken p f line)) b h) [
       | inl c ↦ inl ((bytes_eq-Decides line (word_behind f.version p)).0 c.0, c.1)
       | inr c ↦
@@ -225,7 +228,7 @@ at_complete limits (Body p) f line b h = elim h [
   | inr c ↦
       let read : taken p f line ≡ Ok c.0 = (taken_decided p f).complete line c.0 c.2 in
       let none = taken_none p f line c.0 read in
-      body_is (bytes_eq line (word_behind f.version p)) (is_word f.version line) (is_full limits p f)
+      body_is (bytes_eq line (word_behind f.version p)) (is_word f.version line) (is_list_full limits p f)
       (at (due_behind f.version p) f) (then_at (at (Body p)) (taken p f line)) (none_behind f.version p line none)
       (none_word f.version line none) (room_has limits p f c.1)
       ∙ ap (then_at (at (Body p))) read ∙ ap (λ (r : Reached). Ok r) (sym c.3)
@@ -260,7 +263,7 @@ at_reason limits Heading f line why h =
     let k = word_err line (codes "points") (at (Body Points) f) why h in
     subst (λ (w : Why). IsReason limits Heading f line w) (sym k.1) k.0
 at_reason limits (Body p) f line why h =
-    let k = body_err (bytes_eq line (word_behind f.version p)) (is_word f.version line) (is_full limits p f)
+    let k = body_err (bytes_eq line (word_behind f.version p)) (is_word f.version line) (is_list_full limits p f)
     (at (due_behind f.version p) f) (then_at (at (Body p)) (taken p f line)) why h in
     elim k.1 [
       | inl c ↦ subst (λ (w : Why). IsReason limits (Body p) f line w) (sym c.1) (
@@ -284,7 +287,7 @@ refused_taken : (limits : Limits) (p : Part) (f : Content) (line : List ℕ) (wh
     ¬ (is_word f.version line ≡ true) → lines_in p f < most_of limits p → taken p f line ≡ Err why →
     step_at limits (Body p) f line ≡ Err why
 refused_taken limits p f line why n room h =
-    body_is (bytes_eq line (word_behind f.version p)) (is_word f.version line) (is_full limits p f)
+    body_is (bytes_eq line (word_behind f.version p)) (is_word f.version line) (is_list_full limits p f)
     (at (due_behind f.version p) f) (then_at (at (Body p)) (taken p f line)) (not_behind f.version p line n)
     (false_from_ne_true _ n) (room_has limits p f room)
     ∙ ap (then_at (at (Body p))) h
@@ -300,7 +303,7 @@ reason_body limits p f line Section h =
 reason_body limits p f line TooMany h =
     let other : bytes_eq line (word_behind f.version p) ≡ false = not_behind f.version p line h.0 in
     let word : is_word f.version line ≡ false = false_from_ne_true _ h.0 in
-    let full : is_full limits p f ≡ true = no_room limits p f h.1 in
+    let full : is_list_full limits p f ≡ true = no_room limits p f h.1 in
     rw (other, word, full) refl
 reason_body limits p f line Field h = refused_taken limits p f line Field h.0 h.1
     (off_form (taken p f) (IsTaken p f) (HasFormOf f.version p) (taken_decided p f) (taken_form p f) line

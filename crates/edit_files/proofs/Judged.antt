@@ -14,11 +14,11 @@ use Rattle.edit_files.specs.Content.{Content}
 use Rattle.edit_files.specs.Held.{content}
 use Rattle.edit_files.specs.Faults.{IsFault, file_reading}
 use Rattle.edit_files.specs.Grammar.{IsFile, LeadsOn, Limits, Reached, at_end, at_title}
-use Rattle.edit_files.specs.Judging.{file_judge, is_nothing, whole}
+use Rattle.edit_files.specs.Judging.{file_judge, none_due, whole}
 use Rattle.edit_files.proofs.Decided.{reason_step, step_complete, step_reason, step_sound}
 
 -- where nothing is due the text may end
-nothing_due : (due : Due) → is_nothing due ≡ true → due ≡ Nothing
+nothing_due : (due : Due) → none_due due ≡ true → due ≡ Nothing
 nothing_due Nothing h = refl
 nothing_due Title h = absurd cc
 nothing_due Heading h = absurd cc
@@ -32,7 +32,7 @@ file_decided limits = record {
   reason = step_reason limits;
   because = reason_step limits;
   ended = λ a h. nothing_due a.due h;
-  ends = λ a h. ap is_nothing h;
+  ends = λ a h. ap none_due h;
 }
 
 -- ---- what a call gave

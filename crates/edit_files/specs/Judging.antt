@@ -92,8 +92,8 @@ taken Radii f line = with_one (λ r. true) (λ r. record f { radii = f.radii ++ 
 taken Queries f line = with_one (λ q. true) (λ q. record f { queries = f.queries ++ q ∷ [] }) (point line)
 
 -- as many lines of a list are taken as there may be
-abbrev pub is_full : Limits → Part → Content → Bool
-is_full limits p f = nat_le (most_of limits p) (lines_in p f)
+abbrev pub is_list_full : Limits → Part → Content → Bool
+is_list_full limits p f = nat_le (most_of limits p) (lines_in p f)
 
 -- ---- one line
 
@@ -117,7 +117,7 @@ step_at limits Title f line = with_title limits.newest f (titled line)
 step_at limits Heading f line = if bytes_eq line (codes "points") then now_due (Body Points) f else Err Section
 step_at limits (Body p) f line =
     if bytes_eq line (word_behind f.version p) then now_due (due_behind f.version p) f
-    else list_line f.version line (is_full limits p f)
+    else list_line f.version line (is_list_full limits p f)
     (then_at (λ g. record { due = Body p; taken = g }) (taken p f line))
 step_at limits Nothing f line = Err Section
 
@@ -127,15 +127,15 @@ after_line limits a line = step_at limits a.due a.taken line
 -- ---- all lines
 
 -- nothing more is due
-abbrev pub is_nothing : Due → Bool
-is_nothing Nothing = true
-is_nothing Title = false
-is_nothing Heading = false
-is_nothing (Body p) = false
+abbrev pub none_due : Due → Bool
+none_due Nothing = true
+none_due Title = false
+none_due Heading = false
+none_due (Body p) = false
 
 -- how a text is judged, line by line
 abbrev pub file_judge : Limits → Judge Reached
-file_judge limits = record { step = after_line limits; may_end = λ a. is_nothing a.due }
+file_judge limits = record { step = after_line limits; may_end = λ a. none_due a.due }
 
 -- ---- what the functions see
 

@@ -14,7 +14,7 @@ ghost use Rattle.edit_files.specs.declared.version.Version.TheVariants.{Four};
 ghost use Rattle.edit_files.specs.Held.{content};
 ghost use Rattle.edit_files.specs.Faults.{IsFault, is_word};
 ghost use Rattle.edit_files.specs.Grammar.{IsFile, Reached, at_title, up_to};
-ghost use Rattle.edit_files.specs.Judging.{after_line, file_judge, is_full, list_line, now_due, reached, step_at};
+ghost use Rattle.edit_files.specs.Judging.{after_line, file_judge, is_list_full, list_line, now_due, reached, step_at};
 ghost use Rattle.edit_files.specs.Judging.{taken, whole, with_title, titled};
 
 use crate::file::File;
@@ -69,7 +69,7 @@ fn admit(line: &[u8], version: Version, is_full: bool) -> Result<(), Why>
 impl File {
     // Are there as many lines in a list as there may be?
     fn is_full(&self, part: Part) -> bool
-        ensures { (newest : Version) → result ≡ is_full (up_to newest) part (content self.now) }
+        ensures { (newest : Version) → result ≡ is_list_full (up_to newest) part (content self.now) }
     {
         match part {
             Part::Points | Part::Edits => LINE_LIMIT

@@ -14,11 +14,11 @@ use Rattle.mesh_reader.specs.declared.place.Due.TheVariants.{Title, Head, Body, 
 use Rattle.mesh_reader.specs.Grammar.{IsMeshText, LeadsOn, MeshParts, Reached, at_end, at_title}
 use Rattle.mesh_reader.specs.Packed.{parts}
 use Rattle.mesh_reader.specs.Faults.{IsMeshFault, mesh_reading}
-use Rattle.mesh_reader.specs.Judging.{is_nothing, mesh_judge, whole}
+use Rattle.mesh_reader.specs.Judging.{none_due, mesh_judge, whole}
 use Rattle.mesh_reader.proofs.Decided.{reason_step, step_complete, step_reason, step_sound}
 
 -- where nothing is due the text may end
-nothing_due : (due : Due) → is_nothing due ≡ true → due ≡ Nothing
+nothing_due : (due : Due) → none_due due ≡ true → due ≡ Nothing
 nothing_due Nothing h = refl
 nothing_due Title h = absurd cc
 nothing_due (Head p) h = absurd cc
@@ -33,7 +33,7 @@ mesh_decided = record {
   reason = step_reason;
   because = reason_step;
   ended = λ a h. nothing_due a.due h;
-  ends = λ a h. ap is_nothing h;
+  ends = λ a h. ap none_due h;
 }
 
 -- lines of which a mesh comes lead from one to the next up to the end

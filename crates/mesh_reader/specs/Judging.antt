@@ -137,16 +137,16 @@ transition a line = transition_at a.due a.taken line
 -- ---- all lines
 
 -- nothing more is due
-abbrev pub is_nothing : Due → Bool
-is_nothing Nothing = true
-is_nothing Title = false
-is_nothing (Head p) = false
-is_nothing (Body p n) = false
-is_nothing Last = false
+abbrev pub none_due : Due → Bool
+none_due Nothing = true
+none_due Title = false
+none_due (Head p) = false
+none_due (Body p n) = false
+none_due Last = false
 
 -- how a text is judged, line by line
 abbrev pub mesh_judge : Judge Reached
-mesh_judge = record { step = transition; may_end = λ a. is_nothing a.due }
+mesh_judge = record { step = transition; may_end = λ a. none_due a.due }
 
 -- ---- what the functions see
 

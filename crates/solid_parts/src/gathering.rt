@@ -14,7 +14,7 @@ use point_order::{Cell, Quad};
 use std::alloc::{AllocError, Global};
 
 // The place of a label, if there is one.
-fn place_of(places: &[Option<usize>], label: u32) -> Option<usize>
+fn place_of_label(places: &[Option<usize>], label: u32) -> Option<usize>
     requires { label < length places.now }
     ensures { result ≡ place_at places.now label }
 {
@@ -34,7 +34,7 @@ fn put_cell(
     ensures { OnOk result (IsGroupedIn label quad places.old.items places.new.items (parts_seen parts.old.items)
         (parts_seen parts.new.items)) }
 {
-    match place_of(places, label) {
+    match place_of_label(places, label) {
         Some(place) => parts[place].cells.push(quad)?,
         None => {
             let mut cells = Vec::new(alloc);

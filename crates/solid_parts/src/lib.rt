@@ -46,7 +46,7 @@ use face_list::{Faces, few_faces};
 use gathering::gather;
 use labels::{labels_of, numbers_below};
 use least::{cover_least, in_order, sorted};
-use links::links_of;
+use links::ordered_links;
 use marks::marks_of;
 use part::size;
 pub use part::{Part, PartSize};
@@ -120,7 +120,7 @@ fn first_compact(
 {
     let numbers = sorted(alloc, leasts)?;
     let levels = in_order(alloc, leasts)?;
-    let links = links_of(alloc, faces, leasts)?;
+    let links = ordered_links(alloc, faces, leasts)?;
     let mut leads = numbers_below(alloc, leasts.len())?;
     let mut climb = Climb { next: 0, merges: 0 };
     for level in levels.iter() {

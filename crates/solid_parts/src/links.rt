@@ -91,7 +91,7 @@ fn all_links(alloc: Global, faces: &Faces, leasts: &[u64]) -> Result<Vec<Link>, 
 ///
 /// # Errors
 /// Want of memory.
-pub fn links_of(alloc: Global, faces: &Faces, leasts: &[u64]) -> Result<Vec<Link>, AllocError>
+pub fn ordered_links(alloc: Global, faces: &Faces, leasts: &[u64]) -> Result<Vec<Link>, AllocError>
     requires { length leasts.now ≡ length faces.now.cells }
     ensures linked { IfOk result (λ links. AreLinked faces.now leasts.now (length faces.now.triples) links.items) }
     ensures below { IfOk result (λ links. AreLinksBelow (length leasts.now) links.items) }

@@ -12,7 +12,7 @@ ghost use Rattle.text_readings.specs.Scanning.{far, digits, number, fields_of};
 const FAR: u64 = 1 << 40;
 
 // The first place of the byte.
-fn place_of(bytes: &[u8], wanted: u8) -> Option<usize>
+fn find_byte(bytes: &[u8], wanted: u8) -> Option<usize>
     ensures found { MatchOption result ((k : ℕ) → k < length bytes.now → slice_index bytes.now k ≢ wanted)
         (λ i. (i < length bytes.now) × (slice_index bytes.now i ≡ wanted)) }
     ensures before { MatchOption result (⊥ → ⊥) (λ i. (k : ℕ) → k < i → slice_index bytes.now k ≢ wanted) }
@@ -41,7 +41,7 @@ pub fn first_line(bytes: &[u8]) -> Option<(&[u8], &[u8])>
     if bytes.is_empty() {
         return None;
     }
-    match place_of(bytes, b'\n') {
+    match find_byte(bytes, b'\n') {
         Some(end) => Some((&bytes[..end], &bytes[end + 1..])),
         None => Some((bytes, &bytes[bytes.len()..])),
     }
@@ -52,7 +52,7 @@ pub fn first_field(line: &[u8]) -> (&[u8], Option<&[u8]>)
     ensures { MatchOption result.1 (fields_of line.now ≡ result.0.now ∷ [])
         (λ rest. fields_of line.now ≡ result.0.now ∷ fields_of rest.now) }
 {
-    match place_of(line, b' ') {
+    match find_byte(line, b' ') {
         Some(end) => (&line[..end], Some(&line[end + 1..])),
         None => (line, None),
     }

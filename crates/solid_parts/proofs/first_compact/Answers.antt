@@ -4,8 +4,8 @@ use Rattle.solid_parts.proofs.Few.{found, lent_levels, none_more, not_found}
 use Rattle.solid_parts.proofs.Paths.{written_back}
 use Rattle.solid_parts.proofs.first_compact.Goals as goal
 
-pub links_of-requires : goal.links_of-requires
-links_of-requires c = least_count c.args.faces.now.cells c.args.leasts.now c.requires.own
+pub ordered_links-requires : goal.ordered_links-requires
+ordered_links-requires c = least_count c.args.faces.now.cells c.args.leasts.now c.requires.own
 
 pub loop-level-init : goal.loop-level-init
 loop-level-init c = record {

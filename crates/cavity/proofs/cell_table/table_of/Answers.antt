@@ -13,7 +13,7 @@ loop-i-preserved c =
     c.loop-i-test.true c.index-goes-i.is
     c.loop-i.invariant c.put.ensures.kept c.put.ensures.longer
     (subst (λ home. IsReachedFrom c.put.new.marks.items home (Gone c.loop-i.i))
-    (c.home_of-home.ensures.home ∙ ap (home_under c.args.mask) (c.number_of.ensures ∙ ap cell_number c.cell.ensures))
+    (c.home_of-home.ensures.home ∙ ap (home_under c.args.mask) (c.hash_of.ensures ∙ ap cell_number c.cell.ensures))
     c.in_ok-put.ensures.reached)
 
 pub returns : goal.returns

@@ -36,10 +36,10 @@ returns-then-is_back-clause-crossed c h st crossed t u =
     }) b.found
 
 pub has-requires : goal.has-requires
-has-requires c = c.number_of-number.ensures ∙ ap cell_number (c.cell-2.ensures ∙ sym c.cell-3.ensures)
+has-requires c = c.hash_of-number.ensures ∙ ap cell_number (c.cell-2.ensures ∙ sym c.cell-3.ensures)
 
 pub push-requires : goal.push-requires
-push-requires c = c.number_of-number.ensures ∙ ap cell_number c.cell-2.ensures
+push-requires c = c.hash_of-number.ensures ∙ ap cell_number c.cell-2.ensures
 
 pub returns-then-has-clause-crossed : goal.returns-then-has-clause-crossed
 returns-then-has-clause-crossed c h st crossed t u =

@@ -13,7 +13,7 @@ returns-in_ok-push-in-Some c =
     let parts = c.args.parts.now.items in
     let p = c.in-Some.place in
     let told = ap (λ (v : List (Option ℕ)). place_at v c.args.label) (sym c.deref.ensures.value) ∙ sym
-    c.place_of.ensures ∙ c.in-Some.is in
+    c.place_of_label.ensures ∙ c.in-Some.is in
     let there = c.requires.place p told in
     let pushed = c.in_ok-push-in-Some.ensures.items
     ∙ ap (λ (v : List (List ℕ)). v ++ c.args.quad ∷ [])

@@ -2,7 +2,7 @@ use Rattle.std.proofs.Common.{rules, ◌<◌, length}
 use Rattle.std.proofs.lemmas.List.Sorted.{All-permutation, IsNonDecreasingBy-from_sort_by_key}
 use Rattle.solid_parts.specs.declared.links.Link.{Link}
 use Rattle.solid_parts.proofs.Linking.{arranged}
-use Rattle.solid_parts.proofs.links.links_of.Goals as goal
+use Rattle.solid_parts.proofs.links.ordered_links.Goals as goal
 
 pub returns-clause-linked : goal.returns-clause-linked
 returns-clause-linked c =
