@@ -12,10 +12,6 @@ use Rattle.hole_laws.specs.Others.{IsOtherOf}
 use Rattle.hole_laws.proofs.Cited.{one_of_two}
 use Rattle.cloud_cells.specs.Stars.{AreBehind, AreBehindAll}
 
--- none was crossed yet
-pub behind_none : (s : List ℕ) (here : Cell) (old : List Cell) → AreBehind s here [] old old
-behind_none s here old = record { kept = λ c m. m; listed = λ c m. inl m; across = λ f c m o. absurd m }
-
 -- one facet more
 pub behind_more : (s : List ℕ) → IsSet s → (here other : Cell) (facets : List Facet) (n : ℕ) (f : Facet)
     (old new : List Cell) → IsIn here (complex s) → IsIn f (facets_of here) → n < length facets →

@@ -122,10 +122,6 @@ come_over all now now' front last a b =
     (moved_last now (front ++ last) (last ++ front) (moved_over front last)))
     (moved_first (now ++ last) now' front b))
 
--- until none is left
-pub come_all : {X : Type 0} (all now rest : List X) → AreMoved all (now ++ rest) → rest ≡ [] → AreMoved all now
-come_all all now rest a e = subst (AreMoved all) (append-nil now) (subst (λ v. AreMoved all (now ++ v)) e a)
-
 -- ---- points that wait
 
 -- those that are left have room

@@ -57,14 +57,3 @@ move_one l left packed (Some c) m =
       );
       once = λ d. moved_once (cells_of_slots left) (cells_of_slots packed) c (k.once d);
     })
-
--- before any is moved
-pub none_moved : (slots : List (Option Cell))
-    → AreMoved (cells_of_slots slots) (cells_of_slots slots ++ cells_of_slots [])
-none_moved slots = record {
-  members = λ q. (
-    λ i. subst (λ (v : List Cell). IsIn q v) (sym (append-nil (cells_of_slots slots))) i,
-    λ i. subst (λ (v : List Cell). IsIn q v) (append-nil (cells_of_slots slots)) i,
-  );
-  once = λ d. subst (λ (v : List Cell). AreDistinct v) (sym (append-nil (cells_of_slots slots))) d;
-}

@@ -18,29 +18,6 @@ use Rattle.cloud_cells.specs.Nearest.{AreLookedAt, HasNoneBefore}
 
 -- ---- the points of a cell
 
--- each is one of the four keys, and the last one where that is no infinite vertex
-pub one_of_four : (a b c d y : ℕ) → IsIn y (points_of (cell_of a b c d)) →
-    (a ≡ y) ⊎ ((b ≡ y) ⊎ ((c ≡ y) ⊎ ((d ≡ y) × ((d == infinite) ≡ false))))
-one_of_four a b c d y = go (d == infinite) refl
-  where
-    -- by the kind of the cell
-    go : (o : Bool) → (d == infinite) ≡ o → IsIn y (points_of (cell_of a b c d)) →
-        (a ≡ y) ⊎ ((b ≡ y) ⊎ ((c ≡ y) ⊎ ((d ≡ y) × ((d == infinite) ≡ false))))
-    go true e m = elim (rw e at m) [
-      | inl f ↦ inl f
-      | inr r ↦ elim r [ inl f ↦ inr (inl f) | inr s ↦ elim s [ inl f ↦ inr (inr (inl f)) | inr n ↦ absurd n ] ]
-    ]
-    go false e m = elim (rw e at m) [
-      | inl f ↦ inl f
-      | inr r ↦ elim r [
-        | inl f ↦ inr (inl f)
-        | inr s ↦ elim s [
-          | inl f ↦ inr (inr (inl f))
-          | inr t ↦ elim t [ inl f ↦ inr (inr (inr (f, e))) | inr n ↦ absurd n ]
-        ]
-      ]
-    ]
-
 -- the points of the cells of a set are its points
 pub point_of_cell : (s : List ℕ) (cells : List Cell) → AreCellsOf s cells → (c : Cell) → IsIn c cells → (x : ℕ) →
     IsIn x (points_of c) → IsIn x s

@@ -92,15 +92,6 @@ grow_two a b old new old' new' f g others s k n =
     subst (λ (v : List ℕ). AreCellsOf v ((new ++ new') ++ others)) (sym (with_both a b s))
     (subst (AreCellsOf (with_points b t)) (sym (append_assoc new new' others)) back)
 
--- any number of parts
-pub grow_all : {X : Type 0} (put : X → List ℕ) (old new : X → List Cell) (parts : List X) →
-    ((x : X) → IsIn x parts → Grow (put x) (old x) (new x)) →
-    Grow (flat_map put parts) (flat_map old parts) (flat_map new parts)
-grow_all put old new [] each = grow_none [] [] (moved_none [])
-grow_all put old new (x ∷ parts) each =
-    grow_two (put x) (flat_map put parts) (old x) (new x) (flat_map old parts) (flat_map new parts)
-    (each x (inl refl)) (grow_all put old new parts (λ y i. each y (inr i)))
-
 -- ---- points that are put or left
 
 -- none is put, and cells may be moved
@@ -138,15 +129,6 @@ put_two a l b m old new old' new' f g = record {
   moved = put_both a l b m f.put g.put f.moved g.moved;
   grow = grow_two f.put g.put old new old' new' f.grow g.grow;
 }
-
--- any number of parts
-pub put_all : {X : Type 0} (points left : X → List ℕ) (old new : X → List Cell) (parts : List X) →
-    ((x : X) → IsIn x parts → ArePut (points x) (left x) (old x) (new x)) →
-    ArePut (flat_map points parts) (flat_map left parts) (flat_map old parts) (flat_map new parts)
-put_all points left old new [] each = put_none [] [] [] (moved_none [])
-put_all points left old new (x ∷ parts) each =
-    put_two (points x) (left x) (flat_map points parts) (flat_map left parts) (old x) (new x) (flat_map old parts)
-    (flat_map new parts) (each x (inl refl)) (put_all points left old new parts (λ y i. each y (inr i)))
 
 -- those that are left come next
 pub put_left : (points left more : List ℕ) (old mid new : List Cell) → ArePut points left old mid →

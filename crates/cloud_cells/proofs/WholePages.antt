@@ -182,12 +182,12 @@ pub cells_next : (slots : List (Option Cell)) (i : ℕ) → i < length slots →
     cells_of_slots (take (i + 1) slots) ≡ cells_of_slots (take i slots) ++ cells_of_slots (slot_at slots i ∷ [])
 cells_next slots i l =
     let e : suc i ≡ i + 1 = omega arith in
-    subst (λ k. cells_of_slots (take k slots) ≡ cells_of_slots (take i slots) ++ cells_of_slots (slot_at slots i ∷ [])) e
-    (next slots i l)
+    subst (λ k. cells_of_slots (take k slots) ≡ cells_of_slots (take i slots) ++ cells_of_slots (slot_at slots i ∷ []))
+    e (next slots i l)
 
 -- the last page is taken off
-pub record IsPopped (list : List (Option Cell)) (pages rest : List (List (Option Cell))) (x : List (Option Cell)) (n : ℕ) :
-    Type 0 where
+pub record IsPopped (list : List (Option Cell)) (pages rest : List (List (Option Cell))) (x : List (Option Cell))
+    (n : ℕ) : Type 0 where
   pub size : length x ≡ 128
   pub whole : AreWhole rest
   pub count : length (list ++ slots_of rest) + 128 ≡ n

@@ -28,7 +28,9 @@ loop-page-preserved c =
     let net = cells_of_slots c.loop-page.net in
     let d = c.in_ok-deal_page.ensures in (
       come_over all now (cells_of_groups c.deal_page.new.groups.items) front last
-          (moved_on all (now ++ net) (now ++ (front ++ last)) i.0 (moved_last now net (front ++ last) (MatchOption-at_some _ _ c.in-Some.page c.in-Some.is c.in_ok-page.ensures).2))
+          (moved_on all (now ++ net) (now ++ (front ++ last)) i.0
+          (moved_last now net (front ++ last)
+          (MatchOption-at_some _ _ c.in-Some.page c.in-Some.is c.in_ok-page.ensures).2))
           d.cells,
       d.points ∙ i.1,
       d.len ∙ i.2,
