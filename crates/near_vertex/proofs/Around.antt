@@ -1,5 +1,5 @@
 -- The first of the points that share a cell with a point; and where it is the point itself, the nearest of all.
-use Rattle.std.specs.Prelude.{◌≡◌, refl, ℕ, true, false, List, [], ◌∷◌, ◌⊎◌, ◌↔◌, length}
+use Rattle.std.specs.Prelude.{◌≡◌, refl, ℕ, true, false, List, ◌∷◌, ◌⊎◌, ◌↔◌}
 use Rattle.std.specs.List.{filter}
 use Rattle.std.proofs.Common.{inl, inr, sym, subst, ◌∙◌}
 use Rattle.list_laws.proofs.Cited.{among_from, among_true, false_if, filtered_from, filtered_true, not_both}
@@ -15,7 +15,7 @@ use Rattle.cell_store.specs.Buckets.{InHand}
 use Rattle.cell_store.specs.Shares.{Shows}
 use Rattle.near_vertex.specs.Points.{IsFirstOf, IsNearest}
 use Rattle.near_vertex.specs.Around.{ShareACell, IsFirstAround}
-use Rattle.near_vertex.proofs.Order.{before_self, not_before_chain, one_before}
+use Rattle.near_vertex.proofs.Order.{not_before_chain, one_before}
 
 -- ---- the search
 

@@ -1,8 +1,7 @@
 -- The first point of a walk, and the first bucket that is not in hand.
-use Rattle.std.specs.Prelude.{◌≡◌, refl, ℕ, zero, suc, ◌+◌, ◌*◌, ◌%◌, ◌<◌, ◌≤◌, ◌==◌, ◌⊎◌, List, [], ◌∷◌, Option, None}
-use Rattle.std.specs.Prelude.{Some, IsSome, length, slice_index_or}
-use Rattle.std.proofs.Common.{arith, inl, inr, sym, subst}
-use Rattle.list_laws.proofs.Cited.{filtered_from, filtered_true, none_there, one_below, round, same_true, some_of}
+use Rattle.std.specs.Prelude.{◌≡◌, refl, ℕ, ◌+◌, ◌*◌, ◌%◌, ◌<◌, ◌==◌, List, [], ◌∷◌, Option, None, Some, IsSome}
+use Rattle.std.proofs.Common.{inl, sym, subst}
+use Rattle.list_laws.proofs.Cited.{filtered_from, filtered_true, none_there, round, same_true, some_of}
 use Rattle.point_order.specs.Sets.{IsIn}
 use Rattle.del_laws.proofs.Cited.{complex_is_closed_list}
 use Rattle.cell_store.specs.Grids.{bucket_of}

@@ -110,7 +110,7 @@ fn least_in(hold: &Hold, b: u32) -> Option<Point>
 }
 
 // The place of the list at which the looks for a near point begin: that of q in the order of keys.
-fn place_of(points: &[Point], q: Point) -> usize {
+fn rank_of(points: &[Point], q: Point) -> usize {
     match points.binary_search(&q) {
         Ok(place) => place,
         Err(place) => place,
@@ -157,7 +157,7 @@ fn near_in(points: &[Point], q: Point) -> Option<Point>
     ensures { IfSome result (λ p. IsIn p points.now) }
 {
     let first = *points.first()?;
-    let place = place_of(points, q);
+    let place = rank_of(points, q);
     let above = nearer(points, q, first, place, true);
     Some(nearer(points, q, above, place, false))
 }

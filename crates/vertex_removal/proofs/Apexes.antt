@@ -11,7 +11,7 @@ use Rattle.point_order.specs.Heights.{height, lifted, out}
 use Rattle.point_order.specs.Sets.{IsIn, AreFour, AreFive, is_among}
 use Rattle.point_order.specs.Complex.{is_full}
 use Rattle.point_order.specs.Spheres.{is_outside}
-use Rattle.point_order.proofs.Cited.{last_first, last_second, last_third, zero_false}
+use Rattle.point_order.proofs.Cited.{last_first, last_second, last_third}
 use Rattle.del_laws.specs.Cells.{Vertex, point, far, Full, On}
 use Rattle.del_laws.specs.Keys.{AreKeys}
 use Rattle.del_laws.specs.Vertices.{are_among, is_full_cell}

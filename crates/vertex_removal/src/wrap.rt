@@ -157,7 +157,7 @@ fn are_of_one(one: &Side, other: &Side) -> bool
 }
 
 // The place of the other side of the facet, if there is one: mostly it is one of the last.
-fn place_of(sides: &[Side], side: &Side) -> Option<usize>
+fn place_of_other(sides: &[Side], side: &Side) -> Option<usize>
     ensures { IfSome result (λ i. IsPlaceOf sides.now side.now.facet i) }
 {
     for i in (0..sides.len()).rev() {
@@ -172,7 +172,7 @@ fn place_of(sides: &[Side], side: &Side) -> Option<usize>
 fn meet(sides: &mut Vec<Side>, side: Side) -> Result<(), AllocError>
     ensures { OnOk result (AreMet (side.facet ∷ []) sides.old.items sides.new.items) }
 {
-    match place_of(sides, &side) {
+    match place_of_other(sides, &side) {
         Some(i) => {
             let _ = sides.swap_remove(i);
             Ok(())

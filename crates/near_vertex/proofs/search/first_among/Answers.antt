@@ -1,4 +1,4 @@
-use Rattle.std.proofs.Common.{◌≡◌, ℕ, ℤ, ◌∷◌, ◌+◌, ◌∙◌, ap, sym, subst, take, List, w64, to_z, of_z, lit<}
+use Rattle.std.proofs.Common.{◌≡◌, ℤ, ◌∷◌, ◌+◌, ◌∙◌, ap, sym, subst, take, w64, to_z, of_z, lit<}
 use Rattle.whole_ring.specs.Bounds.{IsWithin}
 use Rattle.whole_ring.proofs.Cited.{read, within_fits}
 use Rattle.point_order.specs.Orientation.{distance}

@@ -1,4 +1,4 @@
-use Rattle.std.proofs.Common.{refl, subst, ◌≡◌, ℕ, List}
+use Rattle.std.proofs.Common.{subst, ℕ, List}
 use Rattle.std.specs.Prelude.{Option, None, Some, IfSome}
 use Rattle.point_order.specs.Sets.{IsIn}
 use Rattle.cell_store.specs.Buckets.{content_of}

@@ -1,4 +1,4 @@
-use Rattle.std.proofs.Common.{List, ℕ, refl, length, sym}
+use Rattle.std.proofs.Common.{List, refl, length, sym}
 use Rattle.std.specs.Prelude.{map, codes}
 use Rattle.std.specs.List.{concat}
 use Rattle.std.proofs.lemmas.List.{length-map}

@@ -1,7 +1,7 @@
 use Rattle.std.proofs.Common.{◌-◌, ◌<◌, ap, arith, length, sym, ◌∙◌}
 use Rattle.std.proofs.lemmas.List.{get_or_read}
 use Rattle.vertex_removal.specs.declared.wrap.Side.{Side}
-use Rattle.vertex_removal.proofs.wrap.place_of.Goals as goal
+use Rattle.vertex_removal.proofs.wrap.place_of_other.Goals as goal
 
 pub returns-then-are_of_one : goal.returns-then-are_of_one
 returns-then-are_of_one c =
