@@ -16,8 +16,7 @@ use Rattle.list_laws.proofs.Cited.{filtered_true, in_left, in_right, range_ascen
 use Rattle.solid_parts.specs.declared.links.Link.{Link}
 use Rattle.solid_parts.specs.declared.climb.Climb.{Climb}
 use Rattle.solid_parts.specs.Groups.{AreMerged, AreTogether, IsMerged, LeadDown, LeadTo, label_at, merged, moved}
-use Rattle.solid_parts.specs.Links.{AreLinksBelow, ClimbsTo, IsClimbed, IsExhausted, IsBounded, Rise, count_to, link_at}
-use Rattle.solid_parts.specs.Links.{own_count}
+use Rattle.solid_parts.specs.Links.{AreLinksBelow, ClimbsTo, IsClimbed, IsBounded, count_to, link_at, own_count}
 use Rattle.solid_parts.proofs.Leading.{each_itself, equal_or_not}
 use Rattle.solid_parts.proofs.Merging.{label_moved, merges}
 

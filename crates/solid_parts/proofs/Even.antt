@@ -1,7 +1,7 @@
 -- Every pair lies in an even number of the triangles of a boundary: pairs are counted with the triples and cells that
 -- have them, by cells and by triples.
-use Rattle.std.proofs.Common.{◌≡◌, ◌≢◌, refl, sym, subst, ap, ap₂, ◌∙◌, ℕ, zero, suc, ◌<◌, inl, inr, Bool, true, false}
-use Rattle.std.proofs.Common.{List, [], ◌∷◌, map, length, arith, pos}
+use Rattle.std.proofs.Common.{◌≡◌, ◌≢◌, refl, sym, subst, ap, ap₂, ◌∙◌, ℕ, suc, inl, inr, Bool, true, false, List, []}
+use Rattle.std.proofs.Common.{◌∷◌, map, length, arith, pos}
 use Rattle.std.specs.Prelude.{◌⊎◌, ◌&&◌, ◌||◌, ◌==◌, not, Option, None, Some, filter_map}
 use Rattle.std.specs.List.{filter, list_all}
 use Rattle.std.specs.Int.Signed.{lt_z}
@@ -15,7 +15,6 @@ use Rattle.point_order.specs.declared.cell.Cell.{Cell}
 use Rattle.point_order.specs.declared.cell.Cell.TheVariants.{Full, Open}
 use Rattle.point_order.specs.declared.cell.Facet.TheVariants.{Three}
 use Rattle.point_order.specs.Complex.{complex, is_full}
-use Rattle.point_order.specs.Facets.{facets_of}
 use Rattle.point_order.specs.Orientation.{orientation}
 use Rattle.point_order.specs.Sets.{IsAscending, is_among}
 use Rattle.point_order.specs.Subsets.{subsets}
@@ -27,7 +26,7 @@ use Rattle.solid_parts.specs.Boundary.{apex_of, outer_of, turned}
 use Rattle.solid_parts.specs.Laws.{EdgesAreEven, has_both}
 use Rattle.solid_parts.proofs.Solid.{distinct_in_order, full_ascends}
 use Rattle.alpha_complex.proofs.Cited.{triple_facet as three_facet, no_longer, whole_only}
-use Rattle.list_laws.proofs.Cited.{both_true as and_true, shuffle, odd_xor as odd_sum}
+use Rattle.list_laws.proofs.Cited.{both_true as and_true, odd_xor as odd_sum}
 
 -- ---- sums of parities
 

@@ -4,13 +4,13 @@ use Rattle.std.proofs.Common.{All, append-nil, drop, take, length, get_or, arith
 use Rattle.std.specs.List.{range_with_len}
 use Rattle.std.proofs.lemmas.Bool.{cases_lt}
 use Rattle.std.proofs.lemmas.List.{drop_all, take_all}
-use Rattle.std.proofs.lemmas.List.FromFn.{get_or-range_with_len, length-range_with_len}
+use Rattle.std.proofs.lemmas.List.FromFn.{length-range_with_len}
 use Rattle.list_laws.specs.Lists.{IsIn}
 use Rattle.list_laws.proofs.Cited.{at_in, each_of_all}
 use Rattle.point_order.specs.declared.cell.Cell.{Cell}
 use Rattle.face_list.specs.Seen.{FaceLists}
 use Rattle.face_list.specs.Tables.{cell_at, cells_numbered}
-use Rattle.solid_parts.specs.Groups.{AreAllJoined, AreJoinedAll, IsMarkedAt, LeadDown, LeadTo, MeetsMarked, label_at}
+use Rattle.solid_parts.specs.Groups.{AreAllJoined, AreJoinedAll, IsMarkedAt, LeadDown, LeadTo, MeetsMarked}
 use Rattle.solid_parts.specs.Labels.{HaveOneLabel, AreBeside, AreLabels, IsPath}
 use Rattle.solid_parts.proofs.Leading.{each_down, each_itself, own as own_label}
 
