@@ -1,5 +1,5 @@
 -- The facets part by part: what is found in the parts so far is found of all.
-use Rattle.std.specs.Prelude.{◌≡◌, ◌<◌, ◌≤◌, ◌⊎◌, refl, ℕ, true, not, nat_lt, List, [], ◌∷◌, Option, None, Some, IfOk}
+use Rattle.std.specs.Prelude.{◌≡◌, ◌<◌, ◌≤◌, refl, ℕ, true, not, nat_lt, List, [], ◌∷◌, Option, None, Some, IfOk}
 use Rattle.std.specs.Prelude.{Result, Ok, Err}
 use Rattle.std.specs.Ordering.{ordering_then, nat_cmp}
 use Rattle.std.specs.Cmp.Lexicographic.{slice_cmp}
@@ -7,8 +7,7 @@ use Rattle.std.specs.declared.cmp.Ordering.{Ordering}
 use Rattle.std.specs.declared.cmp.Ordering.TheVariants.{Less, Greater}
 use Rattle.std.proofs.Common.{arith, inl, inr, subst}
 use Rattle.std.proofs.lemmas.Bool.{cases_lt}
-use Rattle.list_laws.proofs.Cited.{below_from, below_true, both_true, false_if, not_both, not_from, not_true, ordered}
-use Rattle.list_laws.proofs.Cited.{second_true}
+use Rattle.list_laws.proofs.Cited.{below_from, below_true, both_true, false_if, not_true, ordered, second_true}
 use Rattle.point_order.specs.declared.cell.Cell.{Cell}
 use Rattle.point_order.specs.declared.cell.Facet.{Facet}
 use Rattle.point_order.specs.declared.cell.Facet.TheVariants.{Three, Two}

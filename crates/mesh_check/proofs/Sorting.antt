@@ -1,24 +1,23 @@
 -- The order of sides, and the sides of cells in order.
-use Rattle.std.specs.Prelude.{◌≡◌, ◌<◌, ◌+◌, ℕ, Bool, true, false, refl, List, [], ◌∷◌, ◌++◌, map, ◌↔◌, length, take}
-use Rattle.std.specs.Prelude.{slice_index_or}
+use Rattle.std.specs.Prelude.{◌≡◌, Bool, true, false, refl, List, [], ◌∷◌, ◌++◌, ◌↔◌, length}
 use Rattle.std.specs.Cmp.{IsTotalOrder}
 use Rattle.std.specs.List.{flat_map}
 use Rattle.std.specs.Ordering.{ordering_then, ordering_reverse}
 use Rattle.std.specs.declared.cmp.Ordering.{Ordering}
 use Rattle.std.specs.declared.cmp.Ordering.TheVariants.{Less, Equal, Greater}
 use Rattle.std.proofs.Common.{append_assoc, append-nil, ap, arith, cond, get_or, inl, inr, sym, subst, ◌∙◌}
-use Rattle.list_laws.proofs.Cited.{flat_from, in_flat, take_next}
+use Rattle.list_laws.proofs.Cited.{flat_from, in_flat}
 use Rattle.point_order.specs.declared.cell.Cell.{Cell}
 use Rattle.point_order.specs.declared.cell.Facet.{Facet}
 use Rattle.point_order.specs.CellOrder.{cell_cmp}
 use Rattle.point_order.specs.Facets.{facets_of}
 use Rattle.point_order.specs.Sets.{IsIn}
-use Rattle.point_order.proofs.Cited.{cell_before, cell_reverse, cell_same, cell_self}
+use Rattle.point_order.proofs.Cited.{cell_before, cell_reverse, cell_same}
 use Rattle.mesh_check.specs.declared.gaps.Side.{Side}
 use Rattle.mesh_check.specs.Flaws.{facet_cmp}
 use Rattle.mesh_check.specs.declared.gaps.Part.{Part}
 use Rattle.mesh_check.specs.Sides.{side_cmp, side_of, sides_in, AreSidesIn, is_in}
-use Rattle.mesh_check.proofs.Facets.{facet_before, facet_reverse, facet_same, facet_self}
+use Rattle.mesh_check.proofs.Facets.{facet_before, facet_reverse, facet_same}
 
 -- ---- the order
 

@@ -3,15 +3,14 @@ use Rattle.std.specs.Prelude.{◌≡◌, refl, ℕ, ℤ, pos, neg_ℤ, ◌<ℤ�
 use Rattle.std.specs.Prelude.{Some}
 use Rattle.std.specs.Int.Signed.{lt_z}
 use Rattle.std.specs.List.{find}
-use Rattle.std.proofs.Common.{arith, ap, sym, ◌∙◌}
+use Rattle.std.proofs.Common.{arith, ap, ◌∙◌}
 use Rattle.std.proofs.lemmas.Int.{ints}
 use Rattle.list_laws.proofs.Cited.{less_from, less_true, same_test}
 use Rattle.point_order.specs.Orientation.{orientation, is_flat, is_zero}
-use Rattle.point_order.specs.Heights.{height, out}
+use Rattle.point_order.specs.Heights.{out}
 use Rattle.point_order.specs.Conflicts.{are_opposite}
 use Rattle.point_order.specs.Spheres.{is_outside}
 use Rattle.point_order.proofs.Cited.{swap_first, swap_last, swap_middle}
-use Rattle.del_laws.proofs.Cited.{lifted_swap23, out_is}
 use Rattle.mesh_check.specs.Flaws.{is_inside_with}
 use Rattle.mesh_check.proofs.Flaws.{find_same}
 use Rattle.del_laws.proofs.Cited.{out_swap23 as out_turned}
@@ -122,17 +121,13 @@ inside_turned a b c p (Some f) =
 flat_first : (a b c d : ℕ) → is_flat b a c d ≡ is_flat a b c d
 flat_first a b c d = ap is_zero (swap_first a b c d) ∙ zero_turned (orientation a b c d)
 
--- the last two are exchanged
-flat_last : (a b c d : ℕ) → is_flat a b d c ≡ is_flat a b c d
-flat_last a b c d = ap is_zero (swap_last a b c d) ∙ zero_turned (orientation a b c d)
-
 -- the third in the last place
 pub flat_third : (a b c d : ℕ) → is_flat a b d c ≡ is_flat a b c d
-flat_third a b c d = flat_last a b c d
+flat_third a b c d = ap is_zero (swap_last a b c d) ∙ zero_turned (orientation a b c d)
 
 -- the second in the last place
 pub flat_second : (a b c d : ℕ) → is_flat a c d b ≡ is_flat a b c d
-flat_second a b c d = flat_last a c b d ∙ flat_turned a b c d
+flat_second a b c d = flat_third a c b d ∙ flat_turned a b c d
 
 -- the first in the last place
 pub flat_front : (a b c d : ℕ) → is_flat b c d a ≡ is_flat a b c d
