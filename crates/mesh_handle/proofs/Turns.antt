@@ -1,9 +1,9 @@
 -- Many edits and many looks, one after another.
 use Rattle.std.proofs.Common.{◌≡◌, ◌∙◌, ℕ, ◌+◌, ◌<◌, ◌≤◌, ◌++◌, ap, arith, inl, inr, refl, sym, subst, List, [], ◌∷◌}
 use Rattle.std.proofs.Common.{drop, get_or, length, set, take}
-use Rattle.std.specs.Prelude.{Option, Result, Ok, Err, IfOk, IfErr, OnErr, HoldsAt}
+use Rattle.std.specs.Prelude.{Option, Result, Ok, Err, IfOk, IfErr, OnErr}
 use Rattle.std.specs.List.{AllZip}
-use Rattle.std.proofs.lemmas.List.{drop-drop, drop-set-lt, get_or_default, take_more, take_more_set}
+use Rattle.std.proofs.lemmas.List.{drop-drop, drop-set-lt, take_more, take_more_set}
 use Rattle.list_laws.proofs.Cited.{zip_push}
 use Rattle.edit_history.specs.declared.history.Reply.{Reply}
 use Rattle.mesh_handle.specs.Held.{MeshView}
@@ -108,8 +108,3 @@ pub behind_more : {A : Type 0} (now before : List A) (i : ℕ) (y : A) → drop 
 behind_more {A} now before i y e =
     drop-set-lt (i + 1) now i y (omega arith) ∙ sym (drop-drop 1 i now) ∙ ap (λ (l : List A). drop 1 l) e
     ∙ drop-drop 1 i before
-
--- what holds of an element that is there
-pub holds_at : {A : Type 0} (P : A → Type 0) (xs : List A) (i : ℕ) (d : A) → i < length xs → P (get_or xs i d) →
-    HoldsAt P xs i
-holds_at P xs i d l h = λ u. subst P (get_or_default xs i d u l) h
