@@ -1,21 +1,14 @@
 -- The nearest point of a set, shown by the cells at a point.
 use Rattle.std.specs.Prelude.{◌≡◌, ◌↔◌, refl, ℕ, List, [], ◌∷◌, false, true, Option, None, Some, MatchOption, slice_get}
-use Rattle.std.specs.Prelude.{◌+◌, ◌<◌, ◌++◌, length, slice_index_or, take}
-use Rattle.std.specs.List.{flat_map}
-use Rattle.std.proofs.Common.{ap, append-nil, arith, inl, inr, subst, sym, ◌∙◌}
-use Rattle.std.proofs.lemmas.Grind.{flat_map-append}
-use Rattle.list_laws.proofs.Cited.{false_if, flat_from, in_flat, not_both, one_value, take_next}
+use Rattle.std.specs.Prelude.{◌<◌, length}
+use Rattle.std.proofs.Common.{ap, arith, inl, inr, subst, sym, ◌∙◌}
+use Rattle.list_laws.proofs.Cited.{not_both, one_value}
 use Rattle.point_order.specs.declared.cell.Cell.{Cell}
-use Rattle.point_order.specs.Facets.{points_of}
 use Rattle.point_order.specs.Sets.{IsIn, is_among}
 use Rattle.point_order.specs.Solid.{is_solid}
 use Rattle.del_laws.specs.Nearest.{comes_before}
-use Rattle.del_laws.proofs.Cited.{listed_inside, listed_is_cell}
-use Rattle.del_laws.proofs.NearestPoints.{nearest_by_cells}
 use Rattle.hole_laws.specs.Edits.{GoesFrom}
-use Rattle.hole_laws.specs.Stars.{IsCellAt}
-use Rattle.cloud_cells.specs.Clouds.{AreCellsOf}
-use Rattle.near_vertex.specs.Points.{IsFirstOf, IsNearest}
+use Rattle.near_vertex.specs.Points.{IsFirstOf}
 use Rattle.near_vertex.proofs.Cited.{before_self}
 
 -- ---- the first of a list, and where a place lies

@@ -1,4 +1,4 @@
-use Rattle.std.proofs.Common.{refl, inl, sym, ◌∙◌, ap, subst, List, ℕ, ◌≡◌, ◌∷◌, ◌++◌, [], append-nil}
+use Rattle.std.proofs.Common.{refl, sym, ◌∙◌, ap, subst, List, ℕ, ◌∷◌, ◌++◌, [], append-nil}
 use Rattle.std.proofs.lemmas.List.{append_assoc}
 use Rattle.near_vertex.specs.Points.{IsFirstOf}
 use Rattle.near_vertex.proofs.Cited.{first_joined}

@@ -1,4 +1,4 @@
-use Rattle.std.proofs.Common.{inr, ◌∷◌}
+use Rattle.std.proofs.Common.{inr}
 use Rattle.list_laws.proofs.Cited.{none_there}
 use Rattle.linked_mesh.proofs.Neighbours.{among_two, first_in, none_solid}
 use Rattle.linked_mesh.proofs.near.nearest_of_all.Goals as goal
