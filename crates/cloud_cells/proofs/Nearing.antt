@@ -1,6 +1,6 @@
 -- The points of a cell of four keys, and the nearest point of a set.
-use Rattle.std.specs.Prelude.{◌≡◌, ◌↔◌, ◌∷◌, ◌++◌, ◌⊎◌, [], refl, ℕ, List, false, true, Bool, ◌==◌}
-use Rattle.std.proofs.Common.{inl, inr, subst, sym, ap, ◌∙◌}
+use Rattle.std.specs.Prelude.{◌≡◌, ◌↔◌, ◌∷◌, ◌++◌, ◌⊎◌, [], ℕ, List, false}
+use Rattle.std.proofs.Common.{inl, inr, subst}
 use Rattle.list_laws.proofs.Cited.{false_if, in_snoc, not_both}
 use Rattle.point_order.specs.declared.cell.Cell.{Cell}
 use Rattle.point_order.specs.declared.cell.Facet.{Facet}
@@ -13,7 +13,6 @@ use Rattle.hole_laws.specs.Others.{IsOtherOf}
 use Rattle.hole_laws.specs.Stars.{IsCellAt}
 use Rattle.hole_laws.proofs.Cited.{on_cell}
 use Rattle.cloud_cells.specs.Clouds.{AreCellsOf}
-use Rattle.cloud_cells.specs.Corners.{cell_of, infinite}
 use Rattle.cloud_cells.specs.Nearest.{AreLookedAt, HasNoneBefore}
 
 -- ---- the points of a cell

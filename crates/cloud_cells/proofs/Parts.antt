@@ -1,6 +1,5 @@
 -- Points are put into parts of a complex, one part after another or side by side.
 use Rattle.std.specs.Prelude.{◌≡◌, ℕ, ◌+◌, ◌<◌, ◌≤◌, List, [], ◌∷◌, ◌++◌, ◌⊎◌, length, take, slice_index_or}
-use Rattle.std.specs.List.{flat_map}
 use Rattle.std.proofs.Common.{append_assoc, append-nil, inl, inr, refl, subst, sym}
 use Rattle.std.proofs.lemmas.List.{take_all}
 use Rattle.list_laws.proofs.Cited.{apart_place, at_place, distinct_take, from_append, in_left, in_right, in_take}

@@ -1,5 +1,5 @@
 use Rattle.std.specs.Prelude.{◌∷◌, [], ◌≡◌, ◌⊎◌, false, ℕ}
-use Rattle.std.proofs.Common.{sym, ◌∙◌, subst, List}
+use Rattle.std.proofs.Common.{sym, ◌∙◌, subst}
 use Rattle.list_laws.proofs.Cited.{among_from, among_true, not_both}
 use Rattle.point_order.specs.declared.cell.Cell.{Cell}
 use Rattle.point_order.specs.Facets.{facets_of, points_of, points_on}

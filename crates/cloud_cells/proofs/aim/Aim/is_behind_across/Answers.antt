@@ -1,5 +1,4 @@
-use Rattle.std.proofs.Common.{inl, inr, subst, sym, ◌≡◌, ℕ, false, true}
-use Rattle.std.specs.Prelude.{Some}
+use Rattle.std.proofs.Common.{inl, inr, subst, sym, ◌≡◌, true}
 use Rattle.list_laws.proofs.Cited.{false_if, not_both, one_value}
 use Rattle.del_laws.specs.Nearest.{comes_before}
 use Rattle.cloud_cells.proofs.aim.Aim.is_behind_across.Goals as goal
