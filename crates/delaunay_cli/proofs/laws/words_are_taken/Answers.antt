@@ -1,7 +1,7 @@
 use Rattle.command_words.proofs.Cited.{check_words, default_words, gen_text_words, gen_words, mesh_order_words}
 use Rattle.command_words.proofs.Cited.{mesh_words, mesh_workers_words, near_words, near_workers_words, parts_asked}
-use Rattle.command_words.proofs.Cited.{parts_at_words, parts_words, parts_workers_words, shape_order_words}
-use Rattle.command_words.proofs.Cited.{shape_words, shape_workers_words, steps_words, steps_workers_words}
+use Rattle.command_words.proofs.Cited.{parts_at_words, parts_words, parts_workers_words, shape_order_words, shape_words}
+use Rattle.command_words.proofs.Cited.{shape_workers_words, steps_words, steps_workers_words}
 use Rattle.delaunay_cli.proofs.MadeAsAsked.{mesh_reading, reading}
 use Rattle.delaunay_cli.proofs.laws.words_are_taken.Goals as goal
 
