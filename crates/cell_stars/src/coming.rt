@@ -32,8 +32,8 @@ impl Cells {
         }
     }
 
-    // Whether the cell, of which it is known whether it touches the bucket, does so and does not stay there. Where it is
-    // told that it is new, it is not looked for.
+    // Whether the cell, of which it is known whether it touches the bucket, does so and does not stay there. It is not
+    // looked for where it is told that it is new.
     fn comes(&self, cell: &Cell, touches: bool, freed: &[u32], found: bool) -> bool
         requires order { IsAscending freed.now }
         requires touches { touches ≡ touches_in self.now.place cell.now }

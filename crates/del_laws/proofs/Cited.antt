@@ -5,8 +5,7 @@ pub use Rattle.del_laws.proofs.Bools.{cell_from, cell_true}
 pub use Rattle.del_laws.proofs.CellFacts.{full_turned, open_under}
 pub use Rattle.del_laws.proofs.Decide.{vertex_discrete}
 pub use Rattle.del_laws.proofs.EmptySpheres.{edge_by_cells, triangle_by_cells}
-pub use Rattle.del_laws.proofs.Identities.{lifted_swap23, lifted_swap45, orientation_same12, orientation_same13}
-pub use Rattle.del_laws.proofs.Identities.{orientation_same23}
+pub use Rattle.del_laws.proofs.Identities.{lifted_swap45, orientation_same12, orientation_same13, orientation_same23}
 pub use Rattle.del_laws.proofs.Kept.{full_is_kept, open_is_kept}
 pub use Rattle.del_laws.proofs.Listed.{cell_is_listed, definition_is_cell, full_not_flat, listed_full, listed_inside}
 pub use Rattle.del_laws.proofs.Listed.{listed_is_cell, listed_open, not_both_kinds, part_ascending, part_inside}

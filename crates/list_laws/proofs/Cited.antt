@@ -53,4 +53,4 @@ pub use Rattle.list_laws.proofs.Zero.{not_below, not_other, not_zero, one_above,
 pub use Rattle.list_laws.proofs.Zero.{positive_factor, self_negative, settled, turned_below, turned_most, two_signs}
 pub use Rattle.list_laws.proofs.Zero.{weak, weak_below, zero_terms, zero_weak}
 pub use Rattle.list_laws.proofs.Zips.{length_zip, zip_push}
-pub use Rattle.list_laws.proofs.Parity.{shuffle, odd_xor}
+pub use Rattle.list_laws.proofs.Parity.{odd_xor}

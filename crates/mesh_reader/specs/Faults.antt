@@ -9,7 +9,7 @@ use Rattle.mesh_reader.specs.declared.place.Due.TheVariants.{Title, Head, Body, 
 use Rattle.mesh_reader.specs.Grammar.{HasFormOf, HasHeadForm, IsHead, IsTaken, LeadsOn, MeshParts, Reached, at_title}
 
 -- Why a line is wrong where this is due. Section: another word is due, or no line at all. TooMany: a head announces
--- more lines than there may be, or fewer than none. Field: a line of a list is not of its form. Range: it is, and yet is
+-- more lines than there may be, or fewer than none. Field: a line of a list is not of its form. Range: it is, and is
 -- not taken.
 abbrev pub IsMeshReason : Due → MeshParts → List ℕ → Why → Type 0
 IsMeshReason Title f line Section = line ≢ codes "mesh3-out 1"

@@ -21,8 +21,8 @@ returns-in-Ok-clause-shown c =
     (Rattle.grid_claims.specs.Passes.standing l.new.hands.place.table_id l.new.hands.place.me.0)) c.pass.view_is
     (snapshot_shown c.self.inside.board.shared.table_id (buckets_of c.self.inside.board.shared.key) l.result
     c.in-Ok.snapshot.history.items c.in-Ok.snapshot.complex.items c.pass.inside.hands c.copy_all.new.hands
-    l.new.hands
-    hands c.in-Ok.ensures.hands l.ensures.hands c.pass.invariant.0.order (sym (ap (λ (t : Opened). t.grid * t.grid * t.grid) e))
+    l.new.hands hands c.in-Ok.ensures.hands l.ensures.hands c.pass.invariant.0.order
+    (sym (ap (λ (t : Opened). t.grid * t.grid * t.grid) e))
     c.in-Ok.ensures.all c.in-Ok.ensures.lists l.ensures.looked)
 
 -- where a claim failed, or memory was wanting, it is not
@@ -34,5 +34,5 @@ returns-in-Err-clause-refused c =
     c.let_go.new.hands.place.table_id c.let_go.new.hands.place.me.0)) c.pass.view_is
     (tried_unshown c.self.inside.board.shared.table_id (buckets_of c.self.inside.board.shared.key) c.pass.inside.hands
     c.copy_all.new.hands c.let_go.new.hands c.in-Err.why
-    (sym (ap (λ (t : Opened). t.grid * t.grid * t.grid) e)) hands c.in-Err.ensures.hands c.let_go.ensures.hands c.pass.invariant.0.order
-    c.in-Err.ensures.stopped c.let_go.ensures.back)
+    (sym (ap (λ (t : Opened). t.grid * t.grid * t.grid) e)) hands c.in-Err.ensures.hands c.let_go.ensures.hands
+    c.pass.invariant.0.order c.in-Err.ensures.stopped c.let_go.ensures.back)
