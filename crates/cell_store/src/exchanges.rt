@@ -28,12 +28,12 @@ struct Wanted {
     point: Option<Point>,
     // The exchange is made back too.
     back: bool,
-    // The exchange finds its cells, so that none is looked for.
+    // The exchange finds its cells, so that no fresh one is looked for.
     found: bool,
 }
 
 impl Wanted {
-    // Beside an exchange that is made once an entry of the edit, and the place to which it moves a point.
+    // Room for an entry of the edit, and for the place to which it moves a point, beside an exchange that is made once.
     fn once(edit: &Edit) -> Wanted
         ensures { result ≡ record
             { note = Some (point_of edit.now); point = goal_of edit.now; back = false; found = false } }
@@ -46,7 +46,7 @@ impl Wanted {
         }
     }
 
-    // Beside an exchange that is made back and again the last point of the edit.
+    // Room for the last point of the edit, beside an exchange that is made there and back.
     fn both(edit: &Edit) -> Wanted
         ensures { result ≡ record { note = None; point = Some (last_of edit.now); back = true; found = false } }
     {

@@ -10,7 +10,7 @@ use Rattle.delaunay_cli.specs.Queried.{querying}
 use Rattle.delaunay_cli.specs.Reported.{reporting}
 use Rattle.delaunay_cli.specs.Stepped.{stepping}
 
--- what a command of a kind reads, makes and promises
+-- what a command of a kind reads and makes, and why it makes nothing
 abbrev pub command_of : Kind → Command
 command_of Reports = reporting
 command_of Steps = stepping

@@ -37,8 +37,8 @@ use std::thread::Threads;
 /// on it.
 ///
 /// The clauses by name are those of the files that are read and of their reports. `Ends` in specs/ says how each run
-/// ends; what a command promises is what its `Command` makes, the field `done`. Which words are taken, and what else
-/// follows of a run, is in `laws`.
+/// ends; what a command promises is what its `Command` makes, or why it makes nothing: the field `done`. Which words
+/// are taken, and what else follows of a run, is in `laws`.
 pub fn run<R: Threads + Sync, S: Source, O: Sink, E: Sink, G: Gate + Sync>(
     rt: &R,
     alloc: Global,

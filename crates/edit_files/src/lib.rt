@@ -3,7 +3,7 @@
 //! A text is lines: `mesh3 1`, `points`, point lines `X Y Z`, `edits`, edit lines `+ X Y Z` and `- X Y Z`, `radii`,
 //! radius lines `R`, and `end`. From `mesh3 2` on edit lines `= X Y Z X Y Z` move points, from `mesh3 3` on radii count
 //! sixteenths, and in `mesh3 4` the word `queries` and point lines stand before `end`. The versions are a table in
-//! `specs/Versions.antt`; the grammar stands in `specs/Grammar.antt`, and the faults in `specs/Faults.antt`.
+//! `specs/Content.antt`; the grammar stands in `specs/Grammar.antt`, and the faults in `specs/Faults.antt`.
 //!
 //! ```
 //! match read_file(alloc, &bytes) {

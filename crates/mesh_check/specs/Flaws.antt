@@ -1,4 +1,4 @@
--- What is wrong with lists that are to be the complex of a set of points, and which flaw is the first.
+-- Which flaw of lists that are to be the complex of a set of points is the first, and when they are that complex.
 -- The two lists are one list of cells: the Full cells, and the triples as Open cells.
 use Rattle.std.specs.Prelude.{◌≡◌, ℕ, Bool, true, false, not, ◌||◌, List, [], ◌∷◌, ◌⊎◌, Option, None, Some}
 use Rattle.std.specs.Prelude.{if◌then◌else◌, map, ◌++◌}
@@ -75,7 +75,7 @@ facet_cmp (Three t) (Two p) = Less
 facet_cmp (Two p) (Three t) = Greater
 facet_cmp (Two p) (Two q) = slice_cmp nat_cmp p q
 
--- ---- the first of them
+-- ---- the first flaw
 
 -- the first flaw, if there is one, else the second
 abbrev pub first_flaw_of : Option Flaw → Option Flaw → Option Flaw
