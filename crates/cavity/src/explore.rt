@@ -45,7 +45,6 @@ fn cross(
         return Ok(());
     }
     if is_spot_in_conflict(hold, &other, point) {
-        judged.load_around(hold, &other);
         judged.push(alloc, number, other)?;
         judged.note_beside(place);
     } else {

@@ -25,8 +25,6 @@ pub(crate) struct Judged {
     mask: usize,
     // Beside which of those that go each was found, none for the first.
     beside: Vec<usize>,
-    // What was loaded early, added up.
-    loaded: u32,
 }
 
 impl Model for Judged {
@@ -65,7 +63,6 @@ impl Judged {
             marks,
             mask: MASK,
             beside: Vec::with_capacity(alloc, USUAL)?,
-            loaded: 0,
         })
     }
 
@@ -117,13 +114,6 @@ impl Judged {
         ensures { self.new ≡ self.old }
     {
         let _ = self.beside.push(number);
-    }
-
-    // Loads the cells around this one, which are looked at later.
-    pub(crate) fn load_around(&mut self, hold: &Hold, cell: &Spot)
-        ensures { self.new ≡ self.old }
-    {
-        self.loaded = self.loaded.wrapping_add(hold.loaded_around(cell));
     }
 
     // Whether the cell with the number was found beside one that is on the facet.

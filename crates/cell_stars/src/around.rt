@@ -32,14 +32,6 @@ impl Around {
         self.vertex
     }
 
-    // A number that depends on its places.
-    pub(crate) fn loaded(&self) -> u32 {
-        match (self.places.first(), self.places.last()) {
-            (Some(first), Some(last)) => first.wrapping_add(*last),
-            _ => 0,
-        }
-    }
-
     // Whether there is a place.
     pub(crate) fn has_places(&self) -> bool
         ensures { MatchBool result ((i : ℕ) × IsIn i self.now.1) ((i : ℕ) → IsIn i self.now.1 → ⊥) }

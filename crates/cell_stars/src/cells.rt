@@ -11,7 +11,7 @@ ghost use Rattle.cell_stars.specs.Stars.{cells_left, cells_around, cells_to_come
 use crate::around::{Around, copied_stars};
 use crate::free::Free;
 use crate::grid::Grid;
-use crate::guesses::{links_at, loaded_around};
+use crate::guesses::links_at;
 use crate::links::{NONE, side_of};
 use crate::parts::{KeyPart, copied_parts, part_for};
 use crate::slots::{Slot, cell_at, copied_slots, place_among};
@@ -188,12 +188,6 @@ impl Cells {
     /// The place at which the other cell on a facet is likely to stand, where the given cell stands at the given place.
     pub fn place_across(&self, place: u32, cell: &Cell, facet: &Facet) -> u32 {
         links_at(&self.slots, place).across(side_of(cell, facet))
-    }
-
-    /// A number that depends on what stands across the facets of the cell at the place: whoever adds it up has these
-    /// places loaded before they are looked at.
-    pub fn loaded_around(&self, place: u32) -> u32 {
-        loaded_around(&self.slots, links_at(&self.slots, place))
     }
 
     /// The cell at a place, if there is one.

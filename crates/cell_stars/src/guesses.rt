@@ -19,26 +19,12 @@ pub(crate) fn links_at(slots: &[Slot], place: u32) -> Links {
     }
 }
 
-/// A number that depends on what stands at the places across the facets. It is added up, and read by nobody: so these
-/// places are loaded early, and all at once.
-pub(crate) fn loaded_around(slots: &[Slot], links: Links) -> u32 {
-    let mut sum: u32 = 0;
-    for other in &links.around {
-        if let Some(slot) = slots.get(*other as usize) {
-            sum = sum.wrapping_add(slot.loaded());
-        }
-    }
-    sum
-}
-
 /// The places of the cells that go, as far as they were looked for: none for those that were not found.
 ///
 /// Cells that go are mostly listed as a dig finds them: each across a facet of one before it.
 #[derive(Drop)]
 pub(crate) struct Guesses {
     pub(crate) places: Vec<u32>,
-    // What was loaded early, added up.
-    pub(crate) loaded: u32,
 }
 
 impl Guesses {
@@ -50,7 +36,6 @@ impl Guesses {
     ) -> Result<Guesses, AllocError> {
         Ok(Guesses {
             places: list_of(&mut stock.numbers, alloc, count)?,
-            loaded: 0,
         })
     }
 
@@ -79,14 +64,8 @@ impl Guesses {
     }
 
     /// The next cell was looked for: where it stands, if it was found. What stands around it is loaded.
-    pub(crate) fn add(&mut self, slots: &[Slot], place: Option<u32>) -> Result<(), AllocError> {
-        let Some(place) = place else {
-            self.places.push(NONE)?;
-            return Ok(());
-        };
-        let links = links_at(slots, place);
-        self.loaded = self.loaded.wrapping_add(loaded_around(slots, links));
-        self.places.push(place)?;
+    pub(crate) fn add(&mut self, place: Option<u32>) -> Result<(), AllocError> {
+        self.places.push(place.unwrap_or(NONE))?;
         Ok(())
     }
 }

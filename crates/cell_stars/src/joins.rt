@@ -30,16 +30,6 @@ fn number_at(list: &[u32], at: u32) -> u32 {
     }
 }
 
-// The cells that come in order, each beside where it stands in their list.
-fn in_order(alloc: Global, fresh: &[Cell]) -> Result<Vec<(Cell, usize)>, AllocError> {
-    let mut list = Vec::with_capacity(alloc, fresh.len())?;
-    for (at, cell) in fresh.iter().enumerate() {
-        list.push((*cell, at))?;
-    }
-    list.sort_unstable();
-    Ok(list)
-}
-
 /// Where a cell that comes is put: which of those that are put it is, and its place.
 #[derive(Clone, Copy)]
 pub(crate) struct Position {
@@ -75,6 +65,17 @@ impl Rest<'_> {
     }
 }
 
+// Where the cell is put, if it is one of these, which are put in order.
+fn position_among(placed: &[(u32, Cell)], cell: &Cell) -> Position {
+    match placed.binary_search_by(|(_, other)| other.cmp(cell)) {
+        Ok(at) => Position {
+            at: u32::try_from(at).unwrap_or(NONE),
+            place: placed[at].0,
+        },
+        Err(_) => NOWHERE,
+    }
+}
+
 // Where each of the cells that come is put.
 fn positions(
     alloc: Global,
@@ -87,17 +88,14 @@ fn positions(
         cells: &moves.placed,
         first: 0,
     };
-    if moves.listed || rest.cells.len() <= FEW {
-        for cell in fresh {
-            positions.push(rest.next(cell))?;
-        }
-        return Ok(positions);
-    }
-    positions.resize(fresh.len(), NOWHERE)?;
-    for (cell, at) in &in_order(alloc, fresh)? {
-        if let Some(position) = positions.get_mut(*at) {
-            *position = rest.next(cell);
-        }
+    let in_turn = moves.listed || rest.cells.len() <= FEW;
+    for cell in fresh {
+        let position = if in_turn {
+            rest.next(cell)
+        } else {
+            position_among(&moves.placed, cell)
+        };
+        positions.push(position)?;
     }
     Ok(positions)
 }

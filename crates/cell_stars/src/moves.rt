@@ -130,7 +130,7 @@ impl Cells {
         let mut freed = list_of(&mut stock.numbers, alloc, gone.len())?;
         for (number, c) in gone.iter().enumerate() {
             let place = self.place_by(c, number, matched, guesses);
-            guesses.add(&self.slots, place)?;
+            guesses.add(place)?;
             if let Some(i) = place {
                 freed.push(i)?;
             }

@@ -17,8 +17,6 @@ pub(crate) struct PlacesPlan {
     pub(crate) slots: Vec<(u32, Slot)>,
     pub(crate) free: Free,
     pub(crate) rim: Vec<Joint>,
-    // What was loaded early, added up.
-    pub(crate) loaded: u32,
 }
 
 /// What some parts of the keys are after an exchange.
@@ -35,8 +33,6 @@ pub(crate) struct StarsPlan {
     pub(crate) stars: Vec<(u32, Around)>,
     pub(crate) keys: KeysPlan,
     pub(crate) spare: Free,
-    // What was loaded early, added up.
-    pub(crate) loaded: u32,
 }
 
 /// What an exchange makes of the cells of a bucket: what stands at some places after it, and what some stars are then.

@@ -170,7 +170,6 @@ impl Cells {
                 .free
                 .after_puts(alloc, stock, &moves.freed, moves.placed.len(), end)?,
             rim,
-            loaded: moves.gone.loaded,
         })
     }
 
@@ -199,8 +198,7 @@ impl Cells {
         ensures long { IfOk result (λ plan. (n : ℕ) (s : ℕ × List ℕ) → IsIn (n, s) plan.stars.items →
             n < length (or_else (option_map (λ v. v.items) plan.more) self.now.stars)) }
     {
-        let mut loaded = 0;
-        let stars = self.writes(alloc, stock, moves, vertices, &mut loaded)?;
+        let stars = self.writes(alloc, stock, moves, vertices)?;
         let end = behind_numbers(&stars);
         let used = end.max(self.spare.behind() as usize);
         let keys = self.keys_after(alloc, stock, &stars, used)?;
@@ -211,7 +209,6 @@ impl Cells {
             stars,
             keys,
             spare,
-            loaded,
         })
     }
 

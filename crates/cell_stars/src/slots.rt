@@ -60,11 +60,6 @@ impl Slot {
         }
     }
 
-    // A number that depends on it.
-    pub(crate) fn loaded(&self) -> u32 {
-        u32::from(self.cell.is_some()).wrapping_add(self.links.around[0])
-    }
-
     // The links of its cell.
     pub(crate) fn links(&self) -> Links {
         self.links

@@ -234,17 +234,6 @@ impl Cells {
         Ok(writes)
     }
 
-    // A number that depends on the stars with these numbers. It is read by nobody: so they are loaded all at once.
-    fn loaded_stars(&self, turns: &[(u32, Point)]) -> u32 {
-        let mut sum: u32 = 0;
-        for (n, _) in turns {
-            if let Some(around) = self.stars.get(*n as usize) {
-                sum = sum.wrapping_add(around.loaded());
-            }
-        }
-        sum
-    }
-
     // The stars that change in an exchange.
     pub(crate) fn writes(
         &self,
@@ -252,7 +241,6 @@ impl Cells {
         stock: &mut Stock,
         moves: &Moves,
         vertices: &[Point],
-        loaded: &mut u32,
     ) -> Result<Vec<(u32, Around)>, AllocError>
         requires order { IsAscending moves.now.freed.items }
         requires vertices { IsAscending vertices.now }
@@ -262,7 +250,6 @@ impl Cells {
             writes.items) }
     {
         let turns = self.turns(alloc, stock, vertices)?;
-        *loaded = self.loaded_stars(&turns);
         let writes = self.stars_after(alloc, stock, &turns, moves)?;
         keep(&mut stock.turns, turns);
         Ok(writes)

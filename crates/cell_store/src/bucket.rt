@@ -161,11 +161,6 @@ impl Bucket {
         self.cells.place_across(place, cell, facet)
     }
 
-    // A number that depends on the cells around the one at the place.
-    pub(crate) fn loaded_around(&self, place: u32) -> u32 {
-        self.cells.loaded_around(place)
-    }
-
     // Where the cell, which has the point, is likely to stand.
     pub(crate) fn place_at(&self, p: Point, cell: &Cell) -> u32 {
         self.cells.place_at(p, cell)

@@ -271,15 +271,6 @@ impl Hold {
         Spot::new(*cell, 0, 0)
     }
 
-    /// A number that depends on the cells around the one at hand: whoever adds it up has these loaded before they are
-    /// looked at.
-    pub fn loaded_around(&self, spot: &Spot) -> u32 {
-        match bucket_in(&self.places, spot.bucket()) {
-            Some(bucket) => bucket.loaded_around(spot.place()),
-            None => 0,
-        }
-    }
-
     // The cell that is likely to lie across a facet, if it does.
     fn linked(&self, spot: &Spot, facet: &Facet) -> Option<Spot>
         ensures { IfSome result (λ c. IsAcrossIn self.now spot.now facet.now c) }

@@ -51,7 +51,7 @@ returns-then-has-clause-crossed c h st crossed t u =
 pub returns-in_ok-push-clause-crossed : goal.returns-in_ok-push-clause-crossed
 returns-in_ok-push-clause-crossed c h st crossed t u =
     let o = c.spot_across-other.ensures h st (t.so_far.goes c.args.cell.now t.among).before in
-    rw (c.note_beside.ensures, c.in_ok-push.ensures.pushed, c.load_around.ensures)
+    rw (c.note_beside.ensures, c.in_ok-push.ensures.pushed)
     (crossed_goes h c.args.point (solid_set c.args.hold.now h st) crossed c.args.cell.now c.spot_across-other.result
     c.args.facet.now c.args.judged.now c.args.rim.now.items t c.requires.facet o
     (subst (λ (q : Cell). ¬ (IsIn q c.args.judged.now)) c.cell-3.ensures (λ m. not_both c.has.result (c.has.ensures.1 m)
