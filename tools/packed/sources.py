@@ -56,12 +56,15 @@ def sum_of_sources(crate, top=TOP):
 
 
 def verdicts(text):
-    """The checker's last line on each crate that it names in what it wrote."""
+    """The checker's last line on each crate that it names in what it wrote, or that the crate is kept as it was proved."""
     found, crate = {}, None
     for line in text.splitlines():
         named = re.match(r'crate (\w+): |fn (\w+)::', line)
+        kept = re.match(r'rt: (\w+) is (kept: .*)', line)
         if named:
             crate = named[1] or named[2]
+        elif kept:
+            found[kept[1]] = kept[2]
         elif line.startswith('logic=proved ') and crate:
             found[crate], crate = line, None
     return found

@@ -94,8 +94,8 @@ def sources(version, is_proved):
     for built in (PROGRAM, LIBRARY):
         kept = record_of(built)
         head += ['', f'{os.path.basename(built.name)}, before it was stripped or linked: sha256 {kept["built"]}',
-                 'The checker ended with these lines on what it is made of:']
-        head += [f'{name} {told}' for name, told in kept.items() if told.startswith('logic=')]
+                 'The checker ended with these lines on what it is made of, or had proved the same before:']
+        head += [f'{name} {told}' for name, told in kept.items() if told.startswith(('logic=', 'kept:'))]
     return '\n'.join(head) + '\n'
 
 

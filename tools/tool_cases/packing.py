@@ -25,7 +25,14 @@ case $1 in
 version) echo "a stub of a kit${OTHER-}" && exit ;;
 doc) echo "$KIT/page" && exit ;;
 lib) mkdir -p out && [ "$crate" != delaunay_c ] || cp "$KIT/libdelaunay_c.a" out/ ;;
-run) mkdir -p out && printf 'int main(void) { return 2; }' | gcc -x c -o out/delaunay - ;;
+ci)
+    mkdir -p crates/delaunay/out && printf 'int main(void) { return 2; }' | gcc -x c -o crates/delaunay/out/delaunay -
+    while IFS=: read -r crate _; do
+        [ -n "${SILENT-}" ] || printf 'fn %s::one: proved\\nlogic=proved functions=1 sum=0\\n' "$crate"
+        echo "rt: $crate proved"
+    done <crates.txt
+    exit
+    ;;
 esac
 [ -n "${SILENT-}" ] || printf 'crate %s: modules loaded=0 checked=1\\nlogic=proved functions=1 sum=0\\n' "$crate"
 """
