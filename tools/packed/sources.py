@@ -56,7 +56,7 @@ def sum_of_sources(crate, top=TOP):
 
 
 def verdicts(text):
-    """The checker's last line on each crate that it names in what it wrote, or that the crate is kept as it was proved."""
+    """The checker's last line on each crate that it names in what it wrote, or that it kept the crate as proved."""
     found, crate = {}, None
     for line in text.splitlines():
         named = re.match(r'crate (\w+): |fn (\w+)::', line)
