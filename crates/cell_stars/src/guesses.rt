@@ -63,7 +63,7 @@ impl Guesses {
         }
     }
 
-    /// The next cell was looked for: where it stands, if it was found. What stands around it is loaded.
+    /// The next cell was looked for: where it stands, if it was found.
     pub(crate) fn add(&mut self, place: Option<u32>) -> Result<(), AllocError> {
         self.places.push(place.unwrap_or(NONE))?;
         Ok(())
