@@ -17,7 +17,7 @@ use Rattle.cell_store.specs.Grids.{bucket_of}
 use Rattle.cell_store.specs.Buckets.{InHand, bucket_at}
 use Rattle.cell_store.specs.Ready.{AreHeld}
 use Rattle.cell_store.specs.Shares.{Shows}
-use Rattle.vertex_removal.specs.Near.{AreTaken, IsStar}
+use Rattle.gift_wrap.specs.Near.{AreTaken, IsStar}
 use Rattle.vertex_removal.specs.Refills.{IsRefilled}
 
 -- a point whose bucket is in hand is in each set that the hold shows, or in none

@@ -9,7 +9,7 @@ use Rattle.hole_laws.specs.Edits.{IsSet, IsLinkSet}
 use Rattle.cell_store.specs.Buckets.{InHand, bucket_at}
 use Rattle.cell_store.specs.Ready.{AreHeld}
 use Rattle.cell_store.specs.Missing.{IsCellMissing}
-use Rattle.vertex_removal.specs.Near.{IsStar, AreTaken}
+use Rattle.gift_wrap.specs.Near.{IsStar, AreTaken}
 use Rattle.vertex_removal.specs.Refills.{IsRefilled}
 use Rattle.vertex_removal.specs.Turns.{IsNeededAround, NoneIsNeededAround}
 use Rattle.vertex_removal.proofs.Holes.{hole_filled, fresh_held}

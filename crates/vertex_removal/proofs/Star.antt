@@ -10,7 +10,7 @@ use Rattle.point_order.specs.Facets.{points_of}
 use Rattle.point_order.specs.Sets.{IsIn, is_among}
 use Rattle.cell_store.specs.Buckets.{InHand}
 use Rattle.cell_store.specs.Ready.{AreHeld}
-use Rattle.vertex_removal.specs.Near.{IsStar}
+use Rattle.gift_wrap.specs.Near.{IsStar}
 
 -- the cells at v, in any order
 pub star_is : (s : List ℕ) (v : ℕ) (around star : List Cell) →

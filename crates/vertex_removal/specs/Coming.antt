@@ -4,7 +4,7 @@ use Rattle.point_order.specs.declared.cell.Cell.{Cell}
 use Rattle.point_order.specs.Complex.{complex}
 use Rattle.point_order.specs.Sets.{IsIn}
 use Rattle.hole_laws.specs.Edits.{IsSet, IsPointAcross}
-use Rattle.vertex_removal.specs.Near.{IsStar, SomeHasPoint}
+use Rattle.gift_wrap.specs.Near.{IsStar, SomeHasPoint}
 
 -- the star is that of v in s, and the cells around are cells of s, with those of the star among them
 pub record AreAround (s : List ℕ) (v : ℕ) (star around : List Cell) : Type 0 where

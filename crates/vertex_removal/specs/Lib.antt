@@ -1,6 +1,4 @@
 pub mod Refills
 pub mod Turns
-pub mod Near
-pub mod Wraps
-pub mod Balls
+pub mod Stars
 pub mod Coming

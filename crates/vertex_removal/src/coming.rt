@@ -7,8 +7,9 @@ ghost use Rattle.point_order.specs.Solid.{is_solid as is_solid_of};
 ghost use Rattle.vertex_removal.specs.Coming.{AreAround, AreAroundInSome, HaveAllAcross};
 ghost use Rattle.vertex_removal.specs.Refills.{IsRefilled};
 
-use crate::near::{is_solid, points_but};
+use crate::near::is_solid;
 use crate::refill::cells_coming;
+use gift_wrap::points_but;
 use point_order::{Cell, Point};
 use std::alloc::{AllocError, Global};
 

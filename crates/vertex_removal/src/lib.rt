@@ -3,8 +3,8 @@
 //! The cells at the point go. Those that come have only points of its link, the points that some cell joins to it; and
 //! they are the cells that the point takes away from the complex of any solid set between its link and the rest. So a
 //! `Refill` finds what the point takes away from the complex of the link, or where the link is flat, of the link and
-//! the points across from it. It wraps the hole that the cells at the point leave, triple by triple; or where one of
-//! them is Open, or the link is large, it makes that complex. Where these points are flat too, the rest is.
+//! the points across from it. It wraps the hole that the cells at the point leave (`gift_wrap`); or where one of them
+//! is Open, or the link is large, it makes that complex. Where these points are flat too, the rest is.
 //! `docs/GEOMETRY.md` tells the laws. The definitions stand in `specs/`.
 //!
 //! ```
@@ -19,13 +19,10 @@
 //! ```
 #![tactic(auto)]
 
-mod apex;
-mod ball;
 mod coming;
 pub mod laws;
 mod near;
 mod refill;
-mod wrap;
 
 pub use coming::cells_for_star;
 pub use refill::{Refill, RefillTurn};

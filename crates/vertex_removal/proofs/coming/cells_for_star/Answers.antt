@@ -1,7 +1,7 @@
 use Rattle.std.proofs.Common.{sym, ◌∙◌, ap, subst, List, ℕ}
 use Rattle.point_order.specs.Solid.{is_solid}
-use Rattle.vertex_removal.specs.Near.{AreTaken}
-use Rattle.vertex_removal.proofs.Linked.{enough, rest_flat}
+use Rattle.gift_wrap.specs.Near.{AreTaken}
+use Rattle.gift_wrap.proofs.Cited.{enough, rest_flat}
 use Rattle.vertex_removal.proofs.Holes.{hole_filled}
 use Rattle.vertex_removal.proofs.coming.cells_for_star.Goals as goal
 

@@ -8,7 +8,7 @@ use Rattle.hole_laws.specs.Others.{IsOtherOf}
 use Rattle.cell_store.specs.Shares.{NoneInHand, points_on}
 use Rattle.cavity.proofs.Cited.{facet_held}
 use Rattle.cell_store.proofs.Cited.{solid_set}
-use Rattle.vertex_removal.proofs.Around.{one_added, one_passed}
+use Rattle.gift_wrap.proofs.Cited.{one_added, one_passed}
 use Rattle.vertex_removal.proofs.near.add_across.Goals.{then-not-has+in_ok-push, else-not-has}
 use Rattle.vertex_removal.proofs.near.add_across.Goals as goal
 

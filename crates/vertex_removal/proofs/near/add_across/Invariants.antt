@@ -2,7 +2,7 @@ use Rattle.std.proofs.Common.{ℕ, List, take}
 use Rattle.point_order.specs.Complex.{complex}
 use Rattle.point_order.specs.Sets.{IsIn}
 use Rattle.cell_store.specs.Shares.{Shows}
-use Rattle.vertex_removal.specs.Near.{AreAdded, IsListedOf}
+use Rattle.gift_wrap.specs.Near.{AreAdded, IsListedOf}
 use Rattle.vertex_removal.proofs.near.add_across.Given as goal
 
 abbrev pub invariant-loop-facet : goal.invariant-loop-facet

@@ -2,8 +2,8 @@ use Rattle.std.proofs.Common.{subst, List, arith}
 use Rattle.std.proofs.lemmas.List.{take_all}
 use Rattle.list_laws.proofs.Cited.{at_place}
 use Rattle.point_order.specs.declared.cell.Cell.{Cell}
-use Rattle.vertex_removal.specs.Near.{AreAdded, IsOfOne}
-use Rattle.vertex_removal.proofs.Around.{none_met, one_met}
+use Rattle.gift_wrap.specs.Near.{AreAdded, IsOfOne}
+use Rattle.gift_wrap.proofs.Cited.{none_met, one_met}
 use Rattle.vertex_removal.proofs.near.cells_around.Goals as goal
 
 pub loop-cell-init : goal.loop-cell-init

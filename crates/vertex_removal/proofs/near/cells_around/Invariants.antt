@@ -1,6 +1,6 @@
 use Rattle.std.proofs.Common.{ℕ, List, take}
 use Rattle.cell_store.specs.Shares.{Shows}
-use Rattle.vertex_removal.specs.Near.{IsStar, AreAdded, IsOfOne}
+use Rattle.gift_wrap.specs.Near.{IsStar, AreAdded, IsOfOne}
 use Rattle.vertex_removal.proofs.near.cells_around.Given as goal
 
 abbrev pub invariant-loop-cell : goal.invariant-loop-cell

@@ -1,8 +1,8 @@
 use Rattle.std.proofs.Common.{sym, ◌∙◌, ap, subst}
 use Rattle.point_order.specs.Solid.{is_solid}
 use Rattle.cell_store.proofs.Cited.{solid_set}
-use Rattle.vertex_removal.specs.Near.{ArePointsBut}
-use Rattle.vertex_removal.proofs.Linked.{enough, rest_flat, has_across, around_listed}
+use Rattle.gift_wrap.specs.Near.{ArePointsBut}
+use Rattle.gift_wrap.proofs.Cited.{enough, rest_flat, has_across, around_listed}
 use Rattle.vertex_removal.proofs.near.near_set.Goals as goal
 
 pub returns-then-is_solid : goal.returns-then-is_solid

@@ -1,4 +1,4 @@
-use Rattle.vertex_removal.proofs.Wrapping.{hole_wraps}
+use Rattle.gift_wrap.proofs.Cited.{hole_wraps}
 use Rattle.vertex_removal.proofs.refill.cells_coming.Goals as goal
 
 pub cells_taken-requires-clause-ascending : goal.cells_taken-requires-clause-ascending

@@ -8,7 +8,7 @@ use Rattle.hole_laws.specs.Edits.{IsLinkSet}
 use Rattle.cell_store.specs.Ready.{AreHeld}
 use Rattle.cell_store.specs.Missing.{IsCellMissing}
 use Rattle.cell_store.proofs.Cited.{solid_set}
-use Rattle.vertex_removal.specs.Near.{AreTaken, IsStar}
+use Rattle.gift_wrap.specs.Near.{AreTaken, IsStar}
 use Rattle.vertex_removal.specs.Turns.{IsNeededAround, RefillGives}
 use Rattle.vertex_removal.specs.declared.refill.RefillTurn.TheVariants.{Done, Flat}
 use Rattle.vertex_removal.proofs.Holes.{still_there}

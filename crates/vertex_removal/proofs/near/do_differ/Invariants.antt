@@ -1,6 +1,0 @@
-use Rattle.std.proofs.Common.{drop}
-use Rattle.list_laws.specs.Lists.{AreDistinct}
-use Rattle.vertex_removal.proofs.near.do_differ.Given as goal
-
-abbrev pub invariant-loop-k : goal.invariant-loop-k
-invariant-loop-k l = AreDistinct (drop l.k l.cells)

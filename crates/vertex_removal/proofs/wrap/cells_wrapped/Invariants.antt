@@ -1,9 +1,0 @@
-use Rattle.std.proofs.Common.{◌-◌, vec_len}
-use Rattle.vertex_removal.proofs.Wrapping.{IsWrapped}
-use Rattle.vertex_removal.proofs.wrap.cells_wrapped.Given as goal
-
-abbrev pub invariant-wrap : goal.invariant-wrap
-invariant-wrap l = IsWrapped l.points l.v l.cells.items l.sides.items
-
-abbrev pub decreases-wrap : goal.decreases-wrap
-decreases-wrap l = 1024 - vec_len l.cells
