@@ -1,11 +1,9 @@
 -- What an edit changes, found by turns over a hold of buckets.
-use Rattle.std.specs.Prelude.{◌≡◌, ◌⊎◌, ℕ, List, IsSome}
+use Rattle.std.specs.Prelude.{◌≡◌, ℕ, List, IsSome}
 use Rattle.point_order.specs.Complex.{complex}
 use Rattle.point_order.specs.Sets.{IsIn, with_point}
 use Rattle.edit_history.specs.declared.history.Edit.{Edit}
 use Rattle.edit_history.specs.declared.history.Edit.TheVariants.{Add, Move, Take}
-use Rattle.edit_history.specs.declared.history.Reply.{Reply}
-use Rattle.edit_history.specs.declared.history.Reply.TheVariants.{Duplicate, Missing, Occupied}
 use Rattle.edit_history.specs.Edits.{HasKeys, after, reply_to}
 use Rattle.hole_laws.specs.Edits.{IsNew}
 use Rattle.cell_store.specs.Grids.{bucket_of}
@@ -14,7 +12,7 @@ use Rattle.cell_store.specs.Changes.{IsChange}
 use Rattle.cell_store.specs.Meshes.{AreAmong}
 use Rattle.cell_store.specs.Ready.{AreHeld}
 use Rattle.cell_store.specs.Shares.{Shows}
-use Rattle.cell_store.specs.Touches.{HoldTouched, IsTouched}
+use Rattle.cell_store.specs.Touches.{HoldTouched, IsExact, IsTouched}
 use Rattle.cavity.specs.Turns.{NoneIsNeeded}
 use Rattle.insertion.specs.Arrivals.{IsArrivalIn}
 use Rattle.insertion.specs.Searches.{IsLacking}
@@ -26,13 +24,6 @@ use Rattle.edit_plans.specs.declared.plan.Planner.{Planner}
 use Rattle.edit_plans.specs.declared.plan.Planner.TheVariants.{Home, Comes, Goes, Lands, Leaves}
 use Rattle.edit_plans.specs.declared.plan.PlanTurn.{PlanTurn}
 use Rattle.edit_plans.specs.declared.plan.PlanTurn.TheVariants.{Done, Need}
-
--- The edit claims no more than it touches: it takes a point, adds one that is there, or moves one that is not there or
--- whose new place is taken.
-abbrev pub IsExact : Edit → Reply → Type 0
-IsExact (Take p) reply = Unit {0}
-IsExact (Add p) reply = reply ≡ Duplicate
-IsExact (Move a b) reply = (reply ≡ Missing) ⊎ (reply ≡ Occupied)
 
 -- The plan is what the edit changes in the set s: its reply, and exactly the cells that go and those that come.
 pub record IsPlanFor (s : List ℕ) (edit : Edit) (plan : Plan) : Type 0 where

@@ -13,7 +13,7 @@ use Rattle.edit_history.specs.OneThread.{line_of}
 use Rattle.cell_store.specs.Meshes.{by_number}
 use Rattle.cell_store.proofs.Cited.{sorted_moves}
 use Rattle.grid_claims.specs.Passes.{Opened, Standing}
-use Rattle.grid_claims.specs.Lists.{entries_by}
+use Rattle.claim_table.specs.Lists.{entries_by}
 use Rattle.grid_claims.specs.Tries.{opening_pass, IsSplit, joined}
 use Rattle.plain_laws.specs.Running.{Pair, AreApart}
 use Rattle.edit_lists.specs.Dealing.{AreTagsAscending, count_in_all, pairs_in}

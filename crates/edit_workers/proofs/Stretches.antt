@@ -5,8 +5,8 @@ use Rattle.std.proofs.Common.{refl, sym, ◌∙◌, ap, append-nil}
 use Rattle.std.proofs.lemmas.Bool.{false≢true}
 use Rattle.std.proofs.lemmas.List.{append_assoc}
 use Rattle.edit_history.specs.Edits.{share_point}
-use Rattle.grid_claims.specs.declared.view.Act.{Act}
-use Rattle.grid_claims.specs.Trails.{misses}
+use Rattle.claim_table.specs.declared.view.Act.{Act}
+use Rattle.claim_table.specs.Trails.{misses}
 use Rattle.plain_laws.specs.Running.{Pair}
 use Rattle.edit_workers.specs.Trying.{shares_with}
 use Rattle.edit_workers.specs.Working.{Marked, Stretch, AreTried, left_over}

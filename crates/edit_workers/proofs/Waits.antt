@@ -15,9 +15,9 @@ use Rattle.point_order.specs.Sets.{IsIn}
 use Rattle.edit_history.specs.declared.history.Entry.{Entry}
 use Rattle.edit_history.specs.Edits.{point_of, share_point}
 use Rattle.edit_history.specs.OneThread.{line_of}
-use Rattle.grid_claims.specs.declared.view.Act.{Act}
+use Rattle.claim_table.specs.declared.view.Act.{Act}
 use Rattle.grid_claims.specs.Passes.{Opened, Standing}
-use Rattle.grid_claims.specs.Plays.{entry_of}
+use Rattle.claim_table.specs.Plays.{entry_of}
 use Rattle.plain_laws.specs.Running.{Pair}
 use Rattle.edit_workers.specs.declared.rounds.Waiting.{Waiting}
 use Rattle.edit_workers.specs.Running.{AscendAtPoint}

@@ -13,11 +13,11 @@ use Rattle.edit_history.specs.declared.history.Edit.{Edit}
 use Rattle.edit_history.specs.declared.history.Entry.{Entry}
 use Rattle.edit_history.specs.declared.history.Reply.{Reply}
 use Rattle.edit_history.specs.OneThread.{line_of}
-use Rattle.grid_claims.specs.declared.view.Act.{Act}
-use Rattle.grid_claims.specs.declared.view.Act.TheVariants.{Claim, Miss, Commit, Release, Look}
+use Rattle.claim_table.specs.declared.view.Act.{Act}
+use Rattle.claim_table.specs.declared.view.Act.TheVariants.{Claim, Miss, Commit, Release, Look}
 use Rattle.grid_claims.specs.Passes.{Opened, Standing}
-use Rattle.grid_claims.specs.Plays.{entry_of}
-use Rattle.grid_claims.specs.Trails.{misses}
+use Rattle.claim_table.specs.Plays.{entry_of}
+use Rattle.claim_table.specs.Trails.{misses}
 use Rattle.grid_claims.specs.Tries.{AreClaimsAround, IsAsBefore, IsOthersWord, IsEdited}
 use Rattle.plain_laws.specs.Running.{Pair}
 use Rattle.edit_workers.specs.Working.{Marked, Stretch, left_over, first_ones, AreEntriesOf, HasMade, IsWorked}

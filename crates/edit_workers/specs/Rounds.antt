@@ -5,8 +5,8 @@ use Rattle.std.specs.List.{list_any}
 use Rattle.edit_history.specs.declared.history.Edit.{Edit}
 use Rattle.edit_history.specs.declared.history.Entry.{Entry}
 use Rattle.edit_history.specs.Edits.{share_point}
-use Rattle.grid_claims.specs.declared.view.Act.{Act}
-use Rattle.grid_claims.specs.Trails.{misses}
+use Rattle.claim_table.specs.declared.view.Act.{Act}
+use Rattle.claim_table.specs.Trails.{misses}
 use Rattle.grid_claims.specs.Passes.{Standing}
 use Rattle.plain_laws.specs.Running.{Pair}
 use Rattle.edit_workers.specs.declared.rounds.Waiting.{Waiting}

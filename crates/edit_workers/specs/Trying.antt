@@ -4,10 +4,10 @@ use Rattle.std.specs.List.{list_any}
 use Rattle.edit_history.specs.declared.history.Edit.{Edit}
 use Rattle.edit_history.specs.declared.history.Reply.{Reply}
 use Rattle.edit_history.specs.Edits.{share_point}
-use Rattle.grid_claims.specs.declared.view.Act.{Act}
-use Rattle.grid_claims.specs.Trails.{misses}
+use Rattle.claim_table.specs.declared.view.Act.{Act}
+use Rattle.claim_table.specs.Trails.{misses}
 use Rattle.grid_claims.specs.Passes.{Standing}
-use Rattle.grid_claims.specs.Plays.{entry_of}
+use Rattle.claim_table.specs.Plays.{entry_of}
 use Rattle.plain_laws.specs.Running.{Pair}
 use Rattle.edit_workers.specs.declared.working.Tried.{Tried}
 use Rattle.edit_workers.specs.declared.working.Tried.TheVariants.{Made, LeftOver}

@@ -6,7 +6,7 @@ use Rattle.std.specs.Option.{option_map}
 use Rattle.std.proofs.lemmas.List.{append_assoc}
 use Rattle.atomic_table.specs.Seated.{TableId}
 use Rattle.list_laws.specs.Lists.{AreDistinct}
-use Rattle.list_laws.proofs.Cited.{none_or, one_value, same_there}
+use Rattle.list_laws.proofs.Cited.{one_value, same_there}
 use Rattle.point_order.specs.declared.cell.Cell.{Cell}
 use Rattle.edit_history.specs.declared.history.Edit.{Edit}
 use Rattle.edit_history.specs.declared.history.Edit.TheVariants.{Add, Move, Take}
@@ -27,44 +27,15 @@ use Rattle.cell_store.specs.Shares.{Stands, share_at}
 use Rattle.claim_rule.specs.Events.{renewed_from}
 use Rattle.claim_rule.specs.Making.{IsExchangedIn}
 use Rattle.claim_rule.proofs.Cited.{any_brought, renewed_at}
-use Rattle.grid_claims.specs.declared.hands.Hands.{Hands}
+use Rattle.claim_table.specs.declared.hands.Hands.{Hands}
 use Rattle.edit_plans.specs.declared.plan.Plan.{Plan}
-use Rattle.grid_claims.specs.declared.view.Act.TheVariants.{Commit}
-use Rattle.grid_claims.specs.declared.view.View.{View}
-use Rattle.grid_claims.specs.Trails.{in_hand}
-use Rattle.grid_claims.specs.Passes.{Carries, emptied}
-use Rattle.grid_claims.specs.Plays.{Seated, Committed, entry_of}
-use Rattle.grid_claims.specs.Claiming.{AreHands, IsReadyPlan, IsFinished, HasGivenBack, IsRightIn, empty_places}
-use Rattle.grid_claims.specs.Claiming.{releases_of}
-use Rattle.grid_claims.proofs.MoreHands.{all_empty, stands_in}
-use Rattle.grid_claims.proofs.Trailed.{in_hand_snoc}
-
--- a pass that carries no bucket holds none
-pub holds_nothing : (m : Seated) (places : List (Option BucketContent)) → Carries m places [] → (b : ℕ) →
-    bucket_at places b ≡ None
-holds_nothing m places k b = none_or (bucket_at places b) (λ s. (k.holds b).0 s)
-
--- hands that gave back all buckets are hands that hold nothing
-pub hands_empty : (id : TableId) (n : ℕ) (w w' : Hands) → AreHands id n w → w'.place.table_id ≡ w.place.table_id →
-    HasGivenBack w w' → Carries w'.place.me w'.hold.places [] → w'.order.items ≡ [] → w'.hold.grid ≡ w.hold.grid →
-    length w'.hold.places ≡ length w.hold.places → vec_capacity w'.order ≡ vec_capacity w.order →
-    w'.first ≡ w.first → AreHands id n w'
-hands_empty id n w w' a table back k none grid wide capacity first =
-    let view = back.view in
-    let empty = all_empty w'.hold.places (holds_nothing w'.place.me w'.hold.places k) in
-    let room = a.room in
-    record {
-      table = table ∙ a.table;
-      words = a.words;
-      places = wide ∙ a.places;
-      some_part = subst (λ (x : ℕ). Prim.Native.Nat.◌<◌ 0 x) (sym (ap (λ (v : View). v.parts) view)) a.some_part;
-      no_child = ap (λ (v : View). v.child) view ∙ a.no_child;
-      first = first ∙ a.first ∙ sym (ap (λ (v : View). v.first) view);
-      grid = grid ∙ a.grid ∙ sym (ap (λ (v : View). v.grid) view);
-      carries = subst (λ (l : List ℕ). Carries w'.place.me w'.hold.places l) (sym none) k;
-      count = (let l : length w'.order.items ≡ 0 = ap length none in omega (arith, l, empty));
-      room = omega (arith, wide, capacity, room);
-    }
+use Rattle.claim_table.specs.declared.view.Act.TheVariants.{Commit}
+use Rattle.claim_table.specs.declared.view.View.{View}
+use Rattle.claim_table.specs.Trails.{in_hand}
+use Rattle.claim_table.specs.Hands.{emptied, releases_of, AreHands, HasGivenBack, empty_places}
+use Rattle.claim_table.specs.Plays.{Seated, Committed, entry_of}
+use Rattle.grid_claims.specs.Claiming.{IsReadyPlan, IsFinished, IsRightIn}
+use Rattle.claim_table.proofs.Cited.{stands_in, in_hand_snoc}
 
 -- a content that is there is there when it is mapped
 some_mapped : (f : BucketContent → BucketContent) (o : Option BucketContent) → IsSome o → IsSome (option_map f o)

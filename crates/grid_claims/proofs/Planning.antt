@@ -17,9 +17,9 @@ use Rattle.cell_store.specs.Buckets.{BucketContent, InHand, Room, bucket_at}
 use Rattle.cell_store.specs.Missing.{ArePointsHeld}
 use Rattle.cell_store.proofs.TouchLaws.{points_touched}
 use Rattle.cell_store.specs.Shares.{Shows}
-use Rattle.cell_store.specs.Touches.{HoldNoOther, HoldTouched, IsTouched}
+use Rattle.cell_store.specs.Touches.{HoldNoOther, HoldTouched, IsExact, IsTouched}
 use Rattle.claim_rule.specs.Boards.{in_hand_of}
-use Rattle.edit_plans.specs.Plans.{IsExact, PlanAnswers, PlanGives, ShowsPlanner, edit_of}
+use Rattle.edit_plans.specs.Plans.{PlanAnswers, PlanGives, ShowsPlanner, edit_of}
 use Rattle.edit_plans.specs.declared.plan.Plan.{Plan}
 use Rattle.edit_plans.specs.declared.plan.Planner.{Planner}
 use Rattle.edit_plans.specs.declared.plan.Planner.TheVariants.{Home}
@@ -27,14 +27,16 @@ use Rattle.edit_plans.specs.declared.plan.PlanTurn.{PlanTurn}
 use Rattle.edit_plans.specs.declared.plan.PlanTurn.TheVariants.{Done, Need}
 use Rattle.edit_plans.proofs.Cited.{home_begins, planner_stays}
 use Rattle.insertion.specs.Searches.{IsLacking}
-use Rattle.grid_claims.specs.declared.hands.Hands.{Hands}
-use Rattle.grid_claims.specs.declared.view.View.{View}
-use Rattle.grid_claims.specs.Claiming.{AreHands, HasStopped, IsReadyPlan, ShowsOne}
+use Rattle.claim_table.specs.declared.hands.Hands.{Hands}
+use Rattle.claim_table.specs.declared.view.View.{View}
+use Rattle.claim_table.specs.Hands.{AreHands, ShowsOne, HasClaimedMore}
+use Rattle.grid_claims.specs.Claiming.{HasStopped, IsReadyPlan}
 use Rattle.grid_claims.specs.declared.refused.Refused.{Refused}
 use Rattle.grid_claims.specs.declared.refused.Refused.TheVariants.{Memory}
-use Rattle.grid_claims.specs.Looking.{HasClaimedMore, IsPlanning}
-use Rattle.grid_claims.specs.Plays.{HandShows}
-use Rattle.grid_claims.proofs.MoreHands.{hands_with_room, more_none, more_then, out_of_memory, shown, stopped_then}
+use Rattle.grid_claims.specs.Looking.{IsPlanning}
+use Rattle.claim_table.specs.Plays.{HandShows}
+use Rattle.claim_table.proofs.Cited.{hands_with_room, more_none, more_then, shown}
+use Rattle.grid_claims.proofs.Stopped.{out_of_memory, stopped_then}
 
 -- ---- hands that hold nothing
 

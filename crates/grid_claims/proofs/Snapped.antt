@@ -9,17 +9,18 @@ use Rattle.point_order.specs.declared.cell.Cell.{Cell}
 use Rattle.edit_history.specs.declared.history.Entry.{Entry}
 use Rattle.claim_rule.specs.Boards.{made_by}
 use Rattle.claim_rule.specs.Good.{StartsWith}
-use Rattle.grid_claims.specs.declared.hands.Hands.{Hands}
+use Rattle.claim_table.specs.declared.hands.Hands.{Hands}
 use Rattle.grid_claims.specs.declared.snapshot.Snapshot.{Snapshot}
 use Rattle.grid_claims.specs.declared.refused.Refused.{Refused}
 use Rattle.grid_claims.specs.declared.refused.Refused.TheVariants.{Spent, Busy, Memory}
-use Rattle.grid_claims.specs.declared.view.Act.{Act}
-use Rattle.grid_claims.specs.declared.view.Act.TheVariants.{Claim, Miss, Look}
-use Rattle.grid_claims.specs.declared.view.View.{View}
+use Rattle.claim_table.specs.declared.view.Act.{Act}
+use Rattle.claim_table.specs.declared.view.Act.TheVariants.{Claim, Miss, Look}
+use Rattle.claim_table.specs.declared.view.View.{View}
 use Rattle.grid_claims.specs.Passes.{Standing, standing}
 use Rattle.grid_claims.specs.Tries.{IsShown, IsStill, IsUnshown}
-use Rattle.grid_claims.specs.Claiming.{AreHands, HasStopped, HasGivenBack, releases_of}
-use Rattle.grid_claims.specs.Showing.{HasClaimedAll, AreListsOf, HasLooked}
+use Rattle.claim_table.specs.Hands.{releases_of, AreHands, HasGivenBack}
+use Rattle.grid_claims.specs.Claiming.{HasStopped}
+use Rattle.claim_table.specs.Showing.{HasClaimedAll, AreListsOf, HasLooked}
 use Rattle.grid_claims.proofs.Trying.{back_as_before, claimed_all, still_as}
 
 -- every bucket claimed, the lists copied, one look and all given back: the snapshot is shown

@@ -1,6 +1,6 @@
 -- A whole try, as contracts see it.
-use Rattle.std.specs.Prelude.{◌≡◌, ℕ, ◌+◌, ◌-◌, ◌*◌, ◌<◌, List, [], ◌∷◌, ◌++◌, map, reverse, length, None, Result, Ok}
-use Rattle.std.specs.Prelude.{Err, IfOk, IfErr}
+use Rattle.std.specs.Prelude.{◌≡◌, ℕ, ◌+◌, ◌-◌, ◌*◌, ◌<◌, List, [], ◌∷◌, ◌++◌, map, reverse, length, Result, Ok, Err}
+use Rattle.std.specs.Prelude.{IfOk, IfErr}
 use Rattle.std.proofs.Common.{refl, sym, ◌∙◌, ap, subst}
 use Rattle.std.proofs.lemmas.List.{append_assoc, append-nil}
 use Rattle.std.proofs.lemmas.List.Sorted.{IsPermutation-reverse}
@@ -15,49 +15,20 @@ use Rattle.claim_rule.specs.Good.{StartsWith}
 use Rattle.cell_store.specs.Buckets.{bucket_at}
 use Rattle.cell_store.specs.Touches.{IsTouched}
 use Rattle.point_order.specs.Sets.{IsIn}
-use Rattle.grid_claims.specs.declared.hands.Hands.{Hands}
+use Rattle.claim_table.specs.declared.hands.Hands.{Hands}
 use Rattle.edit_history.specs.declared.history.Receipt.{Receipt}
 use Rattle.grid_claims.specs.declared.refused.Refused.{Refused}
 use Rattle.grid_claims.specs.declared.refused.Refused.TheVariants.{Spent, Busy, Memory}
-use Rattle.grid_claims.specs.declared.view.Act.{Act}
-use Rattle.grid_claims.specs.declared.view.Act.TheVariants.{Claim, Miss, Commit}
-use Rattle.grid_claims.specs.declared.view.View.{View}
-use Rattle.grid_claims.specs.Trails.{AreAllTouched}
+use Rattle.claim_table.specs.declared.view.Act.{Act}
+use Rattle.claim_table.specs.declared.view.Act.TheVariants.{Claim, Miss, Commit}
+use Rattle.claim_table.specs.declared.view.View.{View}
+use Rattle.claim_table.specs.Trails.{AreAllTouched}
 use Rattle.grid_claims.specs.Passes.{Opened, Standing, standing}
-use Rattle.grid_claims.specs.Plays.{entry_of}
+use Rattle.claim_table.specs.Plays.{entry_of}
 use Rattle.grid_claims.specs.Tries.{AreClaimsAround, IsEdited, IsAsBefore, IsRefused, IsStill}
-use Rattle.grid_claims.specs.Claiming.{AreHands, HasRest, HasClaimed, HasStopped, HasGivenBack, IsFinished, releases_of}
-use Rattle.grid_claims.proofs.MoreHands.{all_empty}
-
--- a pass at rest, whose hold has a place for each bucket of its table, is hands
-pub rested_hands : (id : TableId) (n : ℕ) (w : Hands) → HasRest w → w.place.table_id ≡ id → id.words ≡ n + 1 →
-    length w.hold.places ≡ n → AreHands id n w
-rested_hands id n w r table words places =
-    let nothing : (b : ℕ) → bucket_at w.hold.places b ≡ None =
-    λ b. ap (λ l. bucket_at l b) r.places ∙ r.rest.nothing b in
-    let empty = all_empty w.hold.places nothing in
-    record {
-      table = table;
-      words = words;
-      places = places;
-      some_part = r.rest.some_part;
-      no_child = r.rest.no_child;
-      first = r.first;
-      grid = r.grid;
-      carries = record {
-        places_are = sym r.places;
-        order_is = r.rest.none_in_hand ∙ sym r.order;
-        slots = r.rest.no_slot ∙ ap Rattle.grid_claims.specs.Passes.emptied (sym r.order);
-        holds = λ b. (
-          (λ s. absurd (Rattle.list_laws.proofs.Cited.none_there (bucket_at w.hold.places b) (nothing b) s)),
-          (λ i. absurd (subst (λ (l : List ℕ). Rattle.point_order.specs.Sets.IsIn b l) r.order i)),
-        );
-        once = subst (λ (l : List ℕ). AreDistinct l) (sym r.order) tt;
-      };
-      count =
-          (let l : length w.order.items ≡ 0 = ap length r.order in omega (Rattle.std.proofs.Common.arith, l, empty));
-      room = r.room;
-    }
+use Rattle.claim_table.specs.Hands.{releases_of, AreHands, HasRest, HasClaimed, HasGivenBack}
+use Rattle.grid_claims.specs.Claiming.{HasStopped, IsFinished}
+use Rattle.claim_table.proofs.Cited.{rested_hands}
 
 -- so it is with the hands of a pass of a table that is seen so
 pub table_hands : (t : Opened) (w : Hands) → HasRest w → (standing w.place.table_id w.place.me.0).table ≡ t →

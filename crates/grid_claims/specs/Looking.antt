@@ -1,23 +1,15 @@
 -- The loop of claims: what it keeps.
-use Rattle.std.specs.Prelude.{◌≡◌, ℕ, List, []}
+use Rattle.std.specs.Prelude.{◌≡◌, ℕ, List}
 use Rattle.atomic_table.specs.Seated.{TableId}
 use Rattle.edit_history.specs.declared.history.Edit.{Edit}
 use Rattle.edit_history.specs.Edits.{reply_to}
 use Rattle.cell_store.specs.Buckets.{InHand}
-use Rattle.cell_store.specs.Meshes.{AreAmong}
 use Rattle.cell_store.specs.Shares.{Shows}
-use Rattle.cell_store.specs.Touches.{HoldNoOther}
-use Rattle.edit_plans.specs.Plans.{IsExact, IsPlannerIn, edit_of}
+use Rattle.cell_store.specs.Touches.{HoldNoOther, IsExact}
+use Rattle.edit_plans.specs.Plans.{IsPlannerIn, edit_of}
 use Rattle.edit_plans.specs.declared.plan.Planner.{Planner}
-use Rattle.grid_claims.specs.declared.hands.Hands.{Hands}
-use Rattle.grid_claims.specs.Claiming.{AreHands, HasClaimed, ShowsOne}
-
--- Buckets were claimed, and what is in hand stands for some history.
-pub record HasClaimedMore (id : TableId) (buckets : ℕ) (old now : Hands) : Type 0 where
-  pub hands : AreHands id buckets now
-  pub claimed : HasClaimed old now []
-  pub among : AreAmong old.hold now.hold
-  pub one : ShowsOne now.hold
+use Rattle.claim_table.specs.declared.hands.Hands.{Hands}
+use Rattle.claim_table.specs.Hands.{HasClaimedMore}
 
 -- where the edit is exact, every bucket in hand is one that it touches
 abbrev pub HoldsExact : InHand → Edit → Type 0

@@ -12,17 +12,17 @@ use Rattle.edit_history.specs.Edits.{reply_to}
 use Rattle.edit_history.specs.Histories.{replay, IsLegal}
 use Rattle.claim_rule.specs.Boards.{made_by}
 use Rattle.claim_rule.specs.Good.{StartsWith}
-use Rattle.grid_claims.specs.declared.view.Act.{Act}
-use Rattle.grid_claims.specs.declared.view.Act.TheVariants.{Claim, Miss, Commit, Release, Look}
+use Rattle.claim_table.specs.declared.view.Act.{Act}
+use Rattle.claim_table.specs.declared.view.Act.TheVariants.{Claim, Miss, Commit, Release, Look}
 use Rattle.grid_claims.specs.declared.refused.Refused.{Refused}
 use Rattle.grid_claims.specs.declared.refused.Refused.TheVariants.{Spent, Busy, Memory}
 use Rattle.cell_store.specs.Meshes.{by_number}
 use Rattle.cell_store.specs.Touches.{IsTouched}
 use Rattle.point_order.specs.Sets.{IsIn}
-use Rattle.grid_claims.specs.Lists.{entries_by, longer}
-use Rattle.grid_claims.specs.Trails.{IsExact, AreAllTouched}
+use Rattle.claim_table.specs.Lists.{entries_by, longer}
+use Rattle.claim_table.specs.Trails.{IsExact, AreAllTouched}
 use Rattle.grid_claims.specs.Passes.{Opened, Standing}
-use Rattle.grid_claims.specs.Plays.{entry_of}
+use Rattle.claim_table.specs.Plays.{entry_of}
 
 -- how many buckets a table has
 abbrev pub buckets_of : Opened → ℕ

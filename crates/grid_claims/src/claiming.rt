@@ -3,13 +3,12 @@
 ghost use Rattle.std.specs.Prelude.{◌≡◌, ◌<◌, ◌++◌, ◌∷◌, [], None, length, OnOk, IfOk, IfErr};
 ghost use Rattle.cell_store.specs.Buckets.{bucket_at};
 ghost use Rattle.cell_store.specs.Meshes.{StandsForSome};
-ghost use Rattle.grid_claims.specs.Faces.{buckets_of};
-ghost use Rattle.grid_claims.specs.Claiming.{AreHands, HasClaimed, HasStopped, IsReadyPlan, HasRoomFor};
-ghost use Rattle.grid_claims.specs.Looking.{HasClaimedMore};
+ghost use Rattle.claim_table.specs.Faces.{buckets_of};
+ghost use Rattle.claim_table.specs.Hands.{AreHands, HasClaimed, HasClaimedMore};
+ghost use Rattle.grid_claims.specs.Claiming.{HasStopped, IsReadyPlan, HasRoomFor};
 
-use crate::hands::{Hands, take_in};
 use crate::refused::Refused;
-use crate::view::Board;
+use claim_table::{Board, Hands, take_in};
 use edit_history::Edit;
 use edit_plans::{Plan, PlanTurn, Planner};
 use std::alloc::Global;

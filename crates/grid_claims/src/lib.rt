@@ -1,8 +1,8 @@
 //! The running table: a mesh that several threads edit.
 //!
 //! Each bucket lies in a slot of a table of `atomic_table`, or in the hands of one pass, and has a word that
-//! tells which. The definitions stand in `specs/`: the table as a board, the rule that holds between any two
-//! steps, and what each call makes of a pass.
+//! tells which. The definitions stand in `specs/`: what each call makes of a pass. Those of the table as a board,
+//! and of the rule that holds between any two steps, are in `claim_table`, whose law it passes on.
 //!
 //! ```
 //! let (table, mut pass) = MeshTable::open(alloc, mesh, 2, 1000)?;   // two parts, and a thousand edits that may come
@@ -21,19 +21,12 @@
 mod claiming;
 mod finish;
 mod gate;
-mod hands;
-mod homing;
-pub mod laws;
-mod laying;
 mod pass;
-mod plays;
 mod refused;
-mod slot;
 mod snapshot;
-mod steps;
 mod table;
-mod view;
 
+pub use claim_table::laws;
 pub use edit_history::Receipt;
 pub use gate::{Gate, Moment, OpenGate};
 pub use pass::Pass;

@@ -2,17 +2,15 @@
 
 ghost use Rattle.std.specs.Prelude.{◌≡◌, [], OnOk, IfOk, IfErr};
 ghost use Rattle.cell_store.specs.Meshes.{AllInHand, StandsForSome};
-ghost use Rattle.grid_claims.specs.Faces.{buckets_of};
-ghost use Rattle.grid_claims.specs.Claiming.{AreHands, HasClaimed, HasStopped};
-ghost use Rattle.grid_claims.specs.Showing.{HasClaimedAll, AreListsOf, HasLooked};
+ghost use Rattle.claim_table.specs.Faces.{buckets_of};
+ghost use Rattle.claim_table.specs.Hands.{AreHands, HasClaimed};
+ghost use Rattle.grid_claims.specs.Claiming.{HasStopped};
+ghost use Rattle.claim_table.specs.Showing.{HasClaimedAll, AreListsOf};
 
 use crate::claiming::ask;
-use crate::finish::let_go;
-use crate::hands::Hands;
 use crate::refused::Refused;
-use crate::steps::show_at;
-use crate::view::Board;
 use cell_store::Hold;
+use claim_table::{Board, Hands};
 use edit_history::Entry;
 use point_order::Cell;
 use std::alloc::{AllocError, Global};
@@ -62,16 +60,4 @@ pub(crate) fn copy_all(board: &Board, hands: &mut Hands, alloc: Global) -> Resul
 {
     claim_all(board, hands)?;
     Ok(lists_of(&hands.hold, alloc)?)
-}
-
-// Looks at the ticket with every bucket in hand, and gives them back.
-pub(crate) fn look_and_let_go(board: &Board, hands: &mut Hands) -> u64
-    requires hands { AreHands board.now.shared.table_id (buckets_of board.now.shared.key) hands.old }
-    ensures hands { AreHands board.now.shared.table_id (buckets_of board.now.shared.key) hands.new }
-    ensures none { hands.new.order.items ≡ [] }
-    ensures looked { HasLooked result hands.old hands.new }
-{
-    let found = show_at(board, &mut hands.place);
-    let_go(board, hands);
-    found
 }

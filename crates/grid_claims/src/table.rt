@@ -2,22 +2,19 @@
 
 ghost use Rattle.std.specs.Prelude.{◌≡◌, ◌+◌, ◌^◌, ◌<◌, ◌≤◌, ◌∷◌, ◌++◌, [], length, IfOk, IfErr, OnErr};
 ghost use Rattle.claim_rule.specs.Good.{StartsWith};
-ghost use Rattle.grid_claims.specs.declared.view.Act.TheVariants.{Look};
+ghost use Rattle.claim_table.specs.declared.view.Act.TheVariants.{Look};
 ghost use Rattle.grid_claims.specs.Tries.{opening_pass, IsSplit, joined, IsEdited, IsRefused, IsShown, IsUnshown};
 
 use crate::claiming::prepare;
-use crate::finish::{finish, let_go};
+use crate::finish::finish;
 use crate::gate::{Gate, Moment};
-use crate::hands::Hands;
-use crate::homing::gather;
-use crate::laying::{board_for, empty_hands};
 use crate::pass::Pass;
-use crate::plays::Together;
 use crate::refused::Refused;
-use crate::snapshot::{Snapshot, copy_all, look_and_let_go};
-use crate::steps::{look_at, part};
-use crate::view::Board;
+use crate::snapshot::{Snapshot, copy_all};
 use cell_store::{Hold, Mesh};
+use claim_table::{
+    Board, Hands, Together, board_for, empty_hands, gather, let_go, look_and_let_go, look_at, part,
+};
 use edit_history::{Edit, Receipt};
 use std::alloc::{AllocError, Global};
 use std::marker::Model;
@@ -32,7 +29,7 @@ pub struct MeshTable {
 impl Model for MeshTable {
     ghost use Rattle.std.specs.Prelude.{◌≡◌, ◌+◌, ◌*◌, ◌≤◌, ◌^◌, ℕ, None, length, replicate};
     ghost use Rattle.cell_store.specs.Buckets.{no_room};
-    ghost use Rattle.grid_claims.specs.Faces.{opening_of, buckets_of};
+    ghost use Rattle.claim_table.specs.Faces.{opening_of, buckets_of};
     ghost use Rattle.grid_claims.specs.Passes.{Opened};
 
     ghost Value = { Opened };

@@ -1,4 +1,4 @@
-use Rattle.grid_claims.specs.Faces.{buckets_of}
+use Rattle.claim_table.specs.Faces.{buckets_of}
 use Rattle.grid_claims.proofs.Planning.{asked_then, hands_with, lacks_after, more_after, on_after, planned_after}
 use Rattle.grid_claims.proofs.Planning.{planning_none, starved}
 use Rattle.grid_claims.proofs.claiming.plan_for.Goals as goal

@@ -1,5 +1,5 @@
-use Rattle.grid_claims.specs.Faces.{buckets_of}
-use Rattle.grid_claims.specs.Claiming.{empty_places}
+use Rattle.claim_table.specs.Faces.{buckets_of}
+use Rattle.claim_table.specs.Hands.{empty_places}
 use Rattle.grid_claims.specs.Looking.{IsPlanning}
 use Rattle.grid_claims.proofs.claiming.plan_for.Given as goal
 

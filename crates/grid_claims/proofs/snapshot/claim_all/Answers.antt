@@ -1,6 +1,6 @@
 use Rattle.std.proofs.Common.{◌≡◌, ◌∙◌, ap, ℕ, ◌*◌, arith}
-use Rattle.grid_claims.specs.Faces.{buckets_of}
-use Rattle.grid_claims.proofs.Showing.{next_absent, claiming_goes_on, claiming_ends}
+use Rattle.claim_table.specs.Faces.{buckets_of}
+use Rattle.claim_table.proofs.Cited.{next_absent, claiming_goes_on, claiming_ends}
 use Rattle.grid_claims.proofs.snapshot.claim_all.Goals as goal
 
 pub ask-requires-clause-absent : goal.ask-requires-clause-absent

@@ -1,5 +1,5 @@
-use Rattle.grid_claims.specs.Faces.{buckets_of}
-use Rattle.grid_claims.specs.Showing.{IsClaimingAll}
+use Rattle.claim_table.specs.Faces.{buckets_of}
+use Rattle.claim_table.specs.Showing.{IsClaimingAll}
 use Rattle.grid_claims.proofs.snapshot.claim_all.Given as goal
 
 abbrev pub invariant-loop-b : goal.invariant-loop-b

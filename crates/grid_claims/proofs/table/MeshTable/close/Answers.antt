@@ -5,10 +5,10 @@ use Rattle.cell_store.specs.Buckets.{BucketContent, InHand}
 use Rattle.cell_store.specs.Meshes.{IsWhole}
 use Rattle.cell_store.proofs.Cited.{history_is}
 use Rattle.claim_rule.specs.Good.{StartsWith}
-use Rattle.grid_claims.specs.declared.view.View.{View}
-use Rattle.grid_claims.specs.Faces.{buckets_of, opening_of}
-use Rattle.grid_claims.specs.Homing.{AllHome}
-use Rattle.grid_claims.proofs.Homecoming.{homed, last_of, all_in_hand, stands_so}
+use Rattle.claim_table.specs.declared.view.View.{View}
+use Rattle.claim_table.specs.Faces.{buckets_of, opening_of}
+use Rattle.claim_table.specs.Homing.{AllHome}
+use Rattle.claim_table.proofs.Cited.{homed, last_of, all_in_hand, stands_so}
 use Rattle.grid_claims.proofs.table.MeshTable.close.Goals as goal
 
 -- a pass that owns all parts and holds nothing leaves every bucket in its slot

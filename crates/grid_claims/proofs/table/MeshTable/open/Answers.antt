@@ -3,13 +3,13 @@ use Rattle.std.proofs.Common.{vec_capacity}
 use Rattle.edit_history.specs.declared.history.Entry.{Entry}
 use Rattle.cell_store.specs.Buckets.{InHand, empty_hold}
 use Rattle.claim_rule.proofs.Cited.{as_counted}
-use Rattle.grid_claims.specs.declared.hands.Hands.{Hands}
-use Rattle.grid_claims.specs.declared.view.Key.{Key}
-use Rattle.grid_claims.specs.Faces.{opening_of}
+use Rattle.claim_table.specs.declared.hands.Hands.{Hands}
+use Rattle.claim_table.specs.declared.view.Key.{Key}
+use Rattle.claim_table.specs.Faces.{opening_of}
 use Rattle.grid_claims.specs.Passes.{standing}
-use Rattle.grid_claims.specs.Rule.{opening_view}
-use Rattle.grid_claims.specs.Plays.{Seated}
-use Rattle.grid_claims.proofs.Resting.{left_over, few_more, rests_first}
+use Rattle.claim_table.specs.Rule.{opening_view}
+use Rattle.claim_table.specs.Plays.{Seated}
+use Rattle.claim_table.proofs.Cited.{left_over, few_more, rests_first}
 use Rattle.grid_claims.proofs.table.MeshTable.open.Goals as goal
 
 pub invariant_of-table : goal.invariant_of-table

@@ -1,5 +1,5 @@
 use Rattle.std.proofs.Common.{◌*◌, sym, ◌∙◌, ap, subst}
-use Rattle.grid_claims.specs.Faces.{buckets_of}
+use Rattle.claim_table.specs.Faces.{buckets_of}
 use Rattle.grid_claims.specs.Passes.{Opened, Standing}
 use Rattle.grid_claims.specs.Tries.{IsShown, IsUnshown}
 use Rattle.grid_claims.proofs.Trying.{table_hands}

@@ -1,0 +1,10 @@
+pub mod Lists
+pub mod Faces
+pub mod Trails
+pub mod Reached
+pub mod Rule
+pub mod Plays
+pub mod Hands
+pub mod Showing
+pub mod Homing
+pub mod Laws
