@@ -6,7 +6,7 @@ the compiler declares from the sources, and the words of the standard library, a
 import os
 import re
 
-PROMISES = ['crates/delaunay_cli/src/top.rt', 'crates/delaunay_cli/src/laws.rt']
+PROMISES = ['crates/delaunay_cli/src/top.rt', 'crates/command_ends/src/laws.rt']
 TOP = os.path.join(os.path.dirname(os.path.realpath(__file__)), '../..')
 CITED = re.compile(r'^\s*(?:ghost |pub )?use Rattle\.(\w+)\.specs\.([\w.]+?)(?:\.\{| as |$)')
 IMPORT = re.compile(r'^(?:pub )?use [^{\n]*(?:\{[^}]*\})?.*\n', re.M)

@@ -5,7 +5,7 @@ use Rattle.std.specs.Prelude.{not, All, Option, IfSome, slice_index_or, ◌⊎�
 use Rattle.std.specs.List.{enumerate_from, filter, flat_map, range_with_len}
 use Rattle.std.proofs.lemmas.Bool.{eqb-true}
 use Rattle.std.proofs.lemmas.List.{length-map}
-use Rattle.std.proofs.lemmas.List.FromFn.{get_or-map-range_with_len, length-range_with_len}
+use Rattle.std.proofs.lemmas.List.FromFn.{get_or-map-range_with_len}
 use Rattle.std.proofs.lemmas.List.Sorted.{length_permutation}
 use Rattle.list_laws.proofs.Cited.{EachLater, all_of_each, each_of_all, from_append, later_filter, later_left}
 use Rattle.list_laws.proofs.Cited.{later_pairs, later_right, mapped_from, numbered_lower, passes}
@@ -13,8 +13,8 @@ use Rattle.point_order.specs.Sets.{IsIn, is_among}
 use Rattle.edit_history.specs.declared.history.Edit.{Edit}
 use Rattle.edit_history.specs.declared.history.Edit.TheVariants.{Add}
 use Rattle.edit_history.specs.declared.history.Entry.{Entry}
-use Rattle.edit_history.specs.Edits.{point_of, after}
-use Rattle.edit_history.specs.Histories.{IsLegal, entries_from}
+use Rattle.edit_history.specs.Edits.{point_of}
+use Rattle.edit_history.specs.Histories.{IsLegal}
 use Rattle.edit_history.specs.Opening.{opening_four, FourPlaces}
 use Rattle.edit_history.specs.OneThread.{Keeps, line_of, lines_of_one_thread, one_thread, tagged_lines}
 use Rattle.edit_history.proofs.Cited.{keeps_law}

@@ -1,19 +1,16 @@
 -- What holds of a file that was read of a source.
-use Rattle.std.proofs.Common.{◌≡◌, sym, subst, inl, inr, ℕ, ◌+◌, ◌<◌, ◌^◌, Bool, List, [], ◌++◌, length, arith}
-use Rattle.std.specs.Prelude.{Option, None, Some, IfSome, IfOk, IfErr, Result, Ok, Err, Vec}
+use Rattle.std.proofs.Common.{sym, subst, inl, inr, ℕ, ◌+◌, ◌<◌, ◌^◌, Bool, List, length, arith}
+use Rattle.std.specs.Prelude.{Option, IfSome, IfOk, IfErr, Result, Ok, Err, Vec}
 use Rattle.std.specs.declared.alloc.Global.{Global}
 use Rattle.list_laws.proofs.Cited.{if_some}
 use Rattle.edit_history.specs.declared.history.Entry.{Entry}
-use Rattle.edit_files.specs.declared.file.File.{File}
 use Rattle.edit_files.specs.Content.{Content}
-use Rattle.edit_files.specs.Held.{content}
 use Rattle.command_pages.specs.declared.made.Parts.{Parts}
 use Rattle.command_words.specs.declared.stop.Stop.{Stop}
 use Rattle.command_pages.specs.Files.{HasNoMesh, IsFlatFile}
 use Rattle.command_pages.specs.Reading.{IsFileOf, IsFileWithin}
 use Rattle.command_pages.specs.Page.{report_of_parts}
-use Rattle.delaunay_cli.specs.Meshed.{IsAnswered, IsQueriedFile, IsMeshed, IsReportOf, IsUnmeshed}
-use Rattle.command_pages.proofs.Cited.{if_told}
+use Rattle.command_ends.specs.Meshed.{IsAnswered, IsQueriedFile, IsMeshed, IsReportOf, IsUnmeshed}
 
 module _ (left : Option (List ℕ)) (file : Content) (f : IsFileOf left file) where
   -- its lines are few

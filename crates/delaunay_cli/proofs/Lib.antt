@@ -1,17 +1,3 @@
 pub mod FilesRead
-pub mod TextStatuses
-pub mod CommandEnds
-pub mod Carried
-pub mod ChecksEnded
-pub mod FilePromises
-pub mod PartPromises
-pub mod CommandPromises
-pub mod Ended
-pub mod MadeAsAsked
-pub mod Promised
-pub mod DrawnFiles
-pub mod PlainTexts
-pub mod AnchoredRuns
 pub mod DealtLines
-pub mod ChecksTold
 pub mod OneWorker

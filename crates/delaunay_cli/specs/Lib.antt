@@ -1,11 +1,1 @@
-pub mod Reported
-pub mod Stepped
-pub mod Parted
-pub mod Queried
-pub mod Drawn
-pub mod Commands
-pub mod Ends
-pub mod PlainText
-pub mod PutOut
-pub mod Meshed
 pub mod MeshLists

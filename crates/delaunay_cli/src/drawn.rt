@@ -3,7 +3,7 @@
 ghost use Rattle.std.specs.Prelude.{◌≡◌, None, IfOk, IfErr};
 ghost use Rattle.edit_files.specs.Generator.{generated};
 ghost use Rattle.command_words.specs.declared.stop.Stop.TheVariants.{Memory};
-ghost use Rattle.delaunay_cli.specs.Drawn.{IsDrawn};
+ghost use Rattle.command_ends.specs.Drawn.{IsDrawn};
 ghost use Rattle.command_pages.specs.Page.{IsFitToWrite, text_of_page};
 
 use crate::mesh::history_and_parts;

@@ -9,12 +9,10 @@
 #![tactic(auto)]
 
 mod drawn;
-pub mod laws;
 mod mesh;
 mod mesh_lists;
 mod mesh_of_lines;
 mod mesh_of_source;
-mod outcome;
 mod parted;
 mod queried;
 mod reported;
@@ -22,5 +20,5 @@ mod stepped;
 mod top;
 mod work;
 
-pub use outcome::Run;
+pub use command_ends::{Run, laws};
 pub use top::run;

@@ -5,7 +5,7 @@ ghost use Rattle.edit_files.specs.Held.{content};
 ghost use Rattle.command_pages.specs.Page.{AreReportParts, report_of_parts};
 ghost use Rattle.command_pages.specs.Report.{report_of};
 ghost use Rattle.command_pages.specs.Reading.{AreRadii};
-ghost use Rattle.delaunay_cli.specs.Meshed.{IsMeshed, IsUnmeshed};
+ghost use Rattle.command_ends.specs.Meshed.{IsMeshed, IsUnmeshed};
 
 use crate::mesh_lists::MeshLists;
 use crate::mesh_of_lines::lists_of_lines;

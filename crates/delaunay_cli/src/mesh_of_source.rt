@@ -6,7 +6,7 @@ ghost use Rattle.byte_ends.specs.Ends.{Rose};
 ghost use Rattle.edit_history.specs.Histories.{IsLegal};
 ghost use Rattle.command_pages.specs.Files.{HasNoMesh};
 ghost use Rattle.command_pages.specs.Page.{AreReportParts, report_of_parts};
-ghost use Rattle.delaunay_cli.specs.Meshed.{IsReportOf};
+ghost use Rattle.command_ends.specs.Meshed.{IsReportOf};
 ghost use Rattle.command_pages.specs.Run.{ReadsTo, input_limit};
 ghost use Rattle.command_words.specs.Stops.{status_of_made};
 

@@ -7,37 +7,38 @@ ghost use Rattle.edit_history.specs.Histories.{replay};
 ghost use Rattle.edit_files.specs.Held.{content};
 ghost use Rattle.command_pages.specs.Files.{HasNoMesh};
 ghost use Rattle.command_pages.specs.Page.{IsFitToWrite, text_of_page};
-ghost use Rattle.delaunay_cli.specs.Queried.{IsQueried};
-ghost use Rattle.delaunay_cli.specs.Meshed.{IsAnswered, IsQueriedFile, IsUnmeshed};
+ghost use Rattle.command_ends.specs.Queried.{IsQueried};
+ghost use Rattle.command_ends.specs.Meshed.{IsAnswered, IsQueriedFile, IsUnmeshed};
 ghost use Rattle.command_pages.specs.Run.{ReadsTo, input_limit};
 ghost use Rattle.command_words.specs.Stops.{status_of_made};
 
 use crate::mesh_of_lines::mesh_of_lines;
-use byte_ends::{Failed, Source};
+use byte_ends::Source;
 use cell_store::Mesh;
+use command_ends::near_text;
 use command_pages::{Made, Page, file_of_source};
 use command_words::{Making, Stop};
 use edit_files::File;
 use edit_history::Entry;
 use grid_claims::Gate;
-use near_vertex::{nearest_to_each, put_near};
 use one_mesh::{find_four, history, points};
 use point_order::Point;
 use std::alloc::{AllocError, Global};
 use std::thread::Threads;
-use text_sheets::WholeText;
 
-// The text of the nearest points of a mesh to queries.
-fn near_text(alloc: Global, mesh: &Mesh, queries: &[Point]) -> Result<Vec<u8>, AllocError>
-    ensures { IfOk result (λ text. IsQueried (replay mesh.now.history) queries.now text.items) }
+// The history of a mesh, and the text of queries.
+fn history_and_text(
+    alloc: Global,
+    mesh: &Mesh,
+    queries: &[Point],
+) -> Result<(Vec<Entry>, Vec<u8>), AllocError>
+    ensures kept { IfOk result (λ made. made.0.items ≡ mesh.now.history) }
+    ensures told { IfOk result (λ made. IsQueried (replay mesh.now.history) queries.now made.1.items) }
 {
+    let kept = history(alloc, mesh)?;
     let points = points(alloc, mesh)?;
-    let nears = nearest_to_each(alloc, mesh.hold(), queries)?;
-    let mut text = WholeText::new(alloc);
-    match put_near(&mut text, &points, &nears) {
-        Ok(()) => Ok(text.into_bytes()),
-        Err(Failed) => Err(AllocError),
-    }
+    let text = near_text(alloc, mesh, &points, queries)?;
+    Ok((kept, text))
 }
 
 // The history of the mesh of a file's lines, and the text of its queries.
@@ -56,9 +57,8 @@ fn answered<R: Threads + Sync, G: Gate + Sync>(
         return Err(Stop::Flat);
     };
     let mesh = mesh_of_lines(rt, alloc, file, four, making, gate)?;
-    let kept = history(alloc, &mesh)?;
-    let text = near_text(alloc, &mesh, &file.queries)?;
-    Ok((kept, text))
+    let made = history_and_text(alloc, &mesh, &file.queries)?;
+    Ok(made)
 }
 
 /// Reads a file from the source, and makes the text of the nearest points of its mesh to its queries.

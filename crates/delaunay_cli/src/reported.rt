@@ -5,7 +5,7 @@ ghost use Rattle.std.specs.Io.KnownBytes.{IsAtEnd};
 ghost use Rattle.byte_ends.specs.Ends.{Rose};
 ghost use Rattle.command_pages.specs.Files.{HasNoMesh};
 ghost use Rattle.command_pages.specs.Page.{IsFitToWrite, text_of_page};
-ghost use Rattle.delaunay_cli.specs.Meshed.{IsReported};
+ghost use Rattle.command_ends.specs.Meshed.{IsReported};
 ghost use Rattle.command_pages.specs.Run.{ReadsTo, input_limit};
 ghost use Rattle.command_words.specs.Stops.{status_of_made};
 

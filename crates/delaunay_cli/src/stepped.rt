@@ -1,52 +1,22 @@
 //! The command `steps`: from the bytes of a source to the least alphas of the faces of their mesh.
 
-ghost use Rattle.std.specs.Prelude.{◌≡◌, ◌≤◌, None, true, IfSome, IfOk, IfErr, IsOk};
+ghost use Rattle.std.specs.Prelude.{◌≡◌, ◌≤◌, None, IfSome, IfOk, IfErr, IsOk};
 ghost use Rattle.std.specs.Io.KnownBytes.{IsAtEnd};
 ghost use Rattle.byte_ends.specs.Ends.{Rose};
-ghost use Rattle.point_order.specs.Complex.{complex};
-ghost use Rattle.point_order.specs.Sets.{IsAscending};
-ghost use Rattle.point_order.specs.Solid.{is_solid};
-ghost use Rattle.del_laws.specs.Keys.{AreKeys};
 ghost use Rattle.command_pages.specs.Files.{HasNoMesh};
 ghost use Rattle.command_pages.specs.Page.{IsFitToWrite, text_of_page};
 ghost use Rattle.command_pages.specs.Run.{ReadsTo, input_limit};
-ghost use Rattle.delaunay_cli.specs.Stepped.{IsStepped};
-ghost use Rattle.delaunay_cli.specs.Meshed.{IsSteppedFile};
+ghost use Rattle.command_ends.specs.Meshed.{IsSteppedFile};
 ghost use Rattle.command_words.specs.Stops.{status_of_made};
 
 use crate::mesh_of_source::mesh_of_source;
-use alpha_steps::{put_steps, text_room, thresholds};
-use byte_ends::{Failed, Source};
+use byte_ends::Source;
+use command_ends::steps_text;
 use command_pages::{Made, Page};
 use command_words::{Asked, Making, Stop};
-use face_list::faces;
 use grid_claims::Gate;
-use point_order::{Cell, Point};
-use std::alloc::{AllocError, Global};
+use std::alloc::Global;
 use std::thread::Threads;
-use text_sheets::WholeText;
-
-// The text of the least alphas of the faces of a set, whose complex these cells are.
-fn steps_text<R: Threads + Sync>(
-    rt: &R,
-    alloc: Global,
-    points: &[Point],
-    cells: &[Cell],
-) -> Result<Vec<u8>, AllocError>
-    requires ascending { IsAscending points.now }
-    requires keys { AreKeys points.now }
-    requires solid { is_solid points.now ≡ true }
-    requires cells { cells.now ≡ complex points.now }
-    ensures { IfOk result (λ text. IsStepped points.now text.items) }
-{
-    let faces = faces(rt, alloc, cells)?;
-    let list = thresholds(rt, alloc, &faces)?;
-    let mut text = WholeText::with_room(alloc, text_room(&list))?;
-    match put_steps(&mut text, &list) {
-        Ok(()) => Ok(text.into_bytes()),
-        Err(Failed) => Err(AllocError),
-    }
-}
 
 /// Reads a file from the source, and makes the text of the least alphas of the faces of its mesh.
 ///

@@ -1,6 +1,6 @@
 use Rattle.edit_files.specs.Held.{content}
 use Rattle.edit_files.specs.Generator.{generated}
-use Rattle.delaunay_cli.proofs.DrawnFiles.{drawn_lines, drawn_meshed, drawn_radii, unmeshed_drawn, wanting}
+use Rattle.command_ends.proofs.Cited.{drawn_lines, drawn_meshed, drawn_radii, unmeshed_drawn, wanting}
 use Rattle.delaunay_cli.proofs.drawn.draw.Goals as goal
 
 pub history_and_parts-requires-clause-lines : goal.history_and_parts-requires-clause-lines

@@ -4,7 +4,7 @@ use Rattle.edit_history.specs.declared.history.Entry.{Entry}
 use Rattle.edit_history.specs.Histories.{IsLegal, replay}
 use Rattle.edit_files.specs.Held.{content}
 use Rattle.command_pages.specs.Run.{IsKept}
-use Rattle.delaunay_cli.specs.Queried.{IsQueried}
+use Rattle.command_ends.specs.Queried.{IsQueried}
 use Rattle.delaunay_cli.proofs.queried.answered.Goals as goal
 
 -- what is not false is true
@@ -14,14 +14,15 @@ not_false false f = absurd (f refl)
 
 pub returns-clause-made : goal.returns-clause-made
 returns-clause-made g c =
-    let text = c.in_ok-text.text.items in
+    let made = c.in_ok-made in
+    let text = made.made.1.items in
     record {
       solid = ap is_solid (sym c.deref.ensures.value) ∙ not_false (is_solid c.deref.result.now)
           (λ e. (let f : false ≡ true = c.in-Ok.ensures.refused.1 e in absurd (cc f)));
       kept = subst (λ (h : List Entry). IsKept (content c.args.file.now) c.args.making.workers h)
-          (sym c.in_ok-kept.ensures) c.in_ok-mesh.ensures.kept;
-      legal = subst (λ (h : List Entry). IsLegal h) (sym c.in_ok-kept.ensures) c.in_ok-mesh.ensures.legal;
-      told = subst (λ (q : List ℕ). IsQueried (replay c.in_ok-kept.kept.items) q text) c.deref-2.ensures.value
-          (subst (λ (h : List Entry). IsQueried (replay h) c.deref-2.result.now text) (sym c.in_ok-kept.ensures)
-          c.in_ok-text.ensures);
+          (sym made.ensures.kept) c.in_ok-mesh.ensures.kept;
+      legal = subst (λ (h : List Entry). IsLegal h) (sym made.ensures.kept) c.in_ok-mesh.ensures.legal;
+      told = subst (λ (q : List ℕ). IsQueried (replay made.made.0.items) q text) c.deref-2.ensures.value
+          (subst (λ (h : List Entry). IsQueried (replay h) c.deref-2.result.now text) (sym made.ensures.kept)
+          made.ensures.told);
     }

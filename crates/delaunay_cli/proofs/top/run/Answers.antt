@@ -3,11 +3,11 @@ use Rattle.std.specs.Io.KnownBytes.{Appends}
 use Rattle.byte_ends.specs.Ends.{AppendsFront}
 use Rattle.edit_history.specs.OneThread.{Keeps}
 use Rattle.plain_laws.specs.Plain.{IsAnchored}
-use Rattle.delaunay_cli.specs.PlainText.{plain_text}
+use Rattle.command_ends.specs.PlainText.{plain_text}
 use Rattle.command_pages.specs.Run.{AreDealt, history_of}
 use Rattle.command_words.specs.Stops.{line_of_end}
 use Rattle.command_words.specs.Words.{asks_shape, worker_count}
-use Rattle.delaunay_cli.proofs.Promised.{anchored_text, completes_plainly, of_file, of_kept, written, written_front}
+use Rattle.command_ends.proofs.Cited.{anchored_text, completes_plainly, of_file, of_kept, written, written_front}
 use Rattle.delaunay_cli.proofs.top.run.Goals as goal
 
 pub returns-clause-ends : goal.returns-clause-ends

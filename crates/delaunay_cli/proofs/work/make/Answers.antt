@@ -1,8 +1,8 @@
 use Rattle.std.proofs.Common.{refl, subst}
 use Rattle.byte_ends.specs.Ends.{Rose}
 use Rattle.command_words.specs.Tasks.{IsTask}
-use Rattle.delaunay_cli.proofs.MadeAsAsked.{checked, drawn, kind_is, made_as, parted, queried, reads_as, reads_source}
-use Rattle.delaunay_cli.proofs.MadeAsAsked.{reported, stepped, unmade_as}
+use Rattle.command_ends.proofs.Cited.{checked, drawn, kind_is, made_as, parted, queried, reads_as, reads_source}
+use Rattle.command_ends.proofs.Cited.{reported, stepped, unmade_as}
 use Rattle.delaunay_cli.proofs.work.make.Goals as goal
 
 pub returns-in-Report-clause-made : goal.returns-in-Report-clause-made

@@ -1,5 +1,5 @@
 use Rattle.byte_ends.specs.Ends.{Rose}
-use Rattle.delaunay_cli.proofs.Ended.{ends, told, unread}
+use Rattle.command_ends.proofs.Cited.{ends, told, unread}
 use Rattle.delaunay_cli.proofs.work.work.Goals as goal
 
 pub returns-clause-ends : goal.returns-clause-ends

@@ -1,0 +1,15 @@
+pub mod TextStatuses
+pub mod CommandEnds
+pub mod Carried
+pub mod ChecksEnded
+pub mod FilePromises
+pub mod PartPromises
+pub mod CommandPromises
+pub mod RunsEnded
+pub mod MadeAsAsked
+pub mod Promised
+pub mod DrawnFiles
+pub mod PlainTexts
+pub mod AnchoredRuns
+pub mod ChecksTold
+pub mod Cited
