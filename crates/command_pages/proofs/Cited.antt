@@ -1,3 +1,3 @@
 -- The lemmas that other crates cite.
-pub use Rattle.command_pages.proofs.Judging.{if_told, reads_front}
+pub use Rattle.command_pages.proofs.Judging.{reads_front}
 pub use Rattle.command_pages.proofs.MeshJudged.{cells_of}
