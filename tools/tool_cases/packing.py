@@ -7,8 +7,8 @@ import tarfile
 
 from tool_cases import TOP, expect, skip
 
-COPIED = ('tools/packed', 'tools/release', 'tools/points', 'tools/mesh3', 'python/c', 'python/hanskup', 'python/build',
-          'python/hanskup_wheel.py', 'docs', 'examples', 'delaunay', 'HANDLES')
+COPIED = ('tools/packed', 'tools/release', 'tools/plain/room.sh', 'tools/points', 'tools/mesh3', 'python/c',
+          'python/hanskup', 'python/build', 'python/hanskup_wheel.py', 'docs', 'examples', 'delaunay', 'HANDLES')
 CRATES = 'low:\nbeside:\ndelaunay: low\ndelaunay_c staticlib: low\n'
 CHANGES = '# Changes\n\n## 0.8, not closed yet: more\n\n## 0.7: all\n\n## 0.6: some\n'
 LIBRARY = """#include <stddef.h>
@@ -20,21 +20,23 @@ HEAP = """#include <stdlib.h>
 void *rattle_alloc(size_t size, size_t align) { (void)align; return malloc(size); }
 """
 RT = """#!/usr/bin/env bash
-crate=$(basename "$PWD")
 case $1 in
-version) echo "a stub of a kit${OTHER-}" && exit ;;
-doc) echo "$KIT/page" && exit ;;
-lib) mkdir -p out && [ "$crate" != delaunay_c ] || cp "$KIT/libdelaunay_c.a" out/ ;;
+version) echo "a stub of a kit${OTHER-}" ;;
+doc) echo "$KIT/page" ;;
 ci)
+    [ -z "${REFUSED-}" ] || { echo 'the proof is refused' && exit 1; }
     mkdir -p crates/delaunay/out && printf 'int main(void) { return 2; }' | gcc -x c -o crates/delaunay/out/delaunay -
     while IFS=: read -r crate _; do
+        crate=${crate% staticlib}
         [ -n "${SILENT-}" ] || printf 'fn %s::one: proved\\nlogic=proved functions=1 sum=0\\n' "$crate"
         echo "rt: $crate proved"
     done <crates.txt
-    exit
     ;;
 esac
-[ -n "${SILENT-}" ] || printf 'crate %s: modules loaded=0 checked=1\\nlogic=proved functions=1 sum=0\\n' "$crate"
+"""
+RATTLE = """#!/usr/bin/env bash
+[ "$(basename "$PWD")" = delaunay_c ] && [ -e ../low/src/lib.rt ] && [ ! -e ../beside ] && [ "$1" = build ] || exit 1
+case "$* " in *' --crate-type staticlib -o out/libdelaunay_c.a ') cp "$KIT/libdelaunay_c.a" out/ ;; *) exit 1 ;; esac
 """
 
 
@@ -67,9 +69,11 @@ def laid(work):
     write(f'{top}/CHANGELOG.md', CHANGES)
     write(f'{top}/.gitignore', 'out/\nOUT*\n__pycache__/\n*.so\n*.so.1\n')
     write(f'{kit}/bin/rt', RT)
+    write(f'{kit}/bin/rattle', RATTLE)
     write(f'{kit}/library.c', LIBRARY)
     write(f'{kit}/c/heap.c', HEAP)
-    os.chmod(f'{kit}/bin/rt', 0o755)
+    for name in ('rt', 'rattle'):
+        os.chmod(f'{kit}/bin/{name}', 0o755)
     named = {f'GIT_{who}_{what}': 'somebody' for who in ('AUTHOR', 'COMMITTER') for what in ('NAME', 'EMAIL')}
     place = {'top': top, 'world': {**os.environ, **named, 'KIT': kit, 'PATH': f'{kit}/bin:{os.environ["PATH"]}'}}
     made = shell(place, 'git init -q && git add -A && git commit -qm all && cd "$KIT" && '
@@ -95,6 +99,8 @@ def builds(place):
     status, told = shell(place, 'rm crates/delaunay/out/delaunay && ./delaunay mesh')
     expect(f'the program is built: {status}, {told}', status == 2 and 'built, in' in told)
     refused(place, 'without a library', 'libdelaunay_c.a is missing: python/build builds it')
+    status, told = shell(place, 'python/build', REFUSED='yes')
+    expect(f'a library that is refused: {told}', status == 1 and 'here\nthe proof is refused\nall that was' in told)
     status, told = shell(place, 'python/build', SILENT='yes')
     expect(f'a library of which the checker says nothing: {told}', status == 1 and 'did not say' in told)
     refused(place, 'the same', 'rm crates/delaunay_c/out/libdelaunay_c.a && python/build')
