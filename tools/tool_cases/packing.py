@@ -106,6 +106,8 @@ def builds(place):
     refused(place, 'the same', 'rm crates/delaunay_c/out/libdelaunay_c.a && python/build')
     status, told = shell(place, 'python/build')
     expect(f'the library is built: {status}, {told}', status == 0)
+    links = shell(place, 'find . -type l; test -f python/hanskup/libdelaunay_c.so.1')
+    expect(f'no link is left, at which rt ci would stop: {links}', links == (0, ''))
 
 
 def refusals(place):
