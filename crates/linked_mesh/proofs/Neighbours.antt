@@ -8,8 +8,8 @@ use Rattle.point_order.specs.Sets.{IsIn, is_among}
 use Rattle.point_order.specs.Solid.{is_solid}
 use Rattle.del_laws.specs.Nearest.{comes_before}
 use Rattle.hole_laws.specs.Edits.{GoesFrom}
-use Rattle.near_vertex.specs.Points.{IsFirstOf}
-use Rattle.near_vertex.proofs.Cited.{before_self}
+use Rattle.nearest_points.specs.Points.{IsFirstOf}
+use Rattle.nearest_points.proofs.Cited.{before_self}
 
 -- ---- the first of a list, and where a place lies
 

@@ -6,8 +6,8 @@ use Rattle.point_order.specs.Solid.{is_solid}
 use Rattle.edit_history.specs.declared.history.Entry.{Entry}
 use Rattle.edit_history.specs.Histories.{replay}
 use Rattle.edit_history.proofs.Cited.{solid_from}
-use Rattle.insertion.specs.Opening.{AreFourIndependent, opening_history}
-use Rattle.insertion.proofs.Cited.{leaves_four, points_of_lines}
+use Rattle.opening_entries.specs.Opening.{AreFourIndependent, opening_history}
+use Rattle.opening_entries.proofs.Cited.{leaves_four, points_of_lines}
 
 -- the lines at the four places of a list
 abbrev pub lines_at : List (ℕ × ℕ) → (w x y z : ℕ × ℕ) → List (ℕ × ℕ)

@@ -8,9 +8,9 @@ use Rattle.cloud_cells.specs.Clouds.{AreCellsOf}
 use Rattle.cloud_cells.specs.Nets.{AreMoved, AreWithAll}
 use Rattle.cloud_cells.specs.Stars.{AreBehindAll, AreStarOf}
 use Rattle.cloud_cells.proofs.Cited.{moved_cells, refilled}
-use Rattle.vertex_removal.specs.Coming.{AreAround, HaveAllAcross}
+use Rattle.star_refill.specs.Coming.{AreAround, HaveAllAcross}
 use Rattle.gift_wrap.specs.Near.{IsStar}
-use Rattle.vertex_removal.specs.Refills.{IsRefilled}
+use Rattle.star_refill.specs.Refills.{IsRefilled}
 use Rattle.linked_mesh.specs.Takes.{AreLeft, IsOpenIn}
 
 -- the star was taken out

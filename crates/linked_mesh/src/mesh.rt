@@ -13,7 +13,7 @@ ghost use Rattle.edit_history.specs.Histories.{replay};
 ghost use Rattle.edit_history.specs.OneThread.{one_thread, places};
 ghost use Rattle.edit_history.specs.Opening.{opening_four};
 ghost use Rattle.hole_laws.specs.Edits.{GoesFrom};
-ghost use Rattle.near_vertex.specs.Points.{IsNearest};
+ghost use Rattle.nearest_points.specs.Points.{IsNearest};
 ghost use Rattle.linked_mesh.specs.Applied.{edited};
 
 use crate::set::LinkedSet;

@@ -2,9 +2,9 @@
 
 ghost use Rattle.std.specs.Prelude.{◌∷◌, true, ◌≡◌};
 ghost use Rattle.point_order.specs.Solid.{is_solid};
-ghost use Rattle.near_vertex.specs.Points.{IsFirstOf, IsNearest};
+ghost use Rattle.nearest_points.specs.Points.{IsFirstOf, IsNearest};
 
-use near_vertex::first_among;
+use nearest_points::first_among;
 use point_order::Point;
 use std::collections::BTreeSet;
 

@@ -1,7 +1,7 @@
 //! The mesh of four independent points.
 
 ghost use Rattle.std.specs.Prelude.{◌≡◌, IfOk};
-ghost use Rattle.insertion.specs.Opening.{AreFourIndependent, inserted, opening_history};
+ghost use Rattle.opening_entries.specs.Opening.{AreFourIndependent, inserted, opening_history};
 
 use crate::mesh::{LinkedMesh, of_history};
 use edit_history::laws::solidity_is_of_the_set;

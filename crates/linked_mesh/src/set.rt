@@ -9,7 +9,7 @@ ghost use Rattle.edit_history.specs.Edits.{after as after_of, moved_to, reply_to
 ghost use Rattle.edit_history.specs.declared.history.Edit.TheVariants.{Add, Move, Take};
 ghost use Rattle.hole_laws.specs.Edits.{GoesFrom};
 ghost use Rattle.cloud_cells.specs.Clouds.{AreCellsOf};
-ghost use Rattle.near_vertex.specs.Points.{IsNearest};
+ghost use Rattle.nearest_points.specs.Points.{IsNearest};
 
 use crate::near::nearest_of_all;
 use crate::shift::move_point;

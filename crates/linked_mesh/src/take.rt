@@ -7,12 +7,12 @@ ghost use Rattle.point_order.specs.Solid.{is_solid};
 ghost use Rattle.cloud_cells.specs.Clouds.{AreCellsOf};
 ghost use Rattle.cloud_cells.specs.Linked.{AreCellsWith};
 ghost use Rattle.linked_mesh.specs.Takes.{IsOpenIn, IsOpenInSome, AreLeft};
-ghost use Rattle.vertex_removal.specs.Refills.{IsRefilled};
+ghost use Rattle.star_refill.specs.Refills.{IsRefilled};
 
 use cloud_cells::{LinkedCells, OpenStar};
 use point_order::{Cell, Point};
+use star_refill::cells_for_star;
 use std::alloc::{AllocError, Global};
-use vertex_removal::cells_for_star;
 
 // The cells that come in place of an open star; none where the rest is flat.
 fn coming(

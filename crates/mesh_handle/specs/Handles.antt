@@ -11,7 +11,7 @@ use Rattle.edit_history.specs.Edits.{reply_to}
 use Rattle.edit_history.specs.Histories.{replay}
 use Rattle.hole_laws.specs.Edits.{GoesFrom}
 use Rattle.mesh_handle.specs.Held.{MeshView}
-use Rattle.near_vertex.specs.Points.{IsNearest}
+use Rattle.nearest_points.specs.Points.{IsNearest}
 use Rattle.linked_mesh.specs.Applied.{edited}
 use Rattle.mesh_rows.specs.declared.rows.Place.{Place}
 use Rattle.mesh_rows.specs.declared.rows.CellRow.{CellRow}

@@ -30,6 +30,6 @@ pub use handle::{MeshHandle, free};
 pub use looks::{Located, find, nearest_to, rows};
 pub use many::{EditRow, Progress, edit_many, find_many, nearest_to_many};
 pub use opening::{close, open};
-pub use place::{Location, locate};
+pub use place::Location;
 pub use refusal::Refusal;
 pub use replies::number_of;

@@ -3,7 +3,7 @@
 ghost use Rattle.std.specs.Prelude.{◌≡◌, ◌∷◌, [], Some, IfErr, IfOk, IsErrOf, length};
 ghost use Rattle.edit_history.specs.Histories.{replay};
 ghost use Rattle.mesh_rows.specs.Meshes.{AreMeshRows, HasOutside};
-ghost use Rattle.near_vertex.specs.Points.{IsNearest};
+ghost use Rattle.nearest_points.specs.Points.{IsNearest};
 ghost use Rattle.mesh_handle.specs.Handles.{IsLack, IsMiss, IsToldOf, LiesAt, NearestIs, ShowsRows, row_of};
 ghost use Rattle.mesh_handle.specs.declared.place.Location.TheVariants.{Inside};
 ghost use Rattle.mesh_handle.specs.declared.refusal.Refusal.TheVariants.{Outside};

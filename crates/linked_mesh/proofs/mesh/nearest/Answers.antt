@@ -1,6 +1,6 @@
 use Rattle.std.proofs.Common.{◌∙◌, ap, subst, List, ℕ}
 use Rattle.edit_history.specs.Histories.{replay}
-use Rattle.near_vertex.specs.Points.{IsNearest}
+use Rattle.nearest_points.specs.Points.{IsNearest}
 use Rattle.linked_mesh.proofs.mesh.nearest.Goals as goal
 
 pub returns : goal.returns

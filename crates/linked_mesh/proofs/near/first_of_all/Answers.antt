@@ -1,7 +1,7 @@
 use Rattle.std.proofs.Common.{refl, sym, ◌∙◌, ap, subst, List, ℕ, ◌∷◌, ◌++◌, [], append-nil}
 use Rattle.std.proofs.lemmas.List.{append_assoc}
-use Rattle.near_vertex.specs.Points.{IsFirstOf}
-use Rattle.near_vertex.proofs.Cited.{first_joined}
+use Rattle.nearest_points.specs.Points.{IsFirstOf}
+use Rattle.nearest_points.proofs.Cited.{first_joined}
 use Rattle.linked_mesh.proofs.Neighbours.{first_alone}
 use Rattle.linked_mesh.proofs.near.first_of_all.Goals as goal
 

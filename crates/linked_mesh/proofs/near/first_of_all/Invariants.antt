@@ -1,5 +1,5 @@
 use Rattle.std.proofs.Common.{◌≡◌, ℕ, List, ◌∷◌, ◌++◌}
-use Rattle.near_vertex.specs.Points.{IsFirstOf}
+use Rattle.nearest_points.specs.Points.{IsFirstOf}
 use Rattle.linked_mesh.proofs.near.first_of_all.Given as goal
 
 -- the first of those that were looked at

@@ -1,6 +1,6 @@
 use Rattle.std.proofs.Common.{◌∙◌, ap, [], ◌∷◌}
 use Rattle.point_order.specs.Solid.{is_solid}
-use Rattle.insertion.proofs.Cited.{points_of_lines}
+use Rattle.opening_entries.proofs.Cited.{points_of_lines}
 use Rattle.linked_mesh.proofs.Opened.{lines_at, lines_solid, opened_leaves}
 use Rattle.linked_mesh.proofs.opening.begin.Goals as goal
 

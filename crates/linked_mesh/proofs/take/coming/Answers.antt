@@ -2,8 +2,8 @@ use Rattle.std.proofs.Common.{◌≡◌, false}
 use Rattle.point_order.specs.Sets.{without_point}
 use Rattle.point_order.specs.Solid.{is_solid}
 use Rattle.edit_history.proofs.Cited.{ok_then}
-use Rattle.vertex_removal.specs.Coming.{HaveAllAcross}
-use Rattle.vertex_removal.specs.Refills.{IsRefilled}
+use Rattle.star_refill.specs.Coming.{HaveAllAcross}
+use Rattle.star_refill.specs.Refills.{IsRefilled}
 use Rattle.linked_mesh.proofs.Taken.{all_across, around_all, around_star, known_all}
 use Rattle.linked_mesh.proofs.take.coming.Goals as goal
 

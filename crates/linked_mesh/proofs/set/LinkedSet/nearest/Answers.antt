@@ -1,5 +1,5 @@
 use Rattle.std.proofs.Common.{subst, List, ℕ}
-use Rattle.near_vertex.specs.Points.{IsNearest}
+use Rattle.nearest_points.specs.Points.{IsNearest}
 use Rattle.linked_mesh.proofs.set.LinkedSet.nearest.Goals as goal
 
 pub nearest-requires : goal.nearest-requires

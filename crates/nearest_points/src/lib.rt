@@ -1,0 +1,6 @@
+//! The nearest of some points to a place: by distance, and among those as near by the least key.
+#![tactic(auto)]
+
+mod search;
+
+pub use search::first_among;

@@ -1,0 +1,2 @@
+//! The entries with which a mesh of four points begins.
+#![tactic(auto)]

@@ -1,0 +1,6 @@
+//! The cells that come where a point is taken, told from the cells at it and around it.
+#![tactic(auto)]
+
+mod coming;
+
+pub use coming::cells_for_star;
