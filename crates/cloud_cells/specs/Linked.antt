@@ -1,5 +1,5 @@
 -- The cells of a set of points that one owner changes.
-use Rattle.std.specs.Prelude.{◌≡◌, ℕ, List, Option, Some}
+use Rattle.std.specs.Prelude.{◌≡◌, ℕ, List, [], ◌∷◌, ◌++◌, Option, Some}
 use Rattle.point_order.specs.declared.cell.Cell.{Cell}
 use Rattle.point_order.specs.Facets.{points_of}
 use Rattle.list_laws.specs.Lists.{AreDistinct}
@@ -7,7 +7,9 @@ use Rattle.point_order.specs.Sets.{IsIn, with_point}
 use Rattle.hole_laws.specs.Edits.{IsNew, IsSolidSet}
 use Rattle.cloud_cells.specs.Clouds.{AreCellsOf}
 use Rattle.cloud_cells.specs.Digs.{IsHoleFilled}
-use Rattle.cloud_cells.specs.Nets.{slot_at}
+use Rattle.cloud_cells.specs.Nets.{AreMoved, slot_at}
+use Rattle.cloud_cells.specs.Parts.{Grow, InEach, InEachSet}
+use Rattle.cloud_cells.specs.Stars.{AreStarOf}
 
 -- the cells are those of some set with the point
 abbrev pub AreCellsWith : ℕ → List Cell → Type 0
@@ -20,6 +22,20 @@ AreCellsLacking p cells = (s : List ℕ) × AreCellsOf s cells × IsNew s p
 -- the cell of the slot, if it has one, has not the point
 abbrev pub NoneHasAt : ℕ → List (Option Cell) → ℕ → Type 0
 NoneHasAt v slots i = (q : Cell) → slot_at slots i ≡ Some q → ¬ (IsIn v (points_of q))
+
+-- the cells and some others are those of some set with the point
+pub record ArePartWith (v : ℕ) (cells : List Cell) : Type 0 where
+  pub others : List Cell
+  pub set : List ℕ
+  pub cells_of : AreCellsOf set (cells ++ others)
+  pub has : IsIn v set
+
+-- or of some set, to which the point is new
+pub record ArePartLacking (p : ℕ) (cells : List Cell) : Type 0 where
+  pub others : List Cell
+  pub set : List ℕ
+  pub cells_of : AreCellsOf set (cells ++ others)
+  pub new : IsNew set p
 
 -- the slot has a cell with the point
 pub record IsSlotOf (v : ℕ) (slots : List (Option Cell)) (i : ℕ) : Type 0 where
@@ -55,3 +71,15 @@ pub record ArrivalView : Type 0 where
   pub point : ℕ
   pub gone : List Cell
   pub fresh : List Cell
+
+-- ---- in a part
+
+-- the star of v was taken out of the cells, and the others are left: it is the star in each set of which these are cells
+pub record IsOpened (v : ℕ) (old rest star : List Cell) : Type 0 where
+  pub moved : AreMoved old (rest ++ star)
+  pub star_of : InEachSet old (λ s. AreStarOf s v star)
+
+-- p came to the cells, whatever others there are: it took some away, and brought others
+pub record HasComeTo (p : ℕ) (old gone fresh new : List Cell) : Type 0 where
+  pub arrived : InEach p old (λ s. HasArrived s p gone fresh)
+  pub grow : Grow (p ∷ []) old new

@@ -52,6 +52,14 @@ AreWithinNew reach p cells = (within : AreWithin reach cells) × IsNew within.se
 abbrev pub HaveRoomFor : Reach → List ℕ → List Cell → Type 0
 HaveRoomFor reach points cells = (within : AreWithin reach cells) × AreNew within.set points
 
+-- the claim holds of each set of which these and some others are the cells
+abbrev pub InEachSet : List Cell → (List ℕ → Type 0) → Type 0
+InEachSet cells Claim = (others : List Cell) (s : List ℕ) → AreCellsOf s (cells ++ others) → Claim s
+
+-- and the point is one of the set
+abbrev pub AreWithinAt : Reach → ℕ → List Cell → Type 0
+AreWithinAt reach v cells = (within : AreWithin reach cells) × IsIn v within.set
+
 -- the points but the four: all of them are keys, and none stands twice where the points stand once
 pub record AreOthers (four points others : List ℕ) : Type 0 where
   pub all : (q : ℕ) → IsIn q points → IsIn q four ⊎ IsIn q others

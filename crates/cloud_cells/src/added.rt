@@ -19,8 +19,8 @@ use std::marker::Model;
 /// it brought.
 #[derive(Drop)]
 pub struct Arrival {
-    hole: Hole,
-    point: Point,
+    pub(crate) hole: Hole,
+    pub(crate) point: Point,
 }
 
 impl Model for Arrival {

@@ -47,7 +47,7 @@ fn fill_over(net: &mut Net, edges: &mut Edges, gone: &[Spot], rim: &[Side], p: P
 
 // The cells of p and the rim come in the place of those that go, where so many slots are known to be free. On want of
 // memory the net has its cells still.
-fn filled_hole(
+pub(crate) fn filled_hole(
     net: &mut Net,
     edges: &mut Edges,
     spare: usize,

@@ -14,7 +14,7 @@ use point_order::{Cell, Point};
 use std::alloc::AllocError;
 
 // Whether a slot has a cell with the point.
-fn has_point_at(net: &Net, i: usize, v: Point) -> bool
+pub(crate) fn has_point_at(net: &Net, i: usize, v: Point) -> bool
     ensures { MatchBool result (IsSlotOf v net.now i) (NoneHasAt v net.now i) }
 {
     match net.spot_in(i) {

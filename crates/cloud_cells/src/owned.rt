@@ -17,6 +17,7 @@ use crate::hints::Hints;
 use crate::linked::{closed, with_point};
 use crate::marking::Marks;
 use crate::net::Net;
+use crate::reach::Reach;
 use crate::star::{give_back, star_of};
 use crate::walk::walked_to;
 use point_order::{Cell, Point, cells_in_order};
@@ -26,8 +27,8 @@ use std::marker::Model;
 /// The cells at a point, which were taken out of linked cells. Contracts see it as these.
 #[derive(Drop)]
 pub struct OpenStar {
-    star: Hole,
-    cells: Vec<Cell>,
+    pub(crate) star: Hole,
+    pub(crate) cells: Vec<Cell>,
 }
 
 impl Model for OpenStar {
@@ -89,7 +90,10 @@ fn open_at(
 {
     let hint = walked_to(net, v, start);
     let first = with_point(net, v, hint);
-    let star = star_of(alloc, net, marks, v, first)?;
+    let star = match star_of(alloc, net, marks, v, first, Reach::Whole)? {
+        Some(star) => star,
+        None => unreachable!(),
+    };
     let cells = cells_of(alloc, &star.gone)?;
     take_all(net, &star.gone, 0);
     Ok(OpenStar { star, cells })

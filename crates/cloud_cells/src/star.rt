@@ -1,14 +1,15 @@
 //! The star of a point: the cells at it, and the facets around them.
 
-ghost use Rattle.std.specs.Prelude.{◌≡◌, ◌+◌, ◌++◌, ◌∷◌, [], length, IfOk, List, OnOk, ℕ};
+ghost use Rattle.std.specs.Prelude.{◌≡◌, ◌+◌, ◌++◌, ◌∷◌, [], length, IfOk, List, MatchBool, MatchOption, OnOk, ℕ};
 ghost use Rattle.point_order.specs.Facets.{facets_of};
 ghost use Rattle.point_order.specs.Sets.{IsIn};
 ghost use Rattle.point_order.specs.declared.cell.Cell.{Cell as CellOf};
-ghost use Rattle.cloud_cells.specs.Clouds.{AreCellsOf, AreCellsOfSome};
 ghost use Rattle.cloud_cells.specs.Linked.{IsSlotOf};
 ghost use Rattle.cloud_cells.specs.Marked.{AreMarkedIn, ArePicked};
 ghost use Rattle.cloud_cells.specs.Nets.{AreMoved, cells_of_slots};
+ghost use Rattle.cloud_cells.specs.Parts.{AreWithin, InEachSet};
 ghost use Rattle.cloud_cells.specs.Stars.{AreStarOf, CrossesAround, HaveRoom};
+ghost use Rattle.cloud_cells.specs.declared.reach.Reach.TheVariants.{Part};
 
 use crate::corners::Face;
 use crate::dig::{Hole, Side, find};
@@ -30,7 +31,7 @@ fn side_of(net: &Net, spot: &Spot, facet: &Face, k: usize) -> Side {
 }
 
 // Crosses facet k of a found cell at v. Where the facet has v, the cell behind it is found, if it was not; else the
-// facet is one of the rim.
+// facet is one of the rim. In a part that cell may be foreign: then the answer is no, and nothing is crossed.
 fn cross_around(
     net: &Net,
     marks: &mut Marks,
@@ -39,70 +40,77 @@ fn cross_around(
     facet: &Face,
     k: usize,
     star: &mut Hole,
-) -> Result<(), AllocError>
-    requires cells { AreCellsOfSome (cells_of_slots net.now) }
+    reach: Reach,
+) -> Result<bool, AllocError>
+    requires within { AreWithin reach (cells_of_slots net.now) }
     requires among { IsIn spot.now star.old.gone.items }
     requires facet { IsIn facet.now (facets_of spot.now) }
     requires marked { AreMarkedIn net.now marks.old star.old.gone.items }
     ensures more { OnOk result ((more : List CellOf) × (star.new.gone.items ≡ star.old.gone.items ++ more)) }
     ensures marked { OnOk result (AreMarkedIn net.now marks.new star.new.gone.items) }
-    ensures crossed { OnOk result ((s : List ℕ) → AreCellsOf s (cells_of_slots net.now) →
-        CrossesAround s v (facet.now ∷ []) star.old.gone.items star.new.gone.items) }
+    ensures crossed { IfOk result (λ could. MatchBool could (InEachSet (cells_of_slots net.now) (λ s.
+        CrossesAround s v (facet.now ∷ []) star.old.gone.items star.new.gone.items)) (reach ≡ Part)) }
 {
     if !facet.has(v) {
         star.rim.push(side_of(net, spot, facet, k))?;
-        return Ok(());
+        return Ok(true);
     }
-    let door = match net.across(spot, facet, k, Reach::Whole) {
+    let door = match net.across(spot, facet, k, reach) {
         Some(door) => door,
-        None => unreachable!(),
+        None => return Ok(false),
     };
     if marks.is_gone(door.place) {
-        return Ok(());
+        return Ok(true);
     }
     let other = net.cell_in(door.place);
     find(marks, &mut star.gone, other, door.place)?;
-    Ok(())
+    Ok(true)
 }
 
-// Crosses the four facets of a found cell.
+// Crosses the four facets of a found cell, where none is in the way of a foreign cell.
 fn explore_around(
     net: &Net,
     marks: &mut Marks,
     v: Point,
     spot: &Spot,
     star: &mut Hole,
-) -> Result<(), AllocError>
-    requires cells { AreCellsOfSome (cells_of_slots net.now) }
+    reach: Reach,
+) -> Result<bool, AllocError>
+    requires within { AreWithin reach (cells_of_slots net.now) }
     requires among { IsIn spot.now star.old.gone.items }
     requires marked { AreMarkedIn net.now marks.old star.old.gone.items }
     ensures more { OnOk result ((more : List CellOf) × (star.new.gone.items ≡ star.old.gone.items ++ more)) }
     ensures marked { OnOk result (AreMarkedIn net.now marks.new star.new.gone.items) }
-    ensures explored { OnOk result ((s : List ℕ) → AreCellsOf s (cells_of_slots net.now) →
-        CrossesAround s v (facets_of spot.now) star.old.gone.items star.new.gone.items) }
+    ensures explored { IfOk result (λ could. MatchBool could (InEachSet (cells_of_slots net.now) (λ s.
+        CrossesAround s v (facets_of spot.now) star.old.gone.items star.new.gone.items)) (reach ≡ Part)) }
 {
     let facets = spot.cell().facets();
     let mut k = 0;
     for facet in &facets {
-        cross_around(net, marks, v, spot, facet, k, star)?;
+        let could = cross_around(net, marks, v, spot, facet, k, star, reach)?;
+        if !could {
+            return Ok(false);
+        }
         k += 1;
     }
-    Ok(())
+    Ok(true)
 }
 
-// The cells at v, from that of a slot on. The net is only looked at.
+// The cells at v, from that of a slot on. The net is only looked at. In a part one of them may be foreign: then there is
+// no answer.
 pub(crate) fn star_of(
     alloc: Global,
     net: &Net,
     marks: &mut Marks,
     v: Point,
     first: usize,
-) -> Result<Hole, AllocError>
-    requires cells { AreCellsOfSome (cells_of_slots net.now) }
+    reach: Reach,
+) -> Result<Option<Hole>, AllocError>
+    requires within { AreWithin reach (cells_of_slots net.now) }
     requires first { IsSlotOf v net.now first }
-    ensures picked { IfOk result (λ star. ArePicked (cells_of_slots net.now) star.gone.items) }
-    ensures star { IfOk result (λ star. (s : List ℕ) → AreCellsOf s (cells_of_slots net.now) →
-        AreStarOf s v star.gone.items) }
+    ensures { IfOk result (λ found. MatchOption found (reach ≡ Part) (λ star.
+        ArePicked (cells_of_slots net.now) star.gone.items
+        × InEachSet (cells_of_slots net.now) (λ s. AreStarOf s v star.gone.items))) }
 {
     let mut star = Hole::new(alloc);
     marks.begin(net.len())?;
@@ -110,10 +118,13 @@ pub(crate) fn star_of(
     let mut explored = 0;
     'star: while explored < star.gone.len() {
         let spot = star.gone[explored].copied();
-        explore_around(net, marks, v, &spot, &mut star)?;
+        let could = explore_around(net, marks, v, &spot, &mut star, reach)?;
+        if !could {
+            return Ok(None);
+        }
         explored += 1;
     }
-    Ok(star)
+    Ok(Some(star))
 }
 
 // Puts the cells that were taken out back. The slots of all but so many were noted to be free.

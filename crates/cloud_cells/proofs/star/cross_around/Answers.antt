@@ -3,35 +3,31 @@ use Rattle.std.proofs.Common.{sym, ◌∙◌}
 use Rattle.list_laws.proofs.Cited.{among_from, among_true, not_both}
 use Rattle.point_order.specs.Facets.{points_on}
 use Rattle.cloud_cells.specs.Nets.{cells_of_slots}
-use Rattle.cloud_cells.specs.declared.reach.Reach.TheVariants.{Part, Whole}
 use Rattle.cloud_cells.proofs.Marked.{mark_below, marked_gone}
+use Rattle.cloud_cells.proofs.Moving.{first_distinct}
 use Rattle.cloud_cells.proofs.StarSearch.{crossed_apart, crossed_before, crossed_now}
-use Rattle.cloud_cells.proofs.Standing.{other_of, other_there, some_other}
+use Rattle.cloud_cells.proofs.Standing.{other_beside, other_there, whole_other}
 use Rattle.cloud_cells.proofs.star.cross_around.Goals as goal
 
 pub returns-then-not-has-clause-crossed : goal.returns-then-not-has-clause-crossed
-returns-then-not-has-clause-crossed c s k crossed t =
+returns-then-not-has-clause-crossed c others s k crossed t =
     crossed_apart s c.args.v crossed c.args.facet.now c.args.star.now.gone.items t
     (λ j. not_both c.has.result (c.has.ensures ∙ among_true c.args.v (points_on c.args.facet.now) j)
     c.if-not-has.true)
 
 pub across-requires : goal.across-requires
 across-requires c e =
-    let r = c.requires.cells in
-    some_other r.0 (cells_of_slots c.args.net.now) r.1 c.args.spot.now c.args.facet.now
-    (c.requires.marked.picked.among c.args.spot.now c.requires.among) c.requires.facet
-
-pub unreachable-requires : goal.unreachable-requires
-unreachable-requires c = let e : Whole ≡ Part = c.in-None.ensures in cc e
+    whole_other c.args.reach (cells_of_slots c.args.net.now) c.requires.within c.args.spot.now c.args.facet.now
+    (c.requires.marked.picked.among c.args.spot.now c.requires.among) c.requires.facet e
 
 pub cell_in-other-requires : goal.cell_in-other-requires
 cell_in-other-requires c = (c.in-Some.ensures.other, c.in-Some.ensures.at)
 
 -- the cell was found before
 pub returns-then-is_gone-clause-crossed : goal.returns-then-is_gone-clause-crossed
-returns-then-is_gone-clause-crossed c s k crossed t =
+returns-then-is_gone-clause-crossed c others s k crossed t =
     let d = c.in-Some.ensures in
-    let o = other_of s (cells_of_slots c.args.net.now) k c.args.spot.now c.args.facet.now d.other d.is in
+    let o = other_beside s c.args.net.now others k c.args.spot.now c.args.facet.now d.other d.is in
     crossed_before s c.args.v crossed c.args.facet.now c.args.star.now.gone.items t k.solid.set c.args.spot.now d.other
     c.requires.among c.requires.facet o
     (c.requires.marked.gone c.in-Some.door.place d.other d.at (c.is_gone.ensures.0 c.if-is_gone.true))
@@ -47,15 +43,17 @@ returns-clause-more c = (c.cell_in-other.result ∷ [], c.in_ok-find.ensures.fou
 
 pub returns-clause-marked : goal.returns-clause-marked
 returns-clause-marked c =
+    let w = c.requires.within in
     rw (c.in_ok-find.ensures.marks, c.in_ok-find.ensures.found)
-    (marked_gone (λ q. Unit {0}) c.args.net.now c.args.marks.now c.args.star.now.gone.items c.requires.cells.1.once
+    (marked_gone (λ q. Unit {0}) c.args.net.now c.args.marks.now c.args.star.now.gone.items
+    (first_distinct (cells_of_slots c.args.net.now) w.others w.cells_of.once)
     c.requires.marked c.in-Some.door.place c.cell_in-other.result c.cell_in-other.ensures
     (λ z. not_both c.is_gone.result (c.is_gone.ensures.1 z) c.if-is_gone.false))
 
 pub returns-clause-crossed : goal.returns-clause-crossed
-returns-clause-crossed c s k crossed t =
+returns-clause-crossed c others s k crossed t =
     let x = c.cell_in-other.result in
-    let o = other_of s (cells_of_slots c.args.net.now) k c.args.spot.now c.args.facet.now x
+    let o = other_beside s c.args.net.now others k c.args.spot.now c.args.facet.now x
     (other_there c.args.net.now c.args.spot.now c.args.facet.now c.in-Some.door.place x c.in-Some.ensures
     c.cell_in-other.ensures) in
     rw c.in_ok-find.ensures.found

@@ -1,8 +1,8 @@
-use Rattle.std.proofs.Common.{ℕ, ◌≡◌, List, ◌++◌, take}
+use Rattle.std.proofs.Common.{◌≡◌, List, ◌++◌, take}
 use Rattle.point_order.specs.declared.cell.Cell.{Cell}
-use Rattle.cloud_cells.specs.Clouds.{AreCellsOf}
 use Rattle.cloud_cells.specs.Marked.{AreMarkedIn}
 use Rattle.cloud_cells.specs.Nets.{cells_of_slots}
+use Rattle.cloud_cells.specs.Parts.{InEachSet}
 use Rattle.cloud_cells.specs.Stars.{CrossesAround}
 use Rattle.cloud_cells.proofs.star.explore_around.Given as goal
 
@@ -10,6 +10,6 @@ abbrev pub invariant-loop-facet : goal.invariant-loop-facet
 invariant-loop-facet l =
     ((more : List Cell) × (l.star.gone.items ≡ l.initial.star.gone.items ++ more))
     × AreMarkedIn l.net l.marks l.star.gone.items
-    × ((s : List ℕ) → AreCellsOf s (cells_of_slots l.net) →
+    × InEachSet (cells_of_slots l.net) (λ s.
     CrossesAround s l.v (take l.facet-index l.facet-items) l.initial.star.gone.items l.star.gone.items)
     × (l.k ≡ l.facet-index)

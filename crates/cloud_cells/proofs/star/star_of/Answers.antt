@@ -1,4 +1,5 @@
 use Rattle.std.specs.Prelude.{◌≡◌, slice_index_or}
+use Rattle.std.proofs.lemmas.Bool.{MatchBool-at_false, MatchBool-at_true}
 use Rattle.std.proofs.Common.{refl, inl, sym, ◌∙◌, ap, subst, List, ◌<◌, ◌≤◌, ◌++◌, length, [], ◌∷◌, arith}
 use Rattle.list_laws.proofs.Cited.{at_place, in_left, one_value}
 use Rattle.point_order.specs.declared.cell.Cell.{Cell}
@@ -7,6 +8,7 @@ use Rattle.point_order.specs.Sets.{IsIn}
 use Rattle.cloud_cells.specs.Nets.{cells_of_slots}
 use Rattle.cloud_cells.specs.Marked.{mark_at}
 use Rattle.cloud_cells.proofs.Marked.{marked_gone, marked_none, picked_few, slot_below}
+use Rattle.cloud_cells.proofs.Moving.{first_distinct}
 use Rattle.cloud_cells.proofs.Nets.{live_in}
 use Rattle.cloud_cells.proofs.StarSearch.{star_begins, star_found, star_on}
 use Rattle.cloud_cells.proofs.star.star_of.Goals as goal
@@ -42,13 +44,14 @@ star-init c =
     (let r = c.in_ok-begin.ensures.room in omega (arith, r, c.len.ensures)) in
     let low : mark_at marks c.args.first < marks.stamp = c.in_ok-begin.ensures.none c.args.first in
     rw (e.marks, found) (
-      marked_gone (λ q. Unit {0}) c.args.net.now marks [] c.requires.cells.1.once
+      marked_gone (λ q. Unit {0}) c.args.net.now marks []
+          (first_distinct old c.requires.within.others c.requires.within.cells_of.once)
           (marked_none (λ q. Unit {0}) c.args.net.now marks [] room c.in_ok-begin.ensures.none refl)
           c.args.first x c.cell_in.ensures
           (λ z. (let k : mark_at marks c.args.first ≡ marks.stamp = z in absurd (omega (arith, low, k)))),
       (x, inl refl),
-      λ s k. star_begins s c.args.v x (record {
-        listed = (k.members x).0 (live_in c.args.net.now c.args.first x c.cell_in.ensures);
+      λ others s k. star_begins s c.args.v x (record {
+        listed = (k.members x).0 (in_left x old others (live_in c.args.net.now c.args.first x c.cell_in.ensures));
         has = subst (λ (q : Cell). IsIn c.args.v (points_of q)) there f.has;
       }),
     )
@@ -64,7 +67,7 @@ star-smaller c =
 pub star-preserved : goal.star-preserved
 star-preserved c =
     let v = c.star.invariant in
-    let e = c.in_ok-explore_around.ensures in
+    let e = c.in_ok-could.ensures in
     let old = c.star.star.gone.items in
     let new = c.explore_around.new.star.gone.items in
     let less : c.star.explored < length old = omega (arith, c.len-in-star.ensures, c.star-test.true) in
@@ -72,14 +75,17 @@ star-preserved c =
     c.index.ensures in (
       e.marked,
       (v.1.0, subst (λ (g : List Cell). IsIn v.1.0 g) (sym e.more.1) (in_left v.1.0 old e.more.0 v.1.1)),
-      λ s k. star_on s c.args.v c.star.explored old new c.copied-spot.result less at e.more (e.explored s k) (v.2 s k),
+      λ others s k. star_on s c.args.v c.star.explored old new c.copied-spot.result less at e.more
+          (MatchBool-at_true _ _ c.if-not-could.false e.explored others s k) (v.2 others s k),
     )
 
-pub returns-clause-picked : goal.returns-clause-picked
-returns-clause-picked c = c.star.invariant.0.picked
+pub returns-then-not-could : goal.returns-then-not-could
+returns-then-not-could c = MatchBool-at_false _ _ c.if-not-could.true c.in_ok-could.ensures.explored
 
-pub returns-clause-star : goal.returns-clause-star
-returns-clause-star c s k =
-    let v = c.star.invariant in
-    star_found s c.args.v c.star.explored c.star.star.gone.items v.1.0 k.solid.set
-    (omega (arith, c.len-in-star.ensures, c.star-test.false)) v.0.picked.once v.1.1 (v.2 s k)
+pub returns : goal.returns
+returns c =
+    let v = c.star.invariant in (
+      v.0.picked,
+      λ others s k. star_found s c.args.v c.star.explored c.star.star.gone.items v.1.0 k.solid.set
+          (omega (arith, c.len-in-star.ensures, c.star-test.false)) v.0.picked.once v.1.1 (v.2 others s k),
+    )
