@@ -1,0 +1,12 @@
+pub mod Known
+pub mod Beside
+pub mod Calm
+pub mod Swapped
+pub mod Sorted
+pub mod Legal
+pub mod Taken
+pub mod Changed
+pub mod Worked
+pub mod Keys
+pub mod Left
+pub mod Cited

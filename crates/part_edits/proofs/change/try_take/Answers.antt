@@ -1,0 +1,21 @@
+use Rattle.std.proofs.Common.{◌∙◌, sym}
+use Rattle.part_edits.proofs.Changed.{made_flat, made_missing, made_removed, part_with}
+use Rattle.part_edits.proofs.change.try_take.Goals as goal
+
+pub returns-then-not-has-clause-made : goal.returns-then-not-has-clause-made
+returns-then-not-has-clause-made c =
+    made_missing c.args.known.now.keys c.args.p c.args.linked.now.cells (sym c.has.ensures ∙ c.if-not-has.true)
+
+pub take_here-requires : goal.take_here-requires
+take_here-requires c =
+    part_with c.args.known.now.keys c.args.p c.args.linked.now.cells c.requires (sym c.has.ensures ∙ c.if-not-has.false)
+
+pub returns-then-is_removed-clause-made : goal.returns-then-is_removed-clause-made
+returns-then-is_removed-clause-made c =
+    made_removed c.args.known.now.keys c.args.p c.args.linked.now.cells c.take_here.new.linked.cells
+    (sym c.has.ensures ∙ c.if-not-has.false) (rw (c.in-Some.is, c.if-is_removed.true) at c.in_ok-found.ensures.taken)
+
+pub returns-else-is_removed-clause-made : goal.returns-else-is_removed-clause-made
+returns-else-is_removed-clause-made c =
+    made_flat c.args.known.now.keys c.args.p c.args.linked.now.cells c.take_here.new.linked.cells
+    (sym c.has.ensures ∙ c.if-not-has.false) (rw (c.in-Some.is, c.if-is_removed.false) at c.in_ok-found.ensures.taken)

@@ -1,0 +1,10 @@
+mod Counted
+mod Claims
+mod Moves
+mod Opened
+mod Shut
+mod Seats
+mod Worked
+mod Staying
+mod Hands
+mod Between

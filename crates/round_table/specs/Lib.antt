@@ -1,0 +1,9 @@
+pub mod Counts
+pub mod Rounds
+pub mod Workers
+pub mod Rule
+pub mod Plays
+pub mod Closed
+pub mod Jobs
+pub mod Taken
+pub mod Laws
