@@ -19,7 +19,7 @@ use Rattle.point_order.specs.Sets.{IsIn}
 use Rattle.del_laws.proofs.Cited.{listed_is_cell}
 use Rattle.hole_laws.specs.Edits.{IsSolidSet, GoesFrom}
 use Rattle.hole_laws.proofs.Cited.{one_gone_each}
-use Rattle.cell_store.specs.Grids.{bucket_of}
+use Rattle.bucket_grid.specs.Grids.{bucket_of}
 use Rattle.cell_store.specs.Buckets.{BucketContent, InHand, bucket_at}
 use Rattle.cell_store.specs.Missing.{ArePointsHeld, IsCellMissing}
 use Rattle.cell_store.specs.Ready.{AreHeld}

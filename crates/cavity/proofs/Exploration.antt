@@ -9,7 +9,7 @@ use Rattle.point_order.specs.Sets.{IsIn}
 use Rattle.hole_laws.specs.Edits.{IsSet}
 use Rattle.hole_laws.proofs.Cited.{on_cell, some_on}
 use Rattle.cell_store.specs.Buckets.{InHand, bucket_at}
-use Rattle.cell_store.specs.Grids.{bucket_of}
+use Rattle.bucket_grid.specs.Grids.{bucket_of}
 use Rattle.cell_store.specs.Missing.{ArePointsHeld}
 use Rattle.cell_store.specs.Shares.{NoneInHand, points_on}
 

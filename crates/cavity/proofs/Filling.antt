@@ -13,7 +13,7 @@ use Rattle.hole_laws.specs.Lists.{cell_over}
 use Rattle.hole_laws.specs.Edits.{GoesFrom, IsRimOf, IsFresh}
 use Rattle.hole_laws.proofs.Cited.{cells_after, fresh_are_near, fresh_have_point, old_lack_point, one_fresh_each}
 use Rattle.hole_laws.proofs.Cited.{region_connected, on_cell}
-use Rattle.cell_store.specs.Grids.{bucket_of}
+use Rattle.bucket_grid.specs.Grids.{bucket_of}
 use Rattle.cell_store.specs.Buckets.{bucket_at}
 use Rattle.cavity.specs.Digs.{Digging, IsDoneIn}
 use Rattle.hole_laws.specs.Digs.{AreCrossed, IsFacetApart}

@@ -5,7 +5,7 @@ use Rattle.point_order.specs.declared.cell.Cell.{Cell}
 use Rattle.point_order.specs.Complex.{complex}
 use Rattle.point_order.specs.Sets.{with_point}
 use Rattle.hole_laws.specs.Edits.{IsSolidSet, IsNew}
-use Rattle.cell_store.specs.Grids.{bucket_of}
+use Rattle.bucket_grid.specs.Grids.{bucket_of}
 use Rattle.cell_store.specs.Buckets.{InHand, bucket_at}
 use Rattle.cell_store.specs.Changes.{IsChange}
 use Rattle.cell_store.specs.Ready.{AreHeld}

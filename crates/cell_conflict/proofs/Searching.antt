@@ -8,10 +8,10 @@ use Rattle.point_order.specs.Complex.{complex}
 use Rattle.point_order.specs.Facets.{points_of}
 use Rattle.point_order.specs.Sets.{IsIn, IsAscending}
 use Rattle.cell_store.specs.Buckets.{InHand, BucketContent, bucket_at, cells_in}
-use Rattle.cell_store.specs.Grids.{bucket_of}
+use Rattle.bucket_grid.specs.Grids.{bucket_of}
 use Rattle.cell_store.specs.Shares.{Shows, NoneInHand}
 use Rattle.cell_store.specs.Swaps.{touches}
-use Rattle.cell_stars.proofs.Cited.{bucket_below}
+use Rattle.bucket_grid.proofs.Cited.{bucket_below}
 use Rattle.cell_store.proofs.Cited.{point_held, solid_set, touched}
 use Rattle.cell_store.specs.Meshes.{AllInHand, HasPlaces}
 use Rattle.del_laws.proofs.Cited.{listed_is_cell}

@@ -15,7 +15,7 @@ use Rattle.point_order.specs.Sets.{IsIn, IsAscending}
 use Rattle.cell_stars.specs.AtOnce.{AreKeyed, AreNumberedTo, FromCellHere, GainsPlaces, HaveKeys, StandsAtHere}
 use Rattle.cell_stars.specs.AtOnce.{StandsHere}
 use Rattle.list_laws.specs.Lists.{Gathers}
-use Rattle.cell_stars.specs.Grids.{bucket_of}
+use Rattle.bucket_grid.specs.Grids.{bucket_of}
 use Rattle.cell_stars.specs.Places.{AreFiled, AreStars, IsStarred, IsStarredBy, cells_of, lies_in, star_at, at_slot}
 use Rattle.cell_stars.specs.Swaps.{Differ, touches}
 use Rattle.cell_stars.specs.Moves.{AreKeysOf}

@@ -1,5 +1,4 @@
 pub mod CellLaws
-pub mod GridLaws
 pub mod HomeLaws
 pub mod Least
 pub mod KeyLaws

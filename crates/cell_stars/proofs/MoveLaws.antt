@@ -13,7 +13,7 @@ use Rattle.point_order.specs.Sets.{IsIn, IsAscending}
 use Rattle.cell_stars.specs.Places.{Placed, AreStars, IsStarred, cells_of, lies_in, touches_in, at_slot}
 use Rattle.cell_stars.specs.Moves.{IsStarFor, AreFreed, IsFreed, AreComing, AreNew, IsComing, StandsYet, IsVacant}
 use Rattle.point_order.specs.Sets.{is_among}
-use Rattle.cell_stars.specs.Grids.{bucket_of}
+use Rattle.bucket_grid.specs.Grids.{bucket_of}
 use Rattle.cell_stars.specs.Plans.{AreFor}
 use Rattle.point_order.specs.CellOrder.{AreSameCells}
 use Rattle.cell_stars.specs.Swaps.{Differ}

@@ -1,4 +1,3 @@
-pub mod Grids
 pub mod Swaps
 pub mod Homes
 pub mod Places

@@ -7,7 +7,7 @@ use Rattle.point_order.specs.declared.cell.Cell.{Cell}
 use Rattle.point_order.specs.CellOrder.{cell_cmp}
 use Rattle.point_order.specs.Facets.{points_of}
 use Rattle.point_order.specs.Sets.{IsIn}
-use Rattle.cell_stars.specs.Grids.{bucket_of}
+use Rattle.bucket_grid.specs.Grids.{bucket_of}
 
 -- one of the finite vertices of the cell lies in the bucket
 abbrev pub touches : ℕ → ℕ → Cell → Bool

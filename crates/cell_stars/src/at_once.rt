@@ -16,12 +16,12 @@ use crate::around::Around;
 use crate::cells::Cells;
 use crate::doors::links_of;
 use crate::free::Free;
-use crate::grid::Grid;
 use crate::links::{Around4, Links};
 use crate::numbers::as_number;
 use crate::parts::{count_for, filed_keys};
 use crate::slots::Slot;
 use crate::steps::place_of;
+use bucket_grid::Grid;
 use point_order::{Cell, Point, points_in_order};
 use std::alloc::{AllocError, Global};
 

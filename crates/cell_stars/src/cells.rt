@@ -10,13 +10,13 @@ ghost use Rattle.cell_stars.specs.Stars.{cells_left, cells_around, cells_to_come
 
 use crate::around::{Around, copied_stars};
 use crate::free::Free;
-use crate::grid::Grid;
 use crate::guesses::links_at;
 use crate::links::{NONE, side_of};
 use crate::parts::{KeyPart, copied_parts, part_for};
 use crate::slots::{Slot, cell_at, copied_slots, place_among};
 use crate::star::{BucketCells, Star, StarCells};
 use crate::steps::{Steps, place_counted, place_of};
+use bucket_grid::Grid;
 use point_order::{Cell, Facet, Point};
 use std::alloc::{AllocError, Global};
 use std::fmt::{self, Debug, Formatter};

@@ -8,9 +8,9 @@ ghost use Rattle.cell_stars.specs.Places.{touches_in};
 ghost use Rattle.cell_stars.specs.Swaps.{touches as touches_of};
 
 use crate::cells::Cells;
-use crate::grid::Grid;
 use crate::order::touches;
 use crate::stock::{Stock, list_of};
+use bucket_grid::Grid;
 use point_order::Cell;
 use std::alloc::{AllocError, Global};
 

@@ -23,7 +23,6 @@ mod cells;
 mod coming;
 mod doors;
 mod free;
-mod grid;
 mod guesses;
 mod homes;
 mod joined;
@@ -49,7 +48,6 @@ mod vertices;
 mod writes;
 
 pub use cells::Cells;
-pub use grid::{BadGrid, Grid};
 pub use matched::Matched;
 pub use numbers::as_number;
 pub use plan::Plan;

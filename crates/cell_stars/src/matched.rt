@@ -5,12 +5,12 @@ ghost use Rattle.std.specs.Prelude.{◌≡◌, IfOk};
 ghost use Rattle.point_order.specs.Sets.{IsAscending};
 ghost use Rattle.cell_stars.specs.Plans.{AreVertices, IsOnceFor};
 
-use crate::grid::Grid;
 use crate::homes::Homes;
 use crate::joined::Joined;
 use crate::order::do_differ;
 use crate::stock::{Stock, list_of};
 use crate::vertices::add_vertices;
+use bucket_grid::Grid;
 use point_order::{Cell, Point, points_in_order};
 use std::alloc::{AllocError, Global};
 use std::fmt::{self, Debug, Formatter};

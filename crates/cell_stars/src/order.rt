@@ -6,7 +6,7 @@ ghost use Rattle.point_order.specs.Sets.{IsIn, IsAscending};
 ghost use Rattle.cell_stars.specs.Swaps.{cell_rest, touches as touches_of, Differ};
 ghost use Rattle.cell_stars.specs.Moves.{AreCellsMarked};
 
-use crate::grid::Grid;
+use bucket_grid::Grid;
 use point_order::{Cell, cells_in_order, has_cell};
 use std::cmp::Ordering;
 

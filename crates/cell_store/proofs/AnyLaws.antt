@@ -19,7 +19,7 @@ use Rattle.edit_history.specs.declared.history.Reply.TheVariants.{Occupied}
 use Rattle.edit_history.specs.Edits.{point_of, reply_to, arrived, changed, after}
 use Rattle.edit_history.specs.Histories.{replay, replay_from, IsLegal, IsLegalFrom}
 use Rattle.edit_history.proofs.Cited.{has_moved, leaves_set}
-use Rattle.cell_store.specs.Grids.{bucket_of}
+use Rattle.bucket_grid.specs.Grids.{bucket_of}
 use Rattle.cell_store.specs.Buckets.{BucketContent, bucket_at, cells_in}
 use Rattle.cell_store.specs.Points.{came, goal_of}
 use Rattle.cell_store.specs.Ready.{ChangeFindsCells}

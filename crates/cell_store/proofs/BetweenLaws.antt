@@ -23,7 +23,7 @@ use Rattle.edit_history.proofs.Cited.{inserts}
 use Rattle.del_laws.proofs.Cited.{complex_is_sorted, same_members}
 use Rattle.hole_laws.specs.Lists.{Goes}
 use Rattle.hole_laws.proofs.Cited.{changes_reached}
-use Rattle.cell_store.specs.Grids.{bucket_of}
+use Rattle.bucket_grid.specs.Grids.{bucket_of}
 use Rattle.cell_store.specs.Buckets.{BucketContent, InHand, bucket_at, cells_in, points_at}
 use Rattle.cell_store.specs.Swaps.{touches, swapped, without_cells}
 use Rattle.cell_store.specs.Shares.{IsSight}

@@ -5,8 +5,8 @@ use Rattle.std.specs.Prelude.{List, None, Option, Some, [], refl, ℕ, ◌<◌, 
 use Rattle.std.proofs.Common.{subst, sym}
 use Rattle.list_laws.specs.Lists.{IsIn}
 use Rattle.list_laws.proofs.Cited.{eq_same, filtered_from, filtered_true, some_of}
-use Rattle.cell_stars.specs.Grids.{bucket_of}
-use Rattle.cell_stars.proofs.Cited.{bucket_below}
+use Rattle.bucket_grid.specs.Grids.{bucket_of}
+use Rattle.bucket_grid.proofs.Cited.{bucket_below}
 use Rattle.cell_store.specs.Buckets.{BucketContent, InHand, bucket_at}
 use Rattle.cell_store.specs.Meshes.{IsWhole}
 use Rattle.cell_store.specs.Shares.{Shows}

@@ -19,8 +19,8 @@ use Rattle.del_laws.specs.Listed.{IsListed}
 use Rattle.del_laws.proofs.Cited.{listed_is_cell}
 use Rattle.edit_history.specs.declared.history.Entry.{Entry}
 use Rattle.edit_history.proofs.Cited.{merged_order}
-use Rattle.cell_stars.proofs.Cited.{bucket_below}
-use Rattle.cell_store.specs.Grids.{bucket_of}
+use Rattle.bucket_grid.proofs.Cited.{bucket_below}
+use Rattle.bucket_grid.specs.Grids.{bucket_of}
 use Rattle.cell_store.specs.Swaps.{touches}
 use Rattle.cell_store.specs.Buckets.{BucketContent, InHand, bucket_at}
 use Rattle.cell_store.specs.Shares.{Shows, Stands}

@@ -8,7 +8,7 @@ use Rattle.std.proofs.lemmas.List.{get_or-set_other}
 use Rattle.list_laws.proofs.Cited.{among_from, among_true, eq_same, filtered_from, filtered_true, one_value, same_test}
 use Rattle.list_laws.proofs.Cited.{some_of}
 use Rattle.point_order.specs.Sets.{is_among}
-use Rattle.cell_store.specs.Grids.{bucket_of}
+use Rattle.bucket_grid.specs.Grids.{bucket_of}
 use Rattle.cell_store.specs.Buckets.{BucketContent, InHand, bucket_at, at_place, points_at}
 use Rattle.cell_store.specs.Shares.{Shows, IsShare, IsSight}
 use Rattle.cell_store.specs.Meshes.{EmptyStands, EmptyShows, FewerStand, FewerShow, PutStands, PutShows, PutIsMore}

@@ -12,7 +12,7 @@ use Rattle.edit_history.specs.declared.history.Entry.{Entry}
 use Rattle.cell_store.specs.Buckets.{BucketContent, InHand, Layout, StandAtPlaces, bucket_at, content_of, layout_at}
 use Rattle.cell_store.specs.Buckets.{points_at, shown}
 use Rattle.cell_store.specs.Changes.{IsDropped, IsNoted, IsPut}
-use Rattle.cell_store.specs.Grids.{bucket_of}
+use Rattle.bucket_grid.specs.Grids.{bucket_of}
 use Rattle.cell_store.specs.Ready.{HasPlaceFor, HasRoom, IsNoteReady, IsPointReady, ArePlansReady}
 use Rattle.cell_store.specs.declared.room.Exchange.{Exchange}
 use Rattle.cell_store.proofs.Layouts.{shown_is, shown_len, shown_set}

@@ -9,7 +9,7 @@ use Rattle.point_order.specs.Sets.{IsIn}
 use Rattle.del_laws.proofs.Cited.{listed_inside, listed_is_cell}
 use Rattle.cell_stars.specs.Places.{AreStars, all_keys, cells_of, lies_in, live}
 use Rattle.cell_stars.proofs.Cited.{in_own, keys_apart, live_at, withs_new}
-use Rattle.cell_store.specs.Grids.{bucket_of}
+use Rattle.bucket_grid.specs.Grids.{bucket_of}
 use Rattle.cell_store.specs.Buckets.{BucketContent, InHand, Layout, bucket_at, content_of, points_at}
 use Rattle.cell_store.specs.Shares.{Shows, ShowsSome}
 use Rattle.cell_store.specs.Swaps.{touches}

@@ -29,7 +29,7 @@ use Rattle.edit_history.specs.Merging.{numbers}
 use Rattle.edit_history.proofs.Cited.{merged_order}
 use Rattle.del_laws.specs.Listed.{IsListed}
 use Rattle.del_laws.proofs.Cited.{complex_is_sorted, listed_is_cell, same_members}
-use Rattle.cell_store.specs.Grids.{bucket_of}
+use Rattle.bucket_grid.specs.Grids.{bucket_of}
 use Rattle.cell_store.specs.Buckets.{BucketContent, InHand, bucket_at, points_at}
 use Rattle.cell_store.specs.Shares.{Stands, IsSound, Shows, entries_share}
 use Rattle.cell_store.specs.Changes.{swapped_in, Follows, IsArrived, IsNext, IsSwapped, IsNoted}
@@ -40,7 +40,7 @@ use Rattle.cell_store.specs.Swaps.{touches}
 use Rattle.cell_store.specs.Meshes.{AllInHand, HasPlaces, IsWhole, MeshView, IsHoldOf, with_entry, by_number}
 use Rattle.cell_store.specs.Meshes.{history_in, mesh_in, all_entries, all_cells, HistoryIs, MeshIs, MeshGathersHistory}
 use Rattle.cell_store.specs.Meshes.{MeshGathersComplex, AllAreHeld, MoreAreHeld, within_64_bits}
-use Rattle.cell_stars.proofs.Cited.{bucket_below}
+use Rattle.bucket_grid.proofs.Cited.{bucket_below}
 use Rattle.cell_store.proofs.HandLaws.{fewer_stand, held_point}
 use Rattle.cell_store.proofs.NextLaws.{next_entry}
 use Rattle.cell_store.proofs.ShareLaws.{touched, sound_of, stands_shows}

@@ -24,7 +24,7 @@ use Rattle.edit_history.proofs.Cited.{arrived_still, leaves_set, legal_more, rep
 use Rattle.del_laws.proofs.Cited.{complex_is_sorted, same_members}
 use Rattle.hole_laws.specs.Edits.{IsSolidSet}
 use Rattle.hole_laws.proofs.Cited.{stays_solid}
-use Rattle.cell_store.specs.Grids.{bucket_of}
+use Rattle.bucket_grid.specs.Grids.{bucket_of}
 use Rattle.cell_store.specs.Buckets.{BucketContent, bucket_at}
 use Rattle.cell_store.specs.Swaps.{touches, swapped}
 use Rattle.cell_store.specs.Shares.{IsShare, cells_share, entries_share}

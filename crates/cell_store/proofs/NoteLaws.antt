@@ -12,7 +12,7 @@ use Rattle.point_order.specs.Sets.{IsIn, IsAscending, is_among, with_point, with
 use Rattle.point_order.proofs.Cited.{in_with_new, with_cases}
 use Rattle.edit_history.specs.declared.history.Entry.{Entry}
 use Rattle.edit_history.proofs.Cited.{among_gap}
-use Rattle.cell_store.specs.Grids.{bucket_of}
+use Rattle.bucket_grid.specs.Grids.{bucket_of}
 use Rattle.cell_stars.specs.Places.{Placed, cells_of}
 use Rattle.cell_store.specs.Buckets.{BucketContent, Layout, InHand, Room, bucket_at, content_of, layout_at, shown}
 use Rattle.cell_store.specs.Buckets.{StandAtPlaces, points_at}

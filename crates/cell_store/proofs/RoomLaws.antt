@@ -14,7 +14,7 @@ use Rattle.list_laws.proofs.Cited.{to_some}
 use Rattle.point_order.specs.declared.cell.Cell.{Cell}
 use Rattle.point_order.specs.Facets.{points_of}
 use Rattle.point_order.specs.Sets.{IsIn}
-use Rattle.cell_store.specs.Grids.{bucket_of}
+use Rattle.bucket_grid.specs.Grids.{bucket_of}
 use Rattle.point_order.specs.Sets.{IsAscending}
 use Rattle.cell_stars.specs.Places.{Placed, cells_of, swapped_at}
 use Rattle.list_laws.specs.Lists.{Gathers}

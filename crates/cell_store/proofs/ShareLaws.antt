@@ -18,7 +18,7 @@ use Rattle.edit_history.specs.Histories.{replay}
 use Rattle.edit_history.proofs.Cited.{leaves_set}
 use Rattle.del_laws.proofs.Cited.{listed_facets}
 use Rattle.hole_laws.specs.Edits.{IsSolidSet}
-use Rattle.cell_store.specs.Grids.{bucket_of}
+use Rattle.bucket_grid.specs.Grids.{bucket_of}
 use Rattle.cell_store.specs.Buckets.{BucketContent, InHand, bucket_at, cells_in}
 use Rattle.cell_store.specs.Swaps.{touches}
 use Rattle.hole_laws.specs.Others.{IsOtherOf, HaveNoOther}

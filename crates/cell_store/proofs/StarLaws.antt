@@ -8,7 +8,7 @@ use Rattle.point_order.specs.declared.cell.Cell.{Cell}
 use Rattle.point_order.specs.declared.cell.Facet.{Facet}
 use Rattle.point_order.specs.Facets.{points_of, facets_of}
 use Rattle.point_order.specs.Sets.{IsIn, is_among}
-use Rattle.cell_stars.specs.Grids.{bucket_of}
+use Rattle.bucket_grid.specs.Grids.{bucket_of}
 use Rattle.cell_stars.specs.Places.{lies_in}
 use Rattle.hole_laws.specs.Others.{IsOtherOf, HaveNoOther}
 use Rattle.cell_store.specs.Shares.{points_on}

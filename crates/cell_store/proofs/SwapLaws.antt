@@ -6,7 +6,7 @@ use Rattle.point_order.specs.declared.cell.Cell.{Cell}
 use Rattle.list_laws.proofs.Cited.{if_some}
 use Rattle.cell_store.specs.Buckets.{InHand, Layout, Room, StandAtPlaces, bucket_at, layout_at, shown, swap_after}
 use Rattle.cell_store.specs.Changes.{swapped_in}
-use Rattle.cell_store.specs.Grids.{bucket_of}
+use Rattle.bucket_grid.specs.Grids.{bucket_of}
 use Rattle.cell_store.specs.Ready.{AreExchanged, AreMade, FindsCells, HasPlaceFor, HasRoom, IsExchangeMade, IsNoteReady}
 use Rattle.cell_store.specs.Ready.{IsPointReady, ArePlansReady, NextIs}
 use Rattle.cell_store.specs.declared.room.Exchange.{Exchange}

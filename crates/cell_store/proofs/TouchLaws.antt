@@ -35,7 +35,7 @@ use Rattle.hole_laws.specs.Laws.{IsHeldPart, IsReached}
 use Rattle.hole_laws.specs.Lists.{Goes, AreJoined}
 use Rattle.hole_laws.proofs.Cited.{cells_after as insertion_cells, changes_reached, edits_commute, found_from_held}
 use Rattle.hole_laws.proofs.Cited.{goes_in_conflict, rest_set, solid_near, some_rim, stays_solid}
-use Rattle.cell_store.specs.Grids.{bucket_of}
+use Rattle.bucket_grid.specs.Grids.{bucket_of}
 use Rattle.cell_store.specs.Buckets.{BucketContent, InHand, bucket_at}
 use Rattle.cell_store.specs.Swaps.{touches, without_cells, is_cell_among}
 use Rattle.cell_store.specs.Shares.{IsSight, Shows, cells_share, points_on}

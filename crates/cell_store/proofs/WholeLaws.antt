@@ -22,7 +22,7 @@ use Rattle.edit_history.proofs.Cited.{leaves_set}
 use Rattle.del_laws.specs.Keys.{AreKeys}
 use Rattle.del_laws.proofs.Cited.{complex_is_sorted}
 use Rattle.cell_store.specs.Buckets.{BucketContent, InHand, at_place, bucket_at, empty_hold}
-use Rattle.cell_store.specs.Grids.{bucket_of}
+use Rattle.bucket_grid.specs.Grids.{bucket_of}
 use Rattle.cell_store.specs.Meshes.{AllInHand, with_bucket}
 use Rattle.cell_store.specs.Shares.{IsShare, IsSound, Stands, cells_share, entries_share, points_share}
 use Rattle.cell_store.specs.Swaps.{touches}

@@ -5,7 +5,7 @@ use Rattle.point_order.specs.Sets.{with_point}
 use Rattle.point_order.specs.declared.cell.Cell.{Cell}
 use Rattle.edit_history.specs.declared.history.Edit.TheVariants.{Add}
 use Rattle.hole_laws.specs.Edits.{IsNew, IsSolidSet}
-use Rattle.cell_store.specs.Grids.{bucket_of}
+use Rattle.bucket_grid.specs.Grids.{bucket_of}
 use Rattle.cell_store.specs.Buckets.{BucketContent, InHand, bucket_at}
 use Rattle.cell_store.specs.Changes.{IsChange, IsDropped, IsPut, IsSwapped}
 use Rattle.cell_store.specs.Meshes.{IsWhole}

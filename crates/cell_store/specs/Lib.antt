@@ -1,4 +1,3 @@
-pub mod Grids
 pub mod Buckets
 pub mod Points
 pub mod Swaps

@@ -10,7 +10,7 @@ use Rattle.point_order.specs.Complex.{complex}
 use Rattle.edit_history.specs.declared.history.Entry.{Entry}
 use Rattle.edit_history.specs.Merging.{AreNumbered, numbers, places_of}
 use Rattle.hole_laws.specs.Edits.{IsSolidSet}
-use Rattle.cell_store.specs.Grids.{is_grid_size}
+use Rattle.bucket_grid.specs.Grids.{is_grid_size}
 use Rattle.cell_store.specs.Buckets.{BucketContent, InHand, empty_hold, bucket_at, at_place, no_room}
 use Rattle.cell_store.specs.Shares.{Stands, IsSound, Shows, IsShare, IsSight}
 use Rattle.cell_store.specs.Ready.{AreHeld}

@@ -5,7 +5,7 @@ use Rattle.std.specs.List.{flat_map}
 use Rattle.point_order.specs.declared.cell.Cell.{Cell}
 use Rattle.point_order.specs.Facets.{points_of}
 use Rattle.point_order.specs.Sets.{IsIn, is_among}
-use Rattle.cell_store.specs.Grids.{bucket_of}
+use Rattle.bucket_grid.specs.Grids.{bucket_of}
 use Rattle.cell_stars.specs.Places.{Placed, cells_of}
 use Rattle.cell_stars.specs.Plans.{PlanView, Allows, MakesExchange}
 use Rattle.cell_stars.specs.Turns.{AreReady, IsTurn, IsWayBack, WasTurned}

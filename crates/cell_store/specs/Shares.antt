@@ -12,7 +12,7 @@ use Rattle.edit_history.specs.Edits.{point_of}
 use Rattle.edit_history.specs.Histories.{replay, IsLegal}
 use Rattle.del_laws.specs.Keys.{AreKeys}
 use Rattle.hole_laws.specs.Edits.{IsSolidSet}
-use Rattle.cell_store.specs.Grids.{bucket_of}
+use Rattle.bucket_grid.specs.Grids.{bucket_of}
 use Rattle.hole_laws.specs.Others.{IsOtherOf}
 use Rattle.cell_store.specs.Swaps.{touches}
 use Rattle.cell_store.specs.Buckets.{BucketContent, InHand, bucket_at}

@@ -4,7 +4,7 @@ use Rattle.point_order.specs.declared.cell.Cell.{Cell}
 use Rattle.point_order.specs.declared.cell.Facet.{Facet}
 use Rattle.point_order.specs.Complex.{complex}
 use Rattle.point_order.specs.Sets.{IsIn}
-use Rattle.cell_store.specs.Grids.{bucket_of}
+use Rattle.bucket_grid.specs.Grids.{bucket_of}
 use Rattle.cell_store.specs.Buckets.{InHand}
 use Rattle.cell_store.specs.Shares.{Shows, IsAcross, IsInHandFor, NoneInHand, points_on}
 use Rattle.cell_store.specs.declared.star.Across.{Across}

@@ -18,7 +18,8 @@ ghost use Rattle.cell_store.specs.Stars.{cells_around, cells_left, cells_to_come
 
 use crate::note::{add_entry, change_points, put_in, take_out};
 use crate::star::{Other, other_among};
-use cell_stars::{BucketCells, Cells, Grid, Matched, Plan, Star, StarCells, Steps, Stock};
+use bucket_grid::Grid;
+use cell_stars::{BucketCells, Cells, Matched, Plan, Star, StarCells, Steps, Stock};
 use edit_history::Entry;
 use point_order::{Cell, Facet, Point};
 use std::alloc::{AllocError, Global};

@@ -4,7 +4,7 @@ ghost use Rattle.std.specs.Prelude.{◌≡◌, ℕ, ◌-◌, ◌<◌, true, fals
 ghost use Rattle.point_order.specs.Sets.{is_among};
 ghost use Rattle.point_order.specs.declared.cell.Cell.{Cell};
 ghost use Rattle.edit_history.specs.Edits.{edit_points, point_of};
-ghost use Rattle.cell_store.specs.Grids.{bucket_of as number_of};
+ghost use Rattle.bucket_grid.specs.Grids.{bucket_of as number_of};
 ghost use Rattle.cell_store.specs.Buckets.{room_both, room_for, swap_after, bucket_at, points_at};
 ghost use Rattle.cell_store.specs.Changes.{IsArrived, IsDropped, IsNoted, IsPut, IsSwapped};
 ghost use Rattle.cell_store.specs.Missing.{ArePointsHeld};

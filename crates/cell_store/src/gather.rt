@@ -14,7 +14,7 @@ ghost use Rattle.cell_store.specs.Gathered.{AreGatheredFrom, HasHome, home_of, i
 use crate::bucket::Bucket;
 use crate::hold::Hold;
 use crate::mesh::Mesh;
-use cell_stars::Grid;
+use bucket_grid::Grid;
 use edit_history::Entry;
 use point_order::{Cell, cells_in_order};
 use std::alloc::{AllocError, Global};

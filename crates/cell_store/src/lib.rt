@@ -35,7 +35,8 @@ mod star;
 mod whole;
 
 pub use bucket::Bucket;
-pub use cell_stars::{BadGrid, BucketCells, Grid, Star, StarCells, Steps};
+pub use bucket_grid::{BadGrid, Grid};
+pub use cell_stars::{BucketCells, Star, StarCells, Steps};
 pub use hold::Hold;
 pub use mesh::Mesh;
 pub use spot::{Spot, SpotAcross};

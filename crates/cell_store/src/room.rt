@@ -8,7 +8,7 @@ ghost use Rattle.point_order.specs.Sets.{IsIn, IsAscending};
 ghost use Rattle.list_laws.specs.Lists.{Gathers};
 ghost use Rattle.cell_stars.specs.Plans.{IsOnceFor};
 ghost use Rattle.cell_store.specs.Buckets.{layout_at};
-ghost use Rattle.cell_store.specs.Grids.{bucket_of as number_of};
+ghost use Rattle.bucket_grid.specs.Grids.{bucket_of as number_of};
 ghost use Rattle.cell_store.specs.Ready.{AreForOthers, AreFound, AreInHand, AreMade, AllRoomier, HasMuchRoom};
 ghost use Rattle.cell_store.specs.Ready.{IsAllowed, IsExchangeMade, IsNoteReady, IsBucketOf, IsPointReady};
 ghost use Rattle.cell_store.specs.Ready.{ArePlansReady, IsReadyFor, IsTurnedIn, buckets_of_cells};
@@ -16,7 +16,8 @@ ghost use Rattle.cell_store.specs.declared.room.PlanFor.{PlanFor};
 ghost use Rattle.cell_store.specs.contracts.bucket.Bucket.{the_row};
 
 use crate::bucket::Bucket;
-use cell_stars::{Grid, Matched, Plan, Stock};
+use bucket_grid::Grid;
+use cell_stars::{Matched, Plan, Stock};
 use point_order::{Cell, Point};
 use smallvec::SmallVec;
 use std::alloc::{AllocError, Global};

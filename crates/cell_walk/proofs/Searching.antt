@@ -12,12 +12,12 @@ use Rattle.point_order.specs.CellOrder.{cell_cmp}
 use Rattle.point_order.specs.Complex.{complex}
 use Rattle.point_order.specs.Sets.{IsIn}
 use Rattle.del_laws.proofs.Cited.{complex_is_closed_list}
-use Rattle.cell_store.specs.Grids.{bucket_of}
+use Rattle.bucket_grid.specs.Grids.{bucket_of}
 use Rattle.cell_store.specs.Buckets.{BucketContent, InHand, bucket_at, cells_in}
 use Rattle.cell_store.specs.Meshes.{all_cells, HasPlaces}
 use Rattle.cell_store.specs.Shares.{Shows}
 use Rattle.cell_store.specs.Swaps.{touches}
-use Rattle.cell_stars.proofs.Cited.{bucket_below}
+use Rattle.bucket_grid.proofs.Cited.{bucket_below}
 use Rattle.cell_store.proofs.Cited.{cells_of, flat_from, solid_set, touched}
 use Rattle.cell_conflict.proofs.Cited.{some_point}
 use Rattle.cell_walk.specs.Searching.{IsInside, IsFitting, IsAtMost, IsLessened, IsLeastFitting}

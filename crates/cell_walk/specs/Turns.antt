@@ -10,7 +10,7 @@ use Rattle.point_order.specs.Sets.{IsIn}
 use Rattle.del_laws.specs.Walks.{is_before}
 use Rattle.del_laws.specs.Nearness.{rank}
 use Rattle.hole_laws.specs.Edits.{GoesFrom, StaysFrom}
-use Rattle.cell_store.specs.Grids.{bucket_of}
+use Rattle.bucket_grid.specs.Grids.{bucket_of}
 use Rattle.cell_store.specs.Buckets.{InHand, bucket_at}
 use Rattle.cell_store.specs.Shares.{NoneInHand, points_on}
 use Rattle.hole_laws.specs.Others.{IsOtherOf}

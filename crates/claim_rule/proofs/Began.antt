@@ -108,6 +108,6 @@ pub begun_good : (mesh : MeshView) (hold : InHand) (parts allowance : ℕ) → I
 begun_good mesh hold parts allowance i some few fits = (
   mesh.history,
   opening_is_good mesh.grid parts allowance mesh.history
-      (subst (λ (n : ℕ). Rattle.cell_store.specs.Grids.is_grid_size n ≡ Rattle.std.specs.Prelude.true) i.grid
+      (subst (λ (n : ℕ). Rattle.bucket_grid.specs.Grids.is_grid_size n ≡ Rattle.std.specs.Prelude.true) i.grid
       i.whole.has.size) some few fits i.stands.legal i.stands.keys i.stands.solid,
 )

@@ -12,7 +12,7 @@ use Rattle.edit_history.specs.declared.history.Edit.{Edit}
 use Rattle.edit_history.specs.declared.history.Entry.{Entry}
 use Rattle.edit_history.specs.Edits.{HasKeys, edit_points, after}
 use Rattle.edit_history.specs.Histories.{replay}
-use Rattle.cell_store.specs.Grids.{bucket_of}
+use Rattle.bucket_grid.specs.Grids.{bucket_of}
 use Rattle.cell_store.specs.Buckets.{BucketContent, InHand, bucket_at}
 use Rattle.cell_store.specs.Changes.{IsChange, IsNext, IsSwapped}
 use Rattle.claim_rule.specs.declared.board.Seat.{Seat}

@@ -13,7 +13,7 @@ use Rattle.edit_history.specs.Edits.{reply_to, after}
 use Rattle.edit_history.specs.Histories.{replay}
 use Rattle.hole_laws.specs.Commuting.{Reaches, DoCommute}
 use Rattle.hole_laws.proofs.Cited.{edits_commute}
-use Rattle.cell_store.specs.Grids.{bucket_of}
+use Rattle.bucket_grid.specs.Grids.{bucket_of}
 use Rattle.cell_store.specs.Buckets.{BucketContent, bucket_at}
 use Rattle.cell_store.specs.Touches.{HoldTouched}
 use Rattle.claim_rule.specs.Boards.{View, BoardState, word_of, view_at, IsLive}

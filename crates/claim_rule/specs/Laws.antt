@@ -4,7 +4,7 @@ use Rattle.point_order.specs.Solid.{is_solid}
 use Rattle.edit_history.specs.declared.history.Entry.{Entry}
 use Rattle.edit_history.specs.Histories.{replay, IsLegal}
 use Rattle.del_laws.specs.Keys.{AreKeys}
-use Rattle.cell_store.specs.Grids.{is_grid_size}
+use Rattle.bucket_grid.specs.Grids.{is_grid_size}
 use Rattle.claim_rule.specs.declared.event.Event.{Event}
 use Rattle.claim_rule.specs.declared.event.Played.{Played}
 use Rattle.claim_rule.specs.Boards.{BoardState}

@@ -3,7 +3,7 @@
 ghost use Rattle.std.specs.Prelude.{◌≡◌, IsTrue, ℕ, ◌*◌, ◌+◌, ◌-◌, ◌^◌, ◌<◌, ◌≤◌, ◌∷◌, ◌↔◌, true, None, Some, length};
 ghost use Rattle.std.specs.Prelude.{replicate, IfOk, List, OnErr, MatchOption, IsSome, IsSomeAnd, slice_index_or};
 ghost use Rattle.edit_history.specs.declared.history.Entry.{Entry};
-ghost use Rattle.cell_store.specs.Grids.{is_grid_size};
+ghost use Rattle.bucket_grid.specs.Grids.{is_grid_size};
 ghost use Rattle.claim_rule.specs.Boards.{word_of};
 ghost use Rattle.claim_rule.specs.Good.{IsGood, Good};
 ghost use Rattle.claim_rule.specs.Events.{Next, is_commit};
@@ -12,7 +12,8 @@ ghost use Rattle.claim_rule.specs.Opening.{opening_board};
 
 use crate::edits::{edit_in, holds_nothing, names};
 use crate::event::{Event, Played};
-use cell_store::{Grid, Hold, Mesh};
+use bucket_grid::Grid;
+use cell_store::{Hold, Mesh};
 use edit_history::Edit;
 use std::alloc::{AllocError, Global};
 use std::marker::Model;

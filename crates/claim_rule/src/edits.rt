@@ -5,14 +5,15 @@ ghost use Rattle.std.specs.Prelude.{OnOk, OnErr, IsSome};
 ghost use Rattle.edit_history.specs.Edits.{HasKeys, edit_points, reply_to};
 ghost use Rattle.point_order.specs.Facets.{points_of};
 ghost use Rattle.cell_store.specs.Buckets.{bucket_at};
-ghost use Rattle.cell_store.specs.Grids.{bucket_of};
+ghost use Rattle.bucket_grid.specs.Grids.{bucket_of};
 ghost use Rattle.cell_store.specs.Meshes.{IsWhole};
 ghost use Rattle.cell_store.specs.Shares.{Shows};
 ghost use Rattle.claim_rule.specs.Making.{IsExchangedIn, EditGives};
 ghost use Rattle.claim_rule.specs.Trials.{NamesPass};
 
 use crate::trial::trial_of;
-use cell_store::{Grid, Hold};
+use bucket_grid::Grid;
+use cell_store::Hold;
 use edit_history::{Edit, Entry};
 use point_order::{Cell, Point};
 use std::alloc::{AllocError, Global};

@@ -13,7 +13,7 @@ use Rattle.point_order.specs.Solid.{is_solid}
 use Rattle.edit_history.specs.declared.history.Entry.{Entry}
 use Rattle.edit_history.specs.Histories.{replay, IsLegal}
 use Rattle.del_laws.specs.Keys.{AreKeys}
-use Rattle.cell_store.specs.Grids.{is_grid_size}
+use Rattle.bucket_grid.specs.Grids.{is_grid_size}
 use Rattle.cell_store.specs.Buckets.{BucketContent, bucket_at}
 use Rattle.claim_rule.specs.Boards.{BoardState, is_by, made_by}
 use Rattle.claim_rule.specs.Good.{IsGood}

@@ -7,9 +7,9 @@ use Rattle.list_laws.proofs.Cited.{counted_below, counted_on, none_or}
 use Rattle.point_order.specs.Sets.{IsIn}
 use Rattle.edit_history.specs.declared.history.Entry.{Entry}
 use Rattle.cell_store.specs.Buckets.{BucketContent, InHand, bucket_at}
-use Rattle.cell_store.specs.Grids.{is_grid_size}
+use Rattle.bucket_grid.specs.Grids.{is_grid_size}
 use Rattle.cell_store.specs.Meshes.{StandsForSome}
-use Rattle.cell_stars.proofs.Cited.{bucket_below}
+use Rattle.bucket_grid.proofs.Cited.{bucket_below}
 use Rattle.claim_table.specs.declared.hands.Hands.{Hands}
 use Rattle.claim_table.specs.declared.view.Act.TheVariants.{Look}
 use Rattle.claim_table.specs.declared.view.View.{View}

@@ -8,7 +8,8 @@ ghost use Rattle.claim_table.specs.Rule.{opening_view};
 
 use crate::slot::Slot;
 use crate::view::{Board, Key, Place};
-use cell_store::{Grid, Hold, Mesh};
+use bucket_grid::Grid;
+use cell_store::{Hold, Mesh};
 use std::alloc::{AllocError, Global};
 use std::snapshot::Snapshot as Told;
 

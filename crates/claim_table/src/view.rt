@@ -2,7 +2,8 @@
 
 use crate::slot::Slot;
 use atomic_table::{Seat, Table, TableRule};
-use cell_store::{Grid, Mesh};
+use bucket_grid::Grid;
+use cell_store::Mesh;
 use edit_history::Entry;
 use std::alloc::Global;
 use std::collections::LinkedList;

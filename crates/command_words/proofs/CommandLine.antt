@@ -16,7 +16,7 @@ use Rattle.clap.specs.Words.{is_simple_and_free, subcommand_of}
 use Rattle.clap.specs.declared.error.kind.ErrorKind.{ErrorKind}
 use Rattle.clap.specs.declared.error.kind.ErrorKind.TheVariants.{OutOfMemory}
 use Rattle.clap.proofs.OnLiterals.{clap_on_literals}
-use Rattle.cell_store.specs.Grids.{is_grid_size}
+use Rattle.bucket_grid.specs.Grids.{is_grid_size}
 use Rattle.command_words.specs.Words.{Checks, Kind, Parts, Queries, Reports, Steps, asked_alpha, asked_index}
 use Rattle.command_words.specs.Words.{asked_most, asks_order, asks_shape, asks_text, drawn_count, drawn_start, flag_in}
 use Rattle.command_words.specs.Words.{given_in, given_of, grid_size, has_flag, is_command, kind_met, kind_of_words}

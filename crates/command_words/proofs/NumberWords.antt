@@ -20,7 +20,7 @@ use Rattle.clap.proofs.ValueTestLemmas.{Accepts-accepts}
 use Rattle.clap.specs.declared.builder.value_parser.ValueParser.TheVariants.{Signed, Unsigned}
 use Rattle.std.proofs.lemmas.Bool.Decides.{nat_tests}
 use Rattle.text_readings.proofs.Cited.{no_minus}
-use Rattle.cell_store.specs.Grids.{is_grid_size}
+use Rattle.bucket_grid.specs.Grids.{is_grid_size}
 use Rattle.command_words.specs.Words.{Draws, Kind, Parts, Queries, Reports, Steps, asked_alpha, asked_index, asked_most}
 use Rattle.command_words.specs.Words.{asks_shape, asks_text, drawn_count, drawn_start, given_of, grid_size, has_flag}
 use Rattle.command_words.specs.Words.{is_command, kind_met, kind_of_words, most_alpha, most_grid, most_index}

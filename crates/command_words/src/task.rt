@@ -3,7 +3,7 @@
 ghost use Rattle.std.specs.Prelude.{◌<◌, ◌≤◌, ◌^◌};
 ghost use Rattle.edit_files.specs.Generator.{most_edits, state_count};
 
-use cell_store::Grid;
+use bucket_grid::Grid;
 
 /// How a mesh is made.
 #[derive(Clone, Copy)]

@@ -3,7 +3,7 @@
 ghost use Rattle.std.specs.Prelude.{◌≡◌, ◌≤◌, ◌<◌, ◌^◌, IfOk, IfErr, IfSome, is_some, false, codes};
 ghost use Rattle.clap.specs.Words.{App, Rule, found_of, rows_of, rule_of, subcommand_rows_of, with_rule};
 ghost use Rattle.clap.specs.Words.{with_subcommand};
-ghost use Rattle.cell_store.specs.Grids.{is_grid_size};
+ghost use Rattle.bucket_grid.specs.Grids.{is_grid_size};
 ghost use Rattle.command_words.specs.Built.{IsBuilt, IsLine};
 ghost use Rattle.command_words.specs.Words.{command_of, gen_command as gen_command_of, program as program_of};
 ghost use Rattle.command_words.specs.Words.{AreWordsTaken, alpha_option, flag_in as flag_in_of, flag_of};
@@ -17,7 +17,7 @@ ghost use Rattle.command_words.specs.Tasks.{IsMakingOf, IsTask, IsTaskOf};
 
 use crate::stop::Stop;
 use crate::task::{Asked, Drawn, Making, Task, Wanted};
-use cell_store::Grid;
+use bucket_grid::Grid;
 use clap::error::ErrorKind;
 use clap::{Arg, ArgAction, ArgMatches, Command};
 use std::alloc::{AllocError, Global};

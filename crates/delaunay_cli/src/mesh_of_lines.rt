@@ -9,7 +9,8 @@ ghost use Rattle.command_pages.specs.Run.{IsKept};
 ghost use Rattle.delaunay_cli.specs.MeshLists.{AreLists};
 
 use crate::mesh_lists::{MeshLists, lists_of_linked, lists_of_mesh};
-use cell_store::{Grid, Mesh};
+use bucket_grid::Grid;
+use cell_store::Mesh;
 use command_words::Making;
 use edit_files::File;
 use edit_history::laws::one_thread_is_legal;

@@ -17,7 +17,7 @@ use Rattle.edit_history.specs.declared.history.Reply.TheVariants.{Flat, Missing,
 use Rattle.edit_history.specs.Edits.{after, arrived, changed, moved_to, reply_to}
 use Rattle.edit_history.specs.Histories.{replay}
 use Rattle.edit_history.proofs.Cited.{after_moved, does_move}
-use Rattle.cell_store.specs.Grids.{bucket_of}
+use Rattle.bucket_grid.specs.Grids.{bucket_of}
 use Rattle.cell_store.specs.Between.{Enters, HasWay, IsEntered, IsLeft, ShowsWhole, WasEntered}
 use Rattle.cell_store.specs.Buckets.{BucketContent, InHand, Room, bucket_at, room_both}
 use Rattle.cell_store.specs.Meshes.{AllInHand, IsHoldOf, MeshView}

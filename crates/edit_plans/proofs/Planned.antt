@@ -13,7 +13,7 @@ use Rattle.edit_history.specs.declared.history.Reply.TheVariants.{Inserted, Dupl
 use Rattle.edit_history.specs.Edits.{HasKeys, point_of, reply_to, changed, after}
 use Rattle.edit_history.proofs.Cited.{duplicate, flat, inserts, missing, reply_there}
 use Rattle.hole_laws.specs.Edits.{IsNew}
-use Rattle.cell_store.specs.Grids.{bucket_of}
+use Rattle.bucket_grid.specs.Grids.{bucket_of}
 use Rattle.cell_store.specs.Buckets.{BucketContent, InHand, bucket_at}
 use Rattle.cell_store.specs.Changes.{IsChange}
 use Rattle.cell_store.specs.Meshes.{AreAmong}

@@ -6,7 +6,7 @@ use Rattle.edit_history.specs.declared.history.Edit.{Edit}
 use Rattle.edit_history.specs.declared.history.Edit.TheVariants.{Add, Move, Take}
 use Rattle.edit_history.specs.Edits.{HasKeys, after, reply_to}
 use Rattle.hole_laws.specs.Edits.{IsNew}
-use Rattle.cell_store.specs.Grids.{bucket_of}
+use Rattle.bucket_grid.specs.Grids.{bucket_of}
 use Rattle.cell_store.specs.Buckets.{InHand, bucket_at}
 use Rattle.cell_store.specs.Changes.{IsChange}
 use Rattle.cell_store.specs.Meshes.{AreAmong}

@@ -12,7 +12,7 @@ use Rattle.point_order.specs.Sets.{IsIn}
 use Rattle.edit_history.specs.declared.history.Edit.{Edit}
 use Rattle.edit_history.specs.declared.history.Reply.{Reply}
 use Rattle.edit_history.specs.Edits.{edit_points}
-use Rattle.cell_store.specs.Grids.{bucket_of}
+use Rattle.bucket_grid.specs.Grids.{bucket_of}
 use Rattle.cell_store.specs.Buckets.{BucketContent, InHand, Room, bucket_at}
 use Rattle.cell_store.specs.Missing.{ArePointsHeld}
 use Rattle.cell_store.proofs.TouchLaws.{points_touched}

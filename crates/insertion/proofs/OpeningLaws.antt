@@ -20,7 +20,7 @@ use Rattle.edit_history.specs.Edits.{is_move, point_of, reply_to, changed}
 use Rattle.edit_history.specs.Histories.{replay, replay_from, IsLegal, IsLegalFrom}
 use Rattle.edit_history.proofs.Cited.{leaves_set, solid_from}
 use Rattle.del_laws.specs.Keys.{AreKeys}
-use Rattle.cell_store.specs.Grids.{bucket_of}
+use Rattle.bucket_grid.specs.Grids.{bucket_of}
 use Rattle.cell_store.specs.Swaps.{swapped, touches}
 use Rattle.cell_store.specs.Buckets.{BucketContent, InHand, bucket_at, at_place}
 use Rattle.cell_store.specs.Shares.{Stands, IsShare, points_share, cells_share, entries_share}

@@ -5,8 +5,8 @@ use Rattle.std.specs.Option.{option_map_or}
 use Rattle.std.proofs.Common.{refl, sym, ◌∙◌, ap, subst, inl, inr, arith}
 use Rattle.list_laws.proofs.Cited.{is_there, none_is, none_there, one_below, some_of}
 use Rattle.hole_laws.specs.Edits.{IsNew}
-use Rattle.cell_stars.proofs.Cited.{bucket_below}
-use Rattle.cell_store.specs.Grids.{is_grid_size}
+use Rattle.bucket_grid.proofs.Cited.{bucket_below}
+use Rattle.bucket_grid.specs.Grids.{is_grid_size}
 use Rattle.cell_store.specs.Buckets.{BucketContent, InHand, bucket_at}
 use Rattle.cell_store.specs.Meshes.{AllInHand, AreAmong, HasPlaces}
 use Rattle.cell_store.specs.Shares.{Shows, NoneInHand, points_on}

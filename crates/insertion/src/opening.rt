@@ -8,7 +8,8 @@ ghost use Rattle.cell_store.specs.Changes.{IsNoted};
 ghost use Rattle.insertion.specs.Opening.{inserted, opening_history, AreFourIndependent, IsBare, HasCellsOfFour};
 ghost use Rattle.hole_laws.specs.FiveCells.{five_cells};
 
-use cell_store::{Bucket, Grid, Hold, Mesh};
+use bucket_grid::Grid;
+use cell_store::{Bucket, Hold, Mesh};
 use edit_history::{Edit, Entry, Reply};
 use point_order::{Cell, Point};
 use std::alloc::{AllocError, Global};

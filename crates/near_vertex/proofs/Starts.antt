@@ -4,11 +4,11 @@ use Rattle.std.proofs.Common.{inl, sym, subst}
 use Rattle.list_laws.proofs.Cited.{filtered_from, filtered_true, none_there, round, same_true, some_of}
 use Rattle.point_order.specs.Sets.{IsIn}
 use Rattle.del_laws.proofs.Cited.{complex_is_closed_list}
-use Rattle.cell_store.specs.Grids.{bucket_of}
+use Rattle.bucket_grid.specs.Grids.{bucket_of}
 use Rattle.cell_store.specs.Buckets.{BucketContent, InHand, bucket_at, points_at}
 use Rattle.cell_store.specs.Meshes.{HasPlaces, IsWhole}
 use Rattle.cell_store.specs.Shares.{Shows}
-use Rattle.cell_stars.proofs.Cited.{bucket_below}
+use Rattle.bucket_grid.proofs.Cited.{bucket_below}
 use Rattle.cell_store.proofs.Cited.{has_point, point_held, points_of_bucket, solid_set}
 use Rattle.del_laws.proofs.Cited.{listed_inside, listed_is_cell}
 use Rattle.near_vertex.specs.Turns.{HasNoPoint, front_of}

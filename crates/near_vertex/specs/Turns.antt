@@ -3,7 +3,7 @@ use Rattle.std.specs.Prelude.{◌≡◌, ℕ, ◌<◌, true, List, [], ◌∷◌
 use Rattle.point_order.specs.Sets.{IsIn}
 use Rattle.del_laws.specs.Nearest.{comes_before}
 use Rattle.cell_store.specs.Buckets.{BucketContent, InHand, bucket_at, points_at}
-use Rattle.cell_store.specs.Grids.{bucket_of}
+use Rattle.bucket_grid.specs.Grids.{bucket_of}
 use Rattle.cell_store.specs.Shares.{Shows}
 use Rattle.cell_walk.specs.Turns.{IsFirstMissing}
 use Rattle.near_vertex.specs.Points.{IsNearest}

@@ -7,7 +7,7 @@ ghost use Rattle.point_order.specs.Sets.{IsIn};
 ghost use Rattle.point_order.specs.Sizes.{greatest_square};
 ghost use Rattle.del_laws.specs.Nearest.{comes_before as is_first};
 ghost use Rattle.cell_store.specs.Buckets.{bucket_at};
-ghost use Rattle.cell_store.specs.Grids.{bucket_of};
+ghost use Rattle.bucket_grid.specs.Grids.{bucket_of};
 ghost use Rattle.cell_store.specs.Meshes.{IsWhole};
 ghost use Rattle.cell_store.specs.Shares.{Shows, ShowsSome};
 ghost use Rattle.cell_walk.specs.Turns.{IsFirstMissing};

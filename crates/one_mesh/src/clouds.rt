@@ -7,7 +7,8 @@ ghost use Rattle.point_order.specs.Solid.{is_solid};
 ghost use Rattle.edit_history.specs.OneThread.{one_thread, places};
 ghost use Rattle.edit_history.specs.Opening.{opening_four};
 
-use cell_store::{Grid, Mesh};
+use bucket_grid::Grid;
+use cell_store::Mesh;
 use cloud_cells::{complex_by_threads, complex_of_points};
 use edit_history::laws::{one_thread_is_legal, solidity_is_of_the_set};
 use point_history::{history_of_points, set_of};

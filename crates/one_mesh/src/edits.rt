@@ -6,7 +6,8 @@ ghost use Rattle.edit_history.specs.Histories.{replay};
 ghost use Rattle.insertion.specs.Opening.{opening_history, AreFourIndependent};
 ghost use Rattle.one_mesh.specs.Applied.{edited};
 
-use cell_store::{Grid, Mesh};
+use bucket_grid::Grid;
+use cell_store::Mesh;
 use edit_history::{Edit, Receipt};
 use edit_plans::plan_of;
 use insertion::open_mesh;

@@ -1,9 +1,9 @@
 //! The grid for one thread.
 
 ghost use Rattle.std.specs.Prelude.{◌≡◌, ◌<◌, ◌≤◌, true};
-ghost use Rattle.cell_store.specs.Grids.{is_grid_size};
+ghost use Rattle.bucket_grid.specs.Grids.{is_grid_size};
 
-use cell_store::Grid;
+use bucket_grid::Grid;
 
 // The grid of a size that a grid may have.
 fn grid_of(size: u32) -> Grid

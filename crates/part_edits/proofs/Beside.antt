@@ -1,7 +1,8 @@
 -- Lines that are made in parts, one after another and side by side.
 use Rattle.std.specs.Prelude.{◌≡◌, ℕ, true, List, [], ◌∷◌, ◌++◌}
 use Rattle.std.proofs.Common.{append_assoc, refl, sym, ◌∙◌, subst, inl, inr}
-use Rattle.list_laws.proofs.Cited.{EachLater, among_true, any_true, from_append, in_left, in_right, not_both, pairs_later}
+use Rattle.list_laws.proofs.Cited.{EachLater, among_true, any_true, from_append, in_left, in_right, not_both}
+use Rattle.list_laws.proofs.Cited.{pairs_later}
 use Rattle.point_order.specs.declared.cell.Cell.{Cell}
 use Rattle.point_order.specs.Sets.{IsIn, is_among}
 use Rattle.edit_history.specs.declared.history.Edit.{Edit}

@@ -13,7 +13,8 @@ use Rattle.cloud_cells.specs.Nets.{AreMoved, AreWithAll}
 use Rattle.cloud_cells.specs.Parts.{InEachSet}
 use Rattle.cloud_cells.specs.Stars.{AreBehindAll}
 use Rattle.cloud_cells.proofs.Cited.{moved_cells, refilled}
-use Rattle.cloud_cells.proofs.Moving.{first_distinct, in_two, joined, last_distinct, moved_first, moved_last, moved_over}
+use Rattle.cloud_cells.proofs.Moving.{first_distinct, in_two, joined, last_distinct, moved_first, moved_last}
+use Rattle.cloud_cells.proofs.Moving.{moved_over}
 use Rattle.star_refill.specs.Coming.{AreAround, HaveAllAcross}
 use Rattle.star_refill.specs.Refills.{IsRefilled}
 use Rattle.gift_wrap.specs.Near.{IsStar}

@@ -1,6 +1,6 @@
 -- Lines that are worked off, one after another.
-use Rattle.std.specs.Prelude.{◌≡◌, ℕ, zero, suc, ◌+◌, ◌<◌, ◌≤◌, true, false, List, [], ◌∷◌, ◌++◌, ◌⊎◌, length, Option, None}
-use Rattle.std.specs.Prelude.{MatchOption, Some, slice_index_or, slice_set}
+use Rattle.std.specs.Prelude.{◌≡◌, ℕ, zero, suc, ◌+◌, ◌<◌, ◌≤◌, true, false, List, [], ◌∷◌, ◌++◌, ◌⊎◌, length, Option}
+use Rattle.std.specs.Prelude.{None, MatchOption, Some, slice_index_or, slice_set}
 use Rattle.std.proofs.Common.{ap, append-nil, arith, inl, inr, length-append, refl, subst, sym, ◌∙◌}
 use Rattle.list_laws.proofs.Cited.{len_set, not_both}
 use Rattle.point_order.specs.declared.cell.Cell.{Cell}

@@ -9,8 +9,8 @@ use Rattle.edit_history.specs.Histories.{IsLegal, replay}
 use Rattle.part_edits.specs.Lists.{KeepOrder, left_in, made_in}
 use Rattle.cloud_cells.specs.Clouds.{AreCellsOf}
 use Rattle.part_edits.specs.Made.{AreAnswered, AreMade, Line, Made, ShareNone, known_after, set_after}
-use Rattle.part_edits.specs.Rounds.{AreApart, AreInOrder, AreNumberedFrom, AreWitnesses, AreWorks, SharingAreInOrder, Work}
-use Rattle.part_edits.specs.Rounds.{all_made, all_new, all_old, made_of}
+use Rattle.part_edits.specs.Rounds.{AreApart, AreInOrder, AreNumberedFrom, AreWitnesses, AreWorks, SharingAreInOrder}
+use Rattle.part_edits.specs.Rounds.{Work, all_made, all_new, all_old, made_of}
 
 -- in one part some lines are made, and then others
 abbrev pub MadeOneAfterAnother : Type 0

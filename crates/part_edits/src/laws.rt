@@ -1,7 +1,7 @@
 //! The laws of edits that are made in parts of a complex. Each function here does nothing, and its contract is a law.
 
-ghost use Rattle.part_edits.specs.Laws.{MadeOneAfterAnother, MadeSideBySide, OrderedByTags, RoundIsLegal};
-ghost use Rattle.part_edits.specs.Laws.{LeftIsLater, WorkersCompose};
+ghost use Rattle.part_edits.specs.Laws.{MadeOneAfterAnother, MadeSideBySide, OrderedByTags, RoundIsLegal, LeftIsLater};
+ghost use Rattle.part_edits.specs.Laws.{WorkersCompose};
 
 /// In one part lines are made one after another, and in two parts side by side, whatever the other cells are; so what
 /// several workers make, each in its part, are the cells of the set after all their lines.

@@ -11,8 +11,8 @@ ghost use Rattle.part_edits.specs.Takes.{IsComing, IsOpenBeside, IsOpenBesideSom
 
 use cloud_cells::{LinkedCells, OpenStar};
 use point_order::{Cell, Point};
-use std::alloc::{AllocError, Global};
 use star_refill::cells_for_star;
+use std::alloc::{AllocError, Global};
 
 // What comes in place of an open star.
 #[derive(Drop)]

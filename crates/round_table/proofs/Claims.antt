@@ -1,6 +1,6 @@
 -- A claim keeps the rule.
-use Rattle.std.specs.Prelude.{◌≡◌, ◌≢◌, ℕ, zero, suc, ◌+◌, ◌<◌, ◌≤◌, ◌==◌, ltb, Bool, true, false, cond}
-use Rattle.std.specs.Prelude.{List, [], ◌∷◌, ◌++◌, length, slice_get, slice_index, slice_set, Option, Some}
+use Rattle.std.specs.Prelude.{◌≡◌, ◌≢◌, ℕ, zero, suc, ◌+◌, ◌<◌, ◌≤◌, ◌==◌, ltb, Bool, true, false, cond, List, [], ◌∷◌}
+use Rattle.std.specs.Prelude.{◌++◌, length, slice_get, slice_index, slice_set, Option, Some}
 use Rattle.std.proofs.Common.{refl, sym, ◌∙◌, ap, subst, inl, inr, arith, get_or-set_other, get_or-set_same, length-set}
 use Rattle.std.proofs.Common.{eq-eqb, ne_eqb}
 use mathlib.Core.Logic.{dite}
@@ -18,7 +18,8 @@ use Rattle.round_table.specs.Counts.{one, times, tally, total, each, claims_in, 
 use Rattle.round_table.specs.Rounds.{claims_of}
 use Rattle.round_table.specs.Rule.{contents_of, IsRule}
 use Rattle.round_table.specs.Plays.{claims, with_claim, Told}
-use Rattle.round_table.proofs.Counted.{one_most, below_named, same_number, times_push, within, total_set, total_at, alone}
+use Rattle.round_table.proofs.Counted.{one_most, below_named, same_number, times_push, within, total_set, total_at}
+use Rattle.round_table.proofs.Counted.{alone}
 
 -- the hand of a pass
 abbrev pub hand : ℕ → List ℕ → Hand

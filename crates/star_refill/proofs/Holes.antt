@@ -11,8 +11,7 @@ use Rattle.point_order.specs.Sets.{IsIn, without_point}
 use Rattle.point_order.specs.Solid.{is_solid}
 use Rattle.del_laws.proofs.Cited.{solid_more}
 use Rattle.hole_laws.specs.Edits.{IsSet, IsLinkSet}
-use Rattle.hole_laws.proofs.Cited.{cells_of_rest, old_lack_point, refilled_from_link, rest_new}
-use Rattle.hole_laws.proofs.Cited.{rest_set}
+use Rattle.hole_laws.proofs.Cited.{cells_of_rest, old_lack_point, refilled_from_link, rest_new, rest_set}
 use Rattle.gift_wrap.specs.Near.{AreTaken, IsStar}
 use Rattle.star_refill.specs.Refills.{IsRefilled}
 

@@ -13,7 +13,7 @@ use Rattle.del_laws.proofs.Cited.{solid_more}
 use Rattle.hole_laws.specs.Edits.{IsSet, IsLinkSet}
 use Rattle.hole_laws.proofs.Cited.{cells_of_rest, coming_are_near, old_lack_point, refilled_from_link, rest_new}
 use Rattle.hole_laws.proofs.Cited.{rest_set}
-use Rattle.cell_store.specs.Grids.{bucket_of}
+use Rattle.bucket_grid.specs.Grids.{bucket_of}
 use Rattle.cell_store.specs.Buckets.{InHand, bucket_at}
 use Rattle.cell_store.specs.Ready.{AreHeld}
 use Rattle.cell_store.specs.Shares.{Shows}

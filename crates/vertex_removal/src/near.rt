@@ -7,7 +7,7 @@ ghost use Rattle.point_order.specs.Sets.{IsIn, without_point};
 ghost use Rattle.point_order.specs.Solid.{is_solid as is_solid_of};
 ghost use Rattle.hole_laws.specs.Edits.{IsLinkSet};
 ghost use Rattle.cell_store.specs.Buckets.{bucket_at};
-ghost use Rattle.cell_store.specs.Grids.{bucket_of};
+ghost use Rattle.bucket_grid.specs.Grids.{bucket_of};
 ghost use Rattle.cell_store.specs.Shares.{Shows, ShowsWith};
 ghost use Rattle.cell_store.specs.Missing.{ArePointsHeld};
 ghost use Rattle.gift_wrap.specs.Near.{IsStar, AreAdded, IsListedOf, IsOfOne};

@@ -2,7 +2,7 @@
 
 ghost use Rattle.std.specs.Prelude.{◌≡◌, IfOk, IsSome, List, length, ℕ};
 ghost use Rattle.cell_store.specs.Buckets.{bucket_at};
-ghost use Rattle.cell_store.specs.Grids.{bucket_of};
+ghost use Rattle.bucket_grid.specs.Grids.{bucket_of};
 ghost use Rattle.cell_store.specs.Meshes.{AllInHand};
 ghost use Rattle.cell_store.specs.Shares.{Shows};
 ghost use Rattle.gift_wrap.specs.Near.{AreTaken};

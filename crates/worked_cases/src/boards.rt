@@ -3,7 +3,7 @@
 use crate::meshes::mesh_of_points;
 use crate::reading::{Word, list_at, number_at, numbers_at};
 use crate::telling::Answer;
-use cell_store::Grid;
+use bucket_grid::Grid;
 use claim_rule::{Board, Event, Played};
 use std::alloc::{AllocError, Global};
 

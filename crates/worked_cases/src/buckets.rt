@@ -1,7 +1,7 @@
 //! Grids, and a bucket of a mesh in a hold of its own.
 
 ghost use Rattle.std.specs.Prelude.{◌≡◌, ◌+◌, ◌*◌, ◌<◌, ◌≤◌, Some, IsSome, IfOk, length};
-ghost use Rattle.cell_store.specs.Grids.{bucket_of as number_of};
+ghost use Rattle.bucket_grid.specs.Grids.{bucket_of as number_of};
 ghost use Rattle.cell_store.specs.Buckets.{bucket_at, points_at};
 ghost use Rattle.cell_store.specs.Shares.{ShowsWith, Stands, share_at};
 ghost use Rattle.cell_store.specs.Meshes.{StandsForSome};

@@ -106,7 +106,7 @@ mod tables;
 mod telling;
 mod walks;
 
-use cell_store::Grid;
+use bucket_grid::Grid;
 use claim_rule::Board;
 use reading::number_at;
 use std::alloc::{AllocError, Global};

@@ -5,7 +5,8 @@ ghost use Rattle.cell_store.specs.Shares.{Shows};
 
 use crate::reading::{at, list_at};
 use crate::telling::{Answer, put_cells, put_point};
-use cell_store::{Grid, Hold, Mesh};
+use bucket_grid::Grid;
+use cell_store::{Hold, Mesh};
 use edit_history::{Edit, Entry, PointSet, Reply, find_four, merge};
 use one_mesh::{apply, begin, begin_cloud, complex, opening_points, points};
 use point_order::Point;

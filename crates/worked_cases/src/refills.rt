@@ -3,7 +3,7 @@
 ghost use Rattle.std.specs.Prelude.{◌≡◌, ℕ, true, List, IsSome};
 ghost use Rattle.point_order.specs.Sets.{IsIn};
 ghost use Rattle.cell_store.specs.Buckets.{bucket_at};
-ghost use Rattle.cell_store.specs.Grids.{bucket_of};
+ghost use Rattle.bucket_grid.specs.Grids.{bucket_of};
 ghost use Rattle.cell_store.specs.Shares.{Shows, ShowsSome};
 
 use crate::meshes::{keep_only, mesh_of};

@@ -2,7 +2,7 @@ use Rattle.std.proofs.Common.{◌∙◌, ◌+◌, sym, subst, ℕ, List}
 use Rattle.list_laws.proofs.Cited.{at_place, same_true}
 use Rattle.point_order.specs.Sets.{IsIn}
 use Rattle.cell_stars.specs.AtOnce.{GainsPlaces}
-use Rattle.cell_stars.specs.Grids.{bucket_of}
+use Rattle.bucket_grid.specs.Grids.{bucket_of}
 use Rattle.cell_stars.proofs.AtOnce.{FirstHere, first_all, first_more, first_none, first_not}
 use Rattle.cell_stars.proofs.at_once.add_places.Goals.{then-bucket_of-number+in_ok-add_place, else-bucket_of-number}
 use Rattle.cell_stars.proofs.at_once.add_places.Goals as goal

@@ -1,6 +1,6 @@
 use Rattle.std.proofs.Common.{◌≡◌, ◌==◌, false, take}
 use Rattle.std.specs.List.{list_any}
-use Rattle.cell_stars.specs.Grids.{bucket_of}
+use Rattle.bucket_grid.specs.Grids.{bucket_of}
 use Rattle.cell_stars.proofs.order.touches.Given as goal
 
 abbrev pub invariant-loop-p : goal.invariant-loop-p

@@ -1,7 +1,7 @@
 use Rattle.std.proofs.Common.{IsSome, Result, Ok, Err, OnOk}
 use Rattle.list_laws.proofs.Cited.{if_some}
 use Rattle.cell_store.specs.Buckets.{layout_at}
-use Rattle.cell_store.specs.Grids.{bucket_of}
+use Rattle.bucket_grid.specs.Grids.{bucket_of}
 use Rattle.cell_store.proofs.NoteLaws.{all_twice, both_rooms, still_there}
 use Rattle.cell_store.proofs.room.make_rooms.Goals as goal
 

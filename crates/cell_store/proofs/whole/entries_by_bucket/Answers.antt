@@ -1,7 +1,7 @@
 use Rattle.std.proofs.Common.{refl, ◌∙◌, ap}
 use Rattle.edit_history.specs.Edits.{point_of}
 use Rattle.edit_history.specs.declared.history.Entry.{Entry}
-use Rattle.cell_store.specs.Grids.{bucket_of}
+use Rattle.bucket_grid.specs.Grids.{bucket_of}
 use Rattle.cell_store.specs.Wholes.{is_noted_at}
 use Rattle.cell_store.proofs.WholeLaws.{lists_in, parted_all, parted_more, parted_none}
 use Rattle.cell_store.proofs.whole.entries_by_bucket.Goals as goal

@@ -1,5 +1,5 @@
 use Rattle.std.proofs.Common.{refl}
-use Rattle.cell_store.specs.Grids.{bucket_of}
+use Rattle.bucket_grid.specs.Grids.{bucket_of}
 use Rattle.cell_store.specs.Wholes.{lies_at}
 use Rattle.cell_store.proofs.WholeLaws.{lists_in, parted_all, parted_more, parted_none}
 use Rattle.cell_store.proofs.whole.points_by_bucket.Goals as goal

@@ -1,6 +1,6 @@
 use Rattle.std.proofs.Common.{◌≡◌, ◌+◌, ◌*◌, ◌∷◌, ℕ, true, List, length, replicate, sym, ◌∙◌, ap, subst}
 use Rattle.edit_history.specs.declared.history.Entry.{Entry}
-use Rattle.cell_store.specs.Grids.{is_grid_size}
+use Rattle.bucket_grid.specs.Grids.{is_grid_size}
 use Rattle.cell_store.specs.Meshes.{MeshView}
 use Rattle.atomic_table.specs.Table.{opening}
 use Rattle.claim_rule.specs.Opening.{shares_from}

@@ -2,7 +2,7 @@ use Rattle.std.proofs.Common.{sym, ◌∙◌, ap, subst, ℕ, IsSome}
 use Rattle.list_laws.proofs.Cited.{among_from, not_among}
 use Rattle.edit_history.proofs.Cited.{ok_then}
 use Rattle.cell_store.specs.Buckets.{bucket_at}
-use Rattle.cell_store.specs.Grids.{bucket_of}
+use Rattle.bucket_grid.specs.Grids.{bucket_of}
 use Rattle.edit_plans.proofs.Moved.{plan_away, plan_occupied}
 use Rattle.edit_plans.proofs.moving.move_home.Goals as goal
 

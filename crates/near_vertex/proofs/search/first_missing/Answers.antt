@@ -1,5 +1,5 @@
 use Rattle.std.proofs.Common.{sym, subst, ap, ◌∙◌, arith, ◌*◌, ◌<◌}
-use Rattle.cell_store.specs.Grids.{bucket_of}
+use Rattle.bucket_grid.specs.Grids.{bucket_of}
 use Rattle.near_vertex.proofs.Starts.{none_missing}
 use Rattle.near_vertex.proofs.search.first_missing.Goals as goal
 

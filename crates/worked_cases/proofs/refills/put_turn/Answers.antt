@@ -3,7 +3,7 @@ use Rattle.std.proofs.Common.{sym, subst}
 use Rattle.std.proofs.lemmas.Result.{IfOk-at_ok}
 use Rattle.point_order.specs.Sets.{IsIn}
 use Rattle.cell_store.specs.Buckets.{bucket_at}
-use Rattle.cell_store.specs.Grids.{bucket_of}
+use Rattle.bucket_grid.specs.Grids.{bucket_of}
 use Rattle.worked_cases.proofs.refills.put_turn.Goals as goal
 
 pub advance-requires-clause-held : goal.advance-requires-clause-held

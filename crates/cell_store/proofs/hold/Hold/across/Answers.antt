@@ -1,6 +1,6 @@
 use Rattle.std.proofs.Common.{◌≡◌, ◌≤◌, subst, sym, ◌∙◌, ap, refl, ℕ, List, [], ◌∷◌, length, get_or, arith}
 use Rattle.cell_store.specs.Buckets.{content_of}
-use Rattle.cell_store.specs.Grids.{bucket_of}
+use Rattle.bucket_grid.specs.Grids.{bucket_of}
 use Rattle.cell_store.specs.Shares.{IsInHandFor, NoneInHand, points_on}
 use Rattle.cell_store.specs.Stars.{bucket_of_first}
 use Rattle.cell_store.proofs.ShareLaws.{across_there, across_is}

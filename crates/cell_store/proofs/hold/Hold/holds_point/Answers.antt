@@ -1,6 +1,6 @@
 use Rattle.std.proofs.Common.{◌≡◌, ◌∙◌, rules}
 use Rattle.point_order.specs.Sets.{is_among}
-use Rattle.cell_store.specs.Grids.{bucket_of}
+use Rattle.bucket_grid.specs.Grids.{bucket_of}
 use Rattle.cell_store.specs.Buckets.{points_at}
 use Rattle.cell_store.proofs.HandLaws.{held_point}
 use Rattle.cell_store.proofs.hold.Hold.holds_point.Goals as goal

@@ -3,7 +3,7 @@ use Rattle.std.specs.Option.{option_map}
 use Rattle.list_laws.proofs.Cited.{front_is, if_some, on_err}
 use Rattle.point_order.specs.declared.cell.Cell.{Cell}
 use Rattle.cell_store.specs.Buckets.{BucketContent, StandAtPlaces, bucket_at, layout_at, shown}
-use Rattle.cell_store.specs.Grids.{bucket_of}
+use Rattle.bucket_grid.specs.Grids.{bucket_of}
 use Rattle.cell_store.specs.Ready.{AllRoomier, IsNoteReady, IsPointReady, ArePlansReady}
 use Rattle.cell_store.proofs.NoteLaws.{all_noted, all_pointed, all_ready, all_shown, hold_with, ready_same}
 use Rattle.cell_store.proofs.RoomLaws.{held_in_hand, held_there, hold_finds}

@@ -1,6 +1,6 @@
 use Rattle.std.proofs.Common.{ap, subst, ◌∙◌}
 use Rattle.list_laws.proofs.Cited.{at_place}
-use Rattle.cell_store.specs.Grids.{bucket_of}
+use Rattle.bucket_grid.specs.Grids.{bucket_of}
 use Rattle.cell_store.specs.Shares.{IsInHandFor}
 use Rattle.cell_store.proofs.ShareLaws.{in_hand_for, none_more_in_hand}
 use Rattle.cell_store.proofs.hold.Hold.point_among.Goals as goal

@@ -2,7 +2,7 @@ use Rattle.std.proofs.Common.{◌≡◌, sym, ◌∙◌, ap, subst, ◌<◌, ◌
 use Rattle.list_laws.proofs.Cited.{some_holds}
 use Rattle.point_order.specs.Sets.{is_among}
 use Rattle.cell_store.specs.Buckets.{points_at, shown}
-use Rattle.cell_store.specs.Grids.{bucket_of}
+use Rattle.bucket_grid.specs.Grids.{bucket_of}
 use Rattle.cell_store.specs.Ready.{HasPlaceFor, IsPointReady}
 use Rattle.cell_store.proofs.Homes.{IsHome, home, in_hand, kept_put, put_is}
 use Rattle.cell_store.proofs.NoteLaws.{content_points, point_room}

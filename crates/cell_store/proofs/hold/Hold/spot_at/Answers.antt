@@ -1,7 +1,7 @@
 use Rattle.std.proofs.Common.{refl, ap, subst, sym, ◌∙◌}
 use Rattle.point_order.specs.declared.cell.Cell.{Cell}
 use Rattle.cell_store.specs.Buckets.{content_of}
-use Rattle.cell_store.specs.Grids.{bucket_of}
+use Rattle.bucket_grid.specs.Grids.{bucket_of}
 use Rattle.hole_laws.specs.Others.{HaveNoOther, IsOtherOf}
 use Rattle.cell_store.specs.Shares.{IsInHandFor, points_on}
 use Rattle.cell_store.specs.Spots.{IsAcrossIn}

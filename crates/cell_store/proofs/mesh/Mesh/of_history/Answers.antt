@@ -2,7 +2,7 @@ use Rattle.std.proofs.Common.{◌∙◌, ◌*◌, ◌<◌, ◌≤◌, ℕ, sym, 
 use Rattle.point_order.specs.Complex.{complex}
 use Rattle.cell_store.specs.Buckets.{content_of}
 use Rattle.cell_store.specs.Meshes.{MeshView}
-use Rattle.cell_store.specs.Grids.{is_grid_size}
+use Rattle.bucket_grid.specs.Grids.{is_grid_size}
 use Rattle.cell_store.proofs.MeshLaws.{mesh_is}
 use Rattle.cell_store.proofs.WholeLaws.{first_all, first_next, first_none, sound_by}
 use Rattle.cell_store.proofs.mesh.Mesh.of_history.Goals as goal

@@ -8,7 +8,7 @@ use Rattle.point_order.specs.Facets.{points_of}
 use Rattle.point_order.specs.Sets.{IsIn, is_among}
 use Rattle.std.specs.List.{filter}
 use Rattle.cell_store.specs.Buckets.{BucketContent, InHand, bucket_at, cells_in, content_of}
-use Rattle.cell_store.specs.Grids.{bucket_of}
+use Rattle.bucket_grid.specs.Grids.{bucket_of}
 use Rattle.cell_store.specs.Meshes.{all_cells}
 use Rattle.cell_store.specs.Shares.{Shows}
 use Rattle.del_laws.proofs.Cited.{listed_every_point}

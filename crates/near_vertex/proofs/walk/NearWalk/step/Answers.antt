@@ -2,7 +2,7 @@ use Rattle.std.specs.Prelude.{IsSome, nat_eq}
 use Rattle.std.proofs.Common.{◌≡◌, refl, ap, sym, subst, ◌∙◌}
 use Rattle.list_laws.proofs.Cited.{not_both, same_from, same_true}
 use Rattle.cell_store.specs.Buckets.{bucket_at}
-use Rattle.cell_store.specs.Grids.{bucket_of}
+use Rattle.bucket_grid.specs.Grids.{bucket_of}
 use Rattle.near_vertex.specs.Points.{IsFirstOf}
 use Rattle.near_vertex.specs.Around.{Nearing, IsFirstAround}
 use Rattle.near_vertex.specs.Turns.{bucket_under, IsNearWalkIn, HasStepped}

@@ -1,7 +1,7 @@
 //! The grid of cubes.
 
 ghost use Rattle.std.specs.Prelude.{◌≡◌, ℕ, ◌*◌, ◌<◌, true, false, IfOk, OnErr, is_ok, IsTrue};
-ghost use Rattle.cell_stars.specs.Grids.{is_grid_size, bucket_of as number_of};
+ghost use Rattle.bucket_grid.specs.Grids.{is_grid_size, bucket_of as number_of};
 
 use point_order::Point;
 use std::marker::Model;
@@ -17,7 +17,7 @@ pub struct Grid {
 
 impl Model for Grid {
     ghost use Rattle.std.specs.Prelude.{ℕ, ◌≡◌, true};
-    ghost use Rattle.cell_stars.specs.Grids.{is_grid_size};
+    ghost use Rattle.bucket_grid.specs.Grids.{is_grid_size};
 
     ghost Value = { ℕ };
 

@@ -1,7 +1,7 @@
 use Rattle.std.proofs.Common.{◌≡◌, true, subst}
-use Rattle.cell_stars.specs.Grids.{is_grid_size}
-use Rattle.cell_stars.proofs.GridLaws.{bucket_below, bucket_is, only_bucket}
-use Rattle.cell_stars.proofs.grid.Grid.bucket_of.Goals as goal
+use Rattle.bucket_grid.specs.Grids.{is_grid_size}
+use Rattle.bucket_grid.proofs.GridLaws.{bucket_below, bucket_is, only_bucket}
+use Rattle.bucket_grid.proofs.grid.Grid.bucket_of.Goals as goal
 
 pub returns-then-self-eq1-clause-number : goal.returns-then-self-eq1-clause-number
 returns-then-self-eq1-clause-number c =

@@ -3,7 +3,7 @@ use Rattle.std.specs.Prelude.{◌≡◌, ℕ, ◌+◌, ◌*◌, ◌/◌, ◌<◌
 use Rattle.std.proofs.Common.{arith, refl, inl, inr, subst, sym, ap, ◌∙◌, ◌%◌}
 use Rattle.std.proofs.lemmas.Bool.Decides.{nat_tests}
 use Rattle.point_order.specs.Coordinates.{x_of, y_of, z_of}
-use Rattle.cell_stars.specs.Grids.{is_grid_size, width_of, bucket_of}
+use Rattle.bucket_grid.specs.Grids.{is_grid_size, width_of, bucket_of}
 
 -- the sizes, one by one
 pub sizes : (g : ℕ) → is_grid_size g ≡ true → (g ≡ 1) ⊎ ((g ≡ 2) ⊎ ((g ≡ 4) ⊎ ((g ≡ 8) ⊎ (g ≡ 16))))
