@@ -9,7 +9,7 @@ ghost use Rattle.command_words.specs.Lines.{plain_line};
 
 use byte_ends::{Sink, StdSink, StdSource, write_all};
 use delaunay_cli::Run;
-use grid_claims::OpenGate;
+use edit_gates::OpenGate;
 use std::alloc::{AllocError, Global};
 use std::env;
 use std::io::ErrorKind;

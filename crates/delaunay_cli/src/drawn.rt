@@ -10,7 +10,7 @@ use crate::mesh::history_and_parts;
 use command_pages::{Form, Made, Page};
 use command_words::{Asked, Drawn, Making, Stop};
 use edit_files::{file_text, generate};
-use grid_claims::Gate;
+use edit_gates::Gate;
 use std::alloc::Global;
 use std::thread::Threads;
 

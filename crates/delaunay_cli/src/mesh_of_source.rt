@@ -14,8 +14,8 @@ use crate::mesh::history_and_parts;
 use byte_ends::Source;
 use command_pages::{Parts, file_of_source};
 use command_words::{Asked, Making, Stop};
+use edit_gates::Gate;
 use edit_history::Entry;
-use grid_claims::Gate;
 use std::alloc::Global;
 use std::thread::Threads;
 

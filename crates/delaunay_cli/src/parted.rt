@@ -14,7 +14,7 @@ use byte_ends::Source;
 use command_ends::{Told, parted};
 use command_pages::{Made, Page};
 use command_words::{Asked, Making, Stop, Wanted};
-use grid_claims::Gate;
+use edit_gates::Gate;
 use std::alloc::Global;
 use std::thread::Threads;
 

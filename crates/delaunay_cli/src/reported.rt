@@ -13,7 +13,7 @@ use crate::mesh_of_source::mesh_of_source;
 use byte_ends::Source;
 use command_pages::{Form, Made, Page};
 use command_words::{Asked, Making, Stop};
-use grid_claims::Gate;
+use edit_gates::Gate;
 use std::alloc::Global;
 use std::thread::Threads;
 

@@ -14,7 +14,7 @@ use byte_ends::Source;
 use command_ends::steps_text;
 use command_pages::{Made, Page};
 use command_words::{Asked, Making, Stop};
-use grid_claims::Gate;
+use edit_gates::Gate;
 use std::alloc::Global;
 use std::thread::Threads;
 

@@ -18,7 +18,7 @@ ghost use Rattle.command_words.specs.Words.{kind_of_words, Asks, Draws, Queries,
 use crate::work::work;
 use byte_ends::{Sink, Source};
 use command_ends::{Run, tell};
-use grid_claims::Gate;
+use edit_gates::Gate;
 use std::alloc::Global;
 use std::thread::Threads;
 

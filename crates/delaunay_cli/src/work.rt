@@ -19,7 +19,7 @@ use byte_ends::{Sink, Source};
 use command_ends::{Ended, end};
 use command_pages::{Made, check_source};
 use command_words::{Stop, Task, read_words};
-use grid_claims::Gate;
+use edit_gates::Gate;
 use std::alloc::Global;
 use std::thread::Threads;
 

@@ -4,8 +4,8 @@ ghost use Rattle.std.specs.Prelude.{◌≡◌, ◌+◌, ◌^◌, ◌<◌, ◌≤
 ghost use Rattle.linked_mesh.specs.Applied.{edited};
 ghost use Rattle.edit_workers.specs.Alone.{with_edits};
 
+use edit_gates::{Gate, Moment};
 use edit_history::{Edit, Receipt};
-use grid_claims::{Gate, Moment};
 use linked_mesh::{LinkedMesh, apply};
 use std::alloc::{AllocError, Global};
 

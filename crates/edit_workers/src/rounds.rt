@@ -7,9 +7,10 @@ ghost use Rattle.edit_workers.specs.Trying.{OwnsAll};
 
 use crate::lists::Left;
 use crate::working::{Tried, pause, share_a_point, try_once};
+use edit_gates::Gate;
 use edit_history::Edit;
 use edit_lists::List;
-use grid_claims::{Gate, MeshTable, Pass};
+use grid_claims::{MeshTable, Pass};
 use std::alloc::{AllocError, Global};
 
 // How often a pair is tried.

@@ -8,9 +8,10 @@ ghost use Rattle.edit_workers.specs.Trying.{shares_with as shares_with_any};
 ghost use Rattle.edit_workers.specs.Working.{IsWorked, IsBroken};
 
 use crate::lists::Left;
+use edit_gates::Gate;
 use edit_history::Edit;
 use edit_lists::List;
-use grid_claims::{Gate, MeshTable, Pass, Refused};
+use grid_claims::{MeshTable, Pass, Refused};
 use point_order::Point;
 use std::alloc::{AllocError, Global};
 use std::hint::spin_loop;

@@ -20,15 +20,14 @@
 
 mod claiming;
 mod finish;
-mod gate;
 mod pass;
 mod refused;
 mod snapshot;
 mod table;
 
 pub use claim_table::laws;
+pub use edit_gates::{Gate, Moment, OpenGate};
 pub use edit_history::Receipt;
-pub use gate::{Gate, Moment, OpenGate};
 pub use pass::Pass;
 pub use refused::Refused;
 pub use snapshot::Snapshot;

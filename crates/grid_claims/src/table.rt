@@ -7,7 +7,6 @@ ghost use Rattle.grid_claims.specs.Tries.{opening_pass, IsSplit, joined, IsEdite
 
 use crate::claiming::prepare;
 use crate::finish::finish;
-use crate::gate::{Gate, Moment};
 use crate::pass::Pass;
 use crate::refused::Refused;
 use crate::snapshot::{Snapshot, copy_all};
@@ -15,6 +14,7 @@ use cell_store::{Hold, Mesh};
 use claim_table::{
     Board, Hands, Together, board_for, empty_hands, gather, let_go, look_and_let_go, look_at, part,
 };
+use edit_gates::{Gate, Moment};
 use edit_history::{Edit, Receipt};
 use std::alloc::{AllocError, Global};
 use std::marker::Model;

@@ -1,7 +1,7 @@
 //! Gates by which threads wait for each other.
 
 use crate::telling::Answer;
-use grid_claims::{Gate, Moment};
+use edit_gates::{Gate, Moment};
 use std::sync::atomic::{AtomicBool, AtomicU64, Ordering};
 
 // How often a flag is loaded before a thread gives up.

@@ -10,9 +10,9 @@ use crate::reading::list_at;
 use crate::telling::Answer;
 use bucket_grid::Grid;
 use cell_store::Mesh;
+use edit_gates::Gate;
 use edit_history::Edit;
 use edit_workers::{List, Lists, Segment, run_edits, share_a_point};
-use grid_claims::Gate;
 use std::alloc::{AllocError, Global};
 use std::thread::Threads;
 

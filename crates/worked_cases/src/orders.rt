@@ -7,9 +7,10 @@ use crate::gates::Watcher;
 use crate::reading::Word;
 use crate::tables::{put_edited, put_shown};
 use crate::telling::Answer;
+use edit_gates::{Gate, OpenGate};
 use edit_history::Edit;
 use edit_workers::{Left, List, work};
-use grid_claims::{Gate, MeshTable, OpenGate, Pass, Receipt, Refused, Snapshot};
+use grid_claims::{MeshTable, Pass, Receipt, Refused, Snapshot};
 use std::alloc::{AllocError, Global};
 
 // Tries an edit.

@@ -9,7 +9,7 @@ use crate::reading::list_at;
 use crate::telling::{Answer, put_bytes};
 use byte_ends::{MemSink, MemSource};
 use delaunay_cli::{Run, run};
-use grid_claims::{Gate, OpenGate};
+use edit_gates::{Gate, OpenGate};
 use std::alloc::{AllocError, Global};
 use std::thread::Threads;
 
