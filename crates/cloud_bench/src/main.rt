@@ -4,9 +4,9 @@
 //! It never prints a time: `bench/cloud` of the repository takes that from outside.
 #![tactic(auto)]
 
-use cloud_cells::complex_of_points;
 use edit_files::read_file;
 use edit_history::find_four;
+use net_digs::complex_of_points;
 use point_order::{Cell, points_in_order};
 use std::io;
 use std::io::Read;

@@ -6,8 +6,8 @@ use Rattle.std.proofs.lemmas.List.{length-append, take_all}
 use Rattle.list_laws.proofs.Cited.{from_append, take_next}
 use Rattle.point_order.specs.declared.cell.Cell.{Cell}
 use Rattle.point_order.specs.Sets.{IsIn}
-use Rattle.cloud_cells.specs.Nets.{cells_of_slots}
-use Rattle.cloud_cells.proofs.Nets.{live_append}
+use Rattle.cell_slots.specs.Nets.{cells_of_slots}
+use Rattle.cell_slots.proofs.Cited.{live_append}
 
 -- the cells of some slots are listed, and are so many
 pub record AreFound (l : List Cell) (slots : List (Option Cell)) (n : ℕ) : Type 0 where

@@ -2,7 +2,7 @@
 use Rattle.std.specs.Prelude.{ℕ, List}
 use Rattle.std.specs.List.{flat_map}
 use Rattle.point_order.specs.declared.cell.Cell.{Cell}
-use Rattle.cloud_cells.specs.Nets.{cells_of_slots}
+use Rattle.cell_slots.specs.Nets.{cells_of_slots}
 use Rattle.cloud_cells.specs.declared.groups.Group.{Group}
 
 -- the cells of all groups

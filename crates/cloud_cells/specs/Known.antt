@@ -5,7 +5,7 @@ use Rattle.point_order.specs.declared.cell.Cell.TheVariants.{Full, Open}
 use Rattle.point_order.specs.Complex.{complex}
 use Rattle.point_order.specs.Sets.{IsAscending, IsIn}
 use Rattle.point_order.specs.Solid.{is_solid}
-use Rattle.cloud_cells.specs.Clouds.{AreCellsOf}
+use Rattle.cell_slots.specs.Clouds.{AreCellsOf}
 use Rattle.cloud_cells.specs.declared.known.Compared.{Compared}
 use Rattle.cloud_cells.specs.declared.known.Compared.TheVariants.{Same, Other}
 

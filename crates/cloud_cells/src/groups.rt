@@ -3,19 +3,14 @@
 ghost use Rattle.std.specs.Prelude.{◌≡◌, ◌<◌, ◌++◌, ◌∷◌, [], false, length, IfOk, OnOk};
 ghost use Rattle.point_order.specs.Sets.{IsIn};
 ghost use Rattle.cloud_cells.specs.Groups.{cells_of_groups, points_of_groups};
-ghost use Rattle.cloud_cells.specs.Nets.{AreMoved, cells_of_slots};
-ghost use Rattle.cloud_cells.specs.Parts.{ArePut, HaveRoomFor};
+ghost use Rattle.cell_slots.specs.Nets.{AreMoved, cells_of_slots};
+ghost use Rattle.cell_slots.specs.Parts.{ArePut, HaveRoomFor};
 ghost use Rattle.cloud_cells.specs.declared.groups.Group.{Group as GroupOf};
-ghost use Rattle.cloud_cells.specs.declared.reach.Reach.TheVariants.{Part, Whole};
+ghost use Rattle.cell_slots.specs.declared.reach.Reach.TheVariants.{Part, Whole};
 
-use crate::choice::Choice;
-use crate::deal::Deal;
-use crate::desk::Desk;
-use crate::grow::put_points;
-use crate::net::Net;
-use crate::pages::Page;
-use crate::reach::Reach;
-use crate::turns::Turn;
+use cell_net::{Deal, Net};
+use cell_slots::{Page, Reach};
+use net_digs::{Choice, Desk, Turn, put_points};
 use rayon::prelude::*;
 use std::alloc::{AllocError, Global};
 use std::thread::Threads;

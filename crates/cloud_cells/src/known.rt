@@ -5,11 +5,11 @@ ghost use Rattle.point_order.specs.Sets.{IsIn};
 ghost use Rattle.point_order.specs.declared.cell.Cell.{Cell as CellParts};
 ghost use Rattle.point_order.specs.declared.cell.Cell.TheVariants.{Full, Open};
 ghost use Rattle.cloud_cells.specs.Known.{AreMarkedAmong};
-ghost use Rattle.cloud_cells.specs.Nets.{cells_of_slots};
+ghost use Rattle.cell_slots.specs.Nets.{cells_of_slots};
 
 use crate::listed::place_of;
-use crate::packed::Packed;
 use cell_lists::QuadList;
+use cell_slots::Packed;
 use point_order::{Cell, Tri};
 use std::alloc::{AllocError, Global};
 

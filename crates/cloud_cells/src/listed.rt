@@ -3,10 +3,10 @@
 ghost use Rattle.std.specs.Prelude.{◌≡◌, ◌++◌, true, map, IfSome};
 ghost use Rattle.point_order.specs.Sets.{IsIn};
 ghost use Rattle.point_order.specs.declared.cell.Cell.TheVariants.{Full, Open};
-ghost use Rattle.cloud_cells.specs.Nets.{AreAllIn};
+ghost use Rattle.cell_slots.specs.Nets.{AreAllIn};
 
-use crate::packed::Packed;
 use cell_lists::QuadList;
+use cell_slots::Packed;
 use point_order::{Cell, Tri};
 use std::cmp::Ordering;
 

@@ -8,11 +8,11 @@ ghost use Rattle.point_order.specs.Solid.{is_solid};
 ghost use Rattle.point_order.specs.declared.cell.Cell.TheVariants.{Full, Open};
 ghost use Rattle.cloud_cells.specs.Known.{IsCompared};
 
-use crate::grow::net_of_points;
 use crate::known::{Compared, known_in};
 use crate::listed::are_all;
-use crate::packed::Packed;
 use cell_lists::QuadList;
+use cell_slots::Packed;
+use net_digs::net_of_points;
 use point_order::{Point, Tri};
 use std::alloc::{AllocError, Global};
 use std::marker::Model;
@@ -27,7 +27,7 @@ pub struct Made {
 impl Model for Made {
     ghost use Rattle.std.specs.Prelude.{List, ℕ};
     ghost use Rattle.cloud_cells.specs.Known.{IsMadeOf};
-    ghost use Rattle.cloud_cells.specs.Nets.{cells_of_slots};
+    ghost use Rattle.cell_slots.specs.Nets.{cells_of_slots};
 
     ghost Value = { List ℕ };
 

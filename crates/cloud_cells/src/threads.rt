@@ -4,22 +4,18 @@ ghost use Rattle.std.specs.Prelude.{◌≡◌, ◌++◌, ◌∷◌, [], true, If
 ghost use Rattle.point_order.specs.Complex.{complex};
 ghost use Rattle.point_order.specs.Sets.{IsAscending};
 ghost use Rattle.point_order.specs.Solid.{is_solid};
-ghost use Rattle.cloud_cells.specs.Clouds.{AreCellsOf};
-ghost use Rattle.cloud_cells.specs.Nets.{cells_of_slots};
-ghost use Rattle.cloud_cells.specs.Parts.{ArePut, HaveRoomFor};
-ghost use Rattle.cloud_cells.specs.declared.reach.Reach.TheVariants.{Whole};
+ghost use Rattle.cell_slots.specs.Clouds.{AreCellsOf};
+ghost use Rattle.cell_slots.specs.Nets.{cells_of_slots};
+ghost use Rattle.cell_slots.specs.Parts.{ArePut, HaveRoomFor};
+ghost use Rattle.cell_slots.specs.declared.reach.Reach.TheVariants.{Whole};
 
-use crate::choice::Choice;
-use crate::deal::Deal;
-use crate::desk::Desk;
 use crate::groups::{gather_cells, pass};
-use crate::grow::{complex_of_points, put_points};
-use crate::net::Net;
-use crate::opening::{cells_of_four, four_of};
-use crate::ranked::ranked_by_threads;
-use crate::reach::Reach;
-use crate::tree::Tree;
-use crate::turns::{Turn, turns_of};
+use cell_net::{Deal, Net, Tree};
+use cell_slots::Reach;
+use net_digs::{
+    Choice, Desk, Turn, cells_of_four, complex_of_points, four_of, put_points, ranked_by_threads,
+    turns_of,
+};
 use point_order::{Cell, Point, cells_in_order};
 use std::alloc::{AllocError, Global};
 use std::thread::Threads;

@@ -4,8 +4,8 @@ use Rattle.std.proofs.Common.{subst, sym}
 use Rattle.point_order.specs.declared.cell.Cell.{Cell}
 use Rattle.point_order.specs.Sets.{IsIn, with_point}
 use Rattle.point_order.proofs.Cited.{in_with_old}
-use Rattle.cloud_cells.specs.Clouds.{AreCellsOf}
-use Rattle.cloud_cells.specs.Linked.{HasArrived, HasArrivedInSome}
+use Rattle.cell_slots.specs.Clouds.{AreCellsOf}
+use Rattle.net_digs.specs.Linked.{HasArrived, HasArrivedInSome}
 
 -- a point is there after another came
 pub still_there : (s : List ℕ) (a b : ℕ) → IsIn a s → IsIn a (with_point b s)

@@ -4,10 +4,11 @@ use Rattle.std.proofs.Common.{sym, subst, inl, inr}
 use Rattle.point_order.specs.declared.cell.Cell.{Cell}
 use Rattle.point_order.specs.Facets.{points_of}
 use Rattle.point_order.specs.Sets.{IsIn}
-use Rattle.cloud_cells.specs.Clouds.{AreCellsOf}
-use Rattle.cloud_cells.specs.Nets.{AreMoved, AreWithAll}
-use Rattle.cloud_cells.specs.Stars.{AreBehindAll, AreStarOf}
-use Rattle.cloud_cells.proofs.Cited.{moved_cells, refilled}
+use Rattle.cell_slots.specs.Clouds.{AreCellsOf}
+use Rattle.cell_slots.specs.Nets.{AreMoved, AreWithAll}
+use Rattle.cell_slots.specs.Stars.{AreBehindAll, AreStarOf}
+use Rattle.cell_slots.proofs.Cited.{moved_cells}
+use Rattle.net_digs.proofs.Cited.{refilled}
 use Rattle.star_refill.specs.Coming.{AreAround, HaveAllAcross}
 use Rattle.gift_wrap.specs.Near.{IsStar}
 use Rattle.star_refill.specs.Refills.{IsRefilled}

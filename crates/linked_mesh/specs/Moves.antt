@@ -5,7 +5,7 @@ use Rattle.point_order.specs.Sets.{IsIn}
 use Rattle.point_order.specs.Solid.{is_solid}
 use Rattle.edit_history.specs.Edits.{moved_to}
 use Rattle.hole_laws.specs.Edits.{IsNew}
-use Rattle.cloud_cells.specs.Clouds.{AreCellsOf}
+use Rattle.cell_slots.specs.Clouds.{AreCellsOf}
 
 -- the cells are those of some set that has the one point, and to which the other is new
 abbrev pub AreCellsToMove : ℕ → ℕ → List Cell → Type 0

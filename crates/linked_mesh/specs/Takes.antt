@@ -3,8 +3,8 @@ use Rattle.std.specs.Prelude.{◌≡◌, ℕ, true, List, ◌++◌}
 use Rattle.point_order.specs.declared.cell.Cell.{Cell}
 use Rattle.point_order.specs.Sets.{IsIn, without_point}
 use Rattle.point_order.specs.Solid.{is_solid}
-use Rattle.cloud_cells.specs.Clouds.{AreCellsOf}
-use Rattle.cloud_cells.specs.Stars.{AreStarOf}
+use Rattle.cell_slots.specs.Clouds.{AreCellsOf}
+use Rattle.cell_slots.specs.Stars.{AreStarOf}
 
 -- the star of v was taken out of the cells of s, and the others are left
 pub record IsOpenIn (s : List ℕ) (v : ℕ) (rest star : List Cell) : Type 0 where

@@ -8,14 +8,14 @@ ghost use Rattle.del_laws.specs.Keys.{AreKeys};
 ghost use Rattle.edit_history.specs.Edits.{after as after_of, moved_to, reply_to};
 ghost use Rattle.edit_history.specs.declared.history.Edit.TheVariants.{Add, Move, Take};
 ghost use Rattle.hole_laws.specs.Edits.{GoesFrom};
-ghost use Rattle.cloud_cells.specs.Clouds.{AreCellsOf};
+ghost use Rattle.cell_slots.specs.Clouds.{AreCellsOf};
 ghost use Rattle.nearest_points.specs.Points.{IsNearest};
 
 use crate::near::nearest_of_all;
 use crate::shift::move_point;
 use crate::take::take_point;
-use cloud_cells::LinkedCells;
 use edit_history::{Edit, Reply};
+use net_owner::LinkedCells;
 use point_order::{Cell, Point};
 use std::alloc::{AllocError, Global};
 use std::collections::BTreeSet;
@@ -30,7 +30,7 @@ pub struct LinkedSet {
 
 impl Model for LinkedSet {
     ghost use Rattle.std.specs.Prelude.{List, ℕ};
-    ghost use Rattle.cloud_cells.specs.Clouds.{AreCellsOf};
+    ghost use Rattle.cell_slots.specs.Clouds.{AreCellsOf};
 
     ghost Value = { List ℕ };
 

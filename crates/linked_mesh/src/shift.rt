@@ -3,11 +3,11 @@
 ghost use Rattle.std.specs.Prelude.{IfOk, List, OnErr, ℕ};
 ghost use Rattle.point_order.specs.Sets.{IsIn};
 ghost use Rattle.hole_laws.specs.Edits.{IsNew};
-ghost use Rattle.cloud_cells.specs.Clouds.{AreCellsOf};
+ghost use Rattle.cell_slots.specs.Clouds.{AreCellsOf};
 ghost use Rattle.linked_mesh.specs.Moves.{AreCellsToMove, AreMovedTo};
 
 use crate::take::take_point;
-use cloud_cells::LinkedCells;
+use net_owner::LinkedCells;
 use point_order::Point;
 use std::alloc::{AllocError, Global};
 

@@ -4,12 +4,12 @@ ghost use Rattle.std.specs.Bool.{OnFalse};
 ghost use Rattle.std.specs.Prelude.{◌≡◌, ◌≤◌, false, IfOk, List, MatchBool, MatchOption, OnErr, ℕ};
 ghost use Rattle.point_order.specs.Sets.{IsIn, without_point};
 ghost use Rattle.point_order.specs.Solid.{is_solid};
-ghost use Rattle.cloud_cells.specs.Clouds.{AreCellsOf};
-ghost use Rattle.cloud_cells.specs.Linked.{AreCellsWith};
+ghost use Rattle.cell_slots.specs.Clouds.{AreCellsOf};
+ghost use Rattle.net_digs.specs.Linked.{AreCellsWith};
 ghost use Rattle.linked_mesh.specs.Takes.{IsOpenIn, IsOpenInSome, AreLeft};
 ghost use Rattle.star_refill.specs.Refills.{IsRefilled};
 
-use cloud_cells::{LinkedCells, OpenStar};
+use net_owner::{LinkedCells, OpenStar};
 use point_order::{Cell, Point};
 use star_refill::cells_for_star;
 use std::alloc::{AllocError, Global};

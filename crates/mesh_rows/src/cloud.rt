@@ -11,8 +11,8 @@ ghost use Rattle.mesh_rows.specs.declared.stop.Stop.TheVariants.{Outside};
 
 use crate::rows::Place;
 use crate::stop::Stop;
-use cloud_cells::complex_of_points;
 use edit_history::find_four;
+use net_digs::complex_of_points;
 use point_order::{Cell, Point, points_in_order};
 use std::alloc::{AllocError, Global};
 

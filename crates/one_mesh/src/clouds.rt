@@ -9,8 +9,9 @@ ghost use Rattle.edit_history.specs.Opening.{opening_four};
 
 use bucket_grid::Grid;
 use cell_store::Mesh;
-use cloud_cells::{complex_by_threads, complex_of_points};
+use cloud_cells::complex_by_threads;
 use edit_history::laws::{one_thread_is_legal, solidity_is_of_the_set};
+use net_digs::complex_of_points;
 use point_history::{history_of_points, set_of};
 use point_order::{Cell, Point};
 use std::alloc::{AllocError, Global};

@@ -7,10 +7,9 @@ use Rattle.point_order.specs.declared.cell.Cell.{Cell}
 use Rattle.point_order.specs.Sets.{IsIn, is_among}
 use Rattle.edit_history.specs.declared.history.Edit.{Edit}
 use Rattle.edit_history.specs.Edits.{edit_points, share_point}
-use Rattle.cloud_cells.specs.Clouds.{AreCellsOf}
-use Rattle.cloud_cells.specs.Nets.{AreMoved}
-use Rattle.cloud_cells.proofs.Cited.{moved_cells}
-use Rattle.cloud_cells.proofs.Moving.{moved_first, moved_two}
+use Rattle.cell_slots.specs.Clouds.{AreCellsOf}
+use Rattle.cell_slots.specs.Nets.{AreMoved}
+use Rattle.cell_slots.proofs.Cited.{moved_cells, moved_first, moved_two}
 use Rattle.part_edits.specs.Made.{AgreeOn, AreMade, Made, ShareNone, set_after}
 use Rattle.part_edits.specs.Rounds.{AreWorks, Work, all_made, all_new, all_old}
 use Rattle.part_edits.specs.Laws.{MadeOneAfterAnother, MadeSideBySide, WorkersCompose}

@@ -12,9 +12,9 @@ use Rattle.edit_history.specs.declared.history.Reply.TheVariants.{Duplicate, Fla
 use Rattle.edit_history.specs.Edits.{after, arrived, changed, point_of, reply_to}
 use Rattle.edit_history.proofs.Cited.{duplicate, flat, inserts, missing, reply_there}
 use Rattle.hole_laws.specs.Edits.{IsNew}
-use Rattle.cloud_cells.specs.Clouds.{AreCellsOf}
-use Rattle.cloud_cells.specs.Linked.{ArePartLacking, ArePartWith}
-use Rattle.cloud_cells.specs.Parts.{Grow}
+use Rattle.cell_slots.specs.Clouds.{AreCellsOf}
+use Rattle.net_digs.specs.Linked.{ArePartLacking, ArePartWith}
+use Rattle.cell_slots.specs.Parts.{Grow}
 use Rattle.part_edits.specs.Changes.{ArePartKnown, IsMade}
 use Rattle.part_edits.specs.Made.{AreMade, Made}
 use Rattle.part_edits.specs.Takes.{IsTakenBeside}

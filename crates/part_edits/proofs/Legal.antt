@@ -6,7 +6,7 @@ use Rattle.point_order.specs.Sets.{IsIn}
 use Rattle.edit_history.specs.declared.history.Entry.{Entry}
 use Rattle.edit_history.specs.Edits.{after, share_point}
 use Rattle.edit_history.specs.Histories.{IsLegalFrom, replay, replay_from}
-use Rattle.cloud_cells.specs.Clouds.{AreCellsOf}
+use Rattle.cell_slots.specs.Clouds.{AreCellsOf}
 use Rattle.part_edits.specs.Made.{AreAnswered, ShareNone, set_after}
 use Rattle.part_edits.specs.Rounds.{AreNumberedFrom, Work, all_made, all_new, made_of}
 use Rattle.part_edits.specs.Laws.{RoundIsLegal}

@@ -7,14 +7,14 @@ use Rattle.point_order.specs.declared.cell.Cell.{Cell}
 use Rattle.point_order.specs.Complex.{complex}
 use Rattle.point_order.specs.Facets.{points_of}
 use Rattle.point_order.specs.Sets.{IsIn}
-use Rattle.cloud_cells.specs.Clouds.{AreCellsOf}
-use Rattle.cloud_cells.specs.Linked.{IsOpened}
-use Rattle.cloud_cells.specs.Nets.{AreMoved, AreWithAll}
-use Rattle.cloud_cells.specs.Parts.{InEachSet}
-use Rattle.cloud_cells.specs.Stars.{AreBehindAll}
-use Rattle.cloud_cells.proofs.Cited.{moved_cells, refilled}
-use Rattle.cloud_cells.proofs.Moving.{first_distinct, in_two, joined, last_distinct, moved_first, moved_last}
-use Rattle.cloud_cells.proofs.Moving.{moved_over}
+use Rattle.cell_slots.specs.Clouds.{AreCellsOf}
+use Rattle.net_digs.specs.Linked.{IsOpened}
+use Rattle.cell_slots.specs.Nets.{AreMoved, AreWithAll}
+use Rattle.cell_slots.specs.Parts.{InEachSet}
+use Rattle.cell_slots.specs.Stars.{AreBehindAll}
+use Rattle.cell_slots.proofs.Cited.{moved_cells}
+use Rattle.net_digs.proofs.Cited.{refilled}
+use Rattle.cell_slots.proofs.Cited.{first_distinct, in_two, joined, last_distinct, moved_first, moved_last, moved_over}
 use Rattle.star_refill.specs.Coming.{AreAround, HaveAllAcross}
 use Rattle.star_refill.specs.Refills.{IsRefilled}
 use Rattle.gift_wrap.specs.Near.{IsStar}

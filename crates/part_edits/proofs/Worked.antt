@@ -8,7 +8,7 @@ use Rattle.point_order.specs.Sets.{IsAscending, IsIn, is_among}
 use Rattle.edit_history.specs.declared.history.Reply.{Reply}
 use Rattle.edit_history.specs.Edits.{arrived, point_of, share_point}
 use Rattle.edit_history.proofs.Cited.{ascending_arrived, ascending_changed}
-use Rattle.cloud_cells.specs.Nets.{AreMoved}
+use Rattle.cell_slots.specs.Nets.{AreMoved}
 use Rattle.part_edits.specs.Changes.{ArePartKnown, IsMade}
 use Rattle.part_edits.specs.Lists.{HavePartKnown, IsAnswered, KeepOrder, answer_at, made_in}
 use Rattle.part_edits.specs.Made.{AreMade, Line, Made, known_after, known_by, set_after}

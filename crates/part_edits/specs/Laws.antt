@@ -7,7 +7,7 @@ use Rattle.edit_history.specs.declared.history.Reply.{Reply}
 use Rattle.edit_history.specs.Edits.{share_point}
 use Rattle.edit_history.specs.Histories.{IsLegal, replay}
 use Rattle.part_edits.specs.Lists.{KeepOrder, left_in, made_in}
-use Rattle.cloud_cells.specs.Clouds.{AreCellsOf}
+use Rattle.cell_slots.specs.Clouds.{AreCellsOf}
 use Rattle.part_edits.specs.Made.{AreAnswered, AreMade, Line, Made, ShareNone, known_after, set_after}
 use Rattle.part_edits.specs.Rounds.{AreApart, AreInOrder, AreNumberedFrom, AreWitnesses, AreWorks, SharingAreInOrder}
 use Rattle.part_edits.specs.Rounds.{Work, all_made, all_new, all_old, made_of}

@@ -3,8 +3,8 @@ use Rattle.std.specs.Prelude.{◌≡◌, ℕ, ◌<◌, true, false, List, [], �
 use Rattle.point_order.specs.declared.cell.Cell.{Cell}
 use Rattle.edit_history.specs.declared.history.Reply.{Reply}
 use Rattle.edit_history.specs.Edits.{share_point}
-use Rattle.cloud_cells.specs.Clouds.{AreCellsOf}
-use Rattle.cloud_cells.specs.Nets.{AreMoved}
+use Rattle.cell_slots.specs.Clouds.{AreCellsOf}
+use Rattle.cell_slots.specs.Nets.{AreMoved}
 use Rattle.part_edits.specs.Changes.{IsMade}
 use Rattle.part_edits.specs.Made.{AgreeOnLines, Line, Made, known_by}
 

@@ -5,7 +5,7 @@ use Rattle.point_order.specs.Sets.{IsIn, is_among}
 use Rattle.edit_history.specs.declared.history.Edit.{Edit}
 use Rattle.edit_history.specs.declared.history.Reply.{Reply}
 use Rattle.edit_history.specs.Edits.{after, arrived, changed, edit_points, point_of, reply_to, share_point}
-use Rattle.cloud_cells.specs.Clouds.{AreCellsOf}
+use Rattle.cell_slots.specs.Clouds.{AreCellsOf}
 
 -- a line, which is a tag and an edit
 abbrev pub Line : Type 0

@@ -2,16 +2,16 @@
 
 ghost use Rattle.std.specs.Prelude.{◌≡◌, IfOk, MatchBool, MatchOption, OnErr};
 ghost use Rattle.point_order.specs.Sets.{is_among};
-ghost use Rattle.cloud_cells.specs.Linked.{ArePartLacking};
-ghost use Rattle.cloud_cells.specs.Nets.{AreMoved};
-ghost use Rattle.cloud_cells.specs.Parts.{Grow};
+ghost use Rattle.net_digs.specs.Linked.{ArePartLacking};
+ghost use Rattle.cell_slots.specs.Nets.{AreMoved};
+ghost use Rattle.cell_slots.specs.Parts.{Grow};
 ghost use Rattle.std.specs.Prelude.{◌∷◌, []};
 ghost use Rattle.edit_history.specs.declared.history.Edit.TheVariants.{Add, Take};
 ghost use Rattle.part_edits.specs.Changes.{ArePartKnown, IsMade};
 
 use crate::take::take_here;
-use cloud_cells::LinkedCells;
 use edit_history::{Edit, Reply};
+use net_owner::LinkedCells;
 use point_order::Point;
 use std::alloc::{AllocError, Global};
 use std::collections::BTreeSet;

@@ -4,12 +4,12 @@
 ghost use Rattle.std.specs.Prelude.{◌≡◌, ◌++◌, IfOk, List, MatchOption, OnErr, ℕ};
 ghost use Rattle.point_order.specs.Sets.{IsIn};
 ghost use Rattle.point_order.specs.declared.cell.Cell.{Cell as CellOf};
-ghost use Rattle.cloud_cells.specs.Clouds.{AreCellsOf};
-ghost use Rattle.cloud_cells.specs.Linked.{ArePartWith};
-ghost use Rattle.cloud_cells.specs.Nets.{AreMoved};
+ghost use Rattle.cell_slots.specs.Clouds.{AreCellsOf};
+ghost use Rattle.net_digs.specs.Linked.{ArePartWith};
+ghost use Rattle.cell_slots.specs.Nets.{AreMoved};
 ghost use Rattle.part_edits.specs.Takes.{IsComing, IsOpenBeside, IsOpenBesideSome, IsTakenBeside};
 
-use cloud_cells::{LinkedCells, OpenStar};
+use net_owner::{LinkedCells, OpenStar};
 use point_order::{Cell, Point};
 use star_refill::cells_for_star;
 use std::alloc::{AllocError, Global};

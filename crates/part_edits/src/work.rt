@@ -5,15 +5,15 @@ ghost use Rattle.list_laws.specs.Lists.{IsAscending};
 ghost use Rattle.point_order.specs.Sets.{is_among, without_point};
 ghost use Rattle.edit_history.specs.declared.history.Edit.TheVariants.{Add, Take};
 ghost use Rattle.edit_history.specs.Edits.{edit_points, share_point};
-ghost use Rattle.cloud_cells.specs.Nets.{AreMoved};
+ghost use Rattle.cell_slots.specs.Nets.{AreMoved};
 ghost use Rattle.part_edits.specs.Changes.{ArePartKnown, IsMade};
 ghost use Rattle.part_edits.specs.Lists.{HavePartKnown, IsAnswered, KeepOrder, answer_at, made_in};
 ghost use Rattle.part_edits.specs.Made.{AreMade, Line, known_after, known_by};
 
 use crate::change::{add_here, has};
 use crate::take::take_here;
-use cloud_cells::LinkedCells;
 use edit_history::{Edit, Reply};
+use net_owner::LinkedCells;
 use point_order::Point;
 use std::alloc::{AllocError, Global};
 use std::collections::BTreeSet;

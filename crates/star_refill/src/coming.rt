@@ -9,9 +9,9 @@ ghost use Rattle.gift_wrap.specs.Wraps.{IsHole};
 ghost use Rattle.star_refill.specs.Coming.{AreAround, AreAroundInSome, HaveAllAcross};
 ghost use Rattle.star_refill.specs.Refills.{IsRefilled};
 
-use cloud_cells::cells_taken;
 use edit_history::find_four;
 use gift_wrap::{cells_wrapped, points_but};
+use net_digs::cells_taken;
 use point_order::{Cell, Point};
 use std::alloc::{AllocError, Global};
 

@@ -12,8 +12,8 @@ ghost use Rattle.vertex_removal.specs.Turns.{ShowsWithPoint, RefillGives, Refill
 use crate::near::{near_set, star_of};
 use cavity::Fresh;
 use cell_store::Hold;
-use cloud_cells::cells_taken;
 use gift_wrap::{cells_once, cells_wrapped};
+use net_digs::cells_taken;
 use point_order::{Cell, Point};
 use std::alloc::{AllocError, Global};
 use std::marker::Model;

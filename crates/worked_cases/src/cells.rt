@@ -2,9 +2,9 @@
 
 use crate::reading::{Word, at, coordinates_of, list_at};
 use crate::telling::Answer;
-use cloud_cells::complex_of_points;
 use complex_trial::complex_by_trial;
 use edit_history::find_four;
+use net_digs::complex_of_points;
 use point_order::{Cell, Point, cells_in_order, points_in_order};
 use std::alloc::Global;
 use std::cmp::Ordering;

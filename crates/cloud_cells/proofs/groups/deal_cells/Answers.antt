@@ -1,9 +1,8 @@
 use Rattle.std.proofs.Common.{◌∙◌, ◌++◌, arith}
 use Rattle.std.proofs.lemmas.Option.{MatchOption-at_some}
 use Rattle.cloud_cells.specs.Groups.{cells_of_groups}
-use Rattle.cloud_cells.specs.Nets.{cells_of_slots}
-use Rattle.cloud_cells.proofs.Beside.{come_over}
-use Rattle.cloud_cells.proofs.Moving.{moved_last, moved_on}
+use Rattle.cell_slots.specs.Nets.{cells_of_slots}
+use Rattle.cell_slots.proofs.Cited.{come_over, moved_last, moved_on}
 use Rattle.cloud_cells.proofs.groups.deal_cells.Goals as goal
 
 pub number_in-g-requires : goal.number_in-g-requires

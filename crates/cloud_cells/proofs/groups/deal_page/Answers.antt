@@ -1,10 +1,8 @@
 use Rattle.std.proofs.Common.{◌≡◌, ◌∙◌, ◌++◌, ap, subst, sym, List}
 use Rattle.point_order.specs.declared.cell.Cell.{Cell}
-use Rattle.cloud_cells.specs.Nets.{AreMoved, cells_of_slots}
+use Rattle.cell_slots.specs.Nets.{AreMoved, cells_of_slots}
 use Rattle.cloud_cells.specs.declared.groups.Group.{Group}
-use Rattle.cloud_cells.proofs.Beside.{flat_more, flat_same}
-use Rattle.cloud_cells.proofs.Moving.{moved_none}
-use Rattle.cloud_cells.proofs.Nets.{live_append}
+use Rattle.cell_slots.proofs.Cited.{flat_more, flat_same, moved_none, live_append}
 use Rattle.cloud_cells.proofs.groups.deal_page.Goals as goal
 
 pub returns-clause-cells : goal.returns-clause-cells

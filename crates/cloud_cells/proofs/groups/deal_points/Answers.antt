@@ -1,7 +1,7 @@
 use Rattle.std.proofs.Common.{◌∙◌, ◌++◌, ◌∷◌, [], arith, subst, List, ℕ}
 use Rattle.cloud_cells.specs.Groups.{points_of_groups}
-use Rattle.cloud_cells.specs.Nets.{AreMoved}
-use Rattle.cloud_cells.proofs.Beside.{come_over}
+use Rattle.cell_slots.specs.Nets.{AreMoved}
+use Rattle.cell_slots.proofs.Cited.{come_over}
 use Rattle.cloud_cells.proofs.groups.deal_points.Goals as goal
 
 pub number_in-g-requires : goal.number_in-g-requires

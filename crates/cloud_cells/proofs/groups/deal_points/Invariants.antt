@@ -1,6 +1,6 @@
 use Rattle.std.proofs.Common.{◌≡◌, ◌++◌, length}
 use Rattle.cloud_cells.specs.Groups.{cells_of_groups, points_of_groups}
-use Rattle.cloud_cells.specs.Nets.{AreMoved}
+use Rattle.cell_slots.specs.Nets.{AreMoved}
 use Rattle.cloud_cells.proofs.groups.deal_points.Given as goal
 
 abbrev pub invariant-loop-turn : goal.invariant-loop-turn

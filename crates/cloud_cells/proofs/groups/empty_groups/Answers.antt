@@ -1,8 +1,8 @@
 use Rattle.std.proofs.Common.{◌∙◌, ◌++◌, ap, refl, List, ℕ}
 use Rattle.point_order.specs.declared.cell.Cell.{Cell}
-use Rattle.cloud_cells.specs.Nets.{cells_of_slots}
+use Rattle.cell_slots.specs.Nets.{cells_of_slots}
 use Rattle.cloud_cells.specs.declared.groups.Group.{Group}
-use Rattle.cloud_cells.proofs.Beside.{flat_behind}
+use Rattle.cell_slots.proofs.Cited.{flat_behind}
 use Rattle.cloud_cells.proofs.groups.empty_groups.Goals as goal
 
 pub fill-init : goal.fill-init

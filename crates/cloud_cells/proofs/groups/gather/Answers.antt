@@ -1,9 +1,9 @@
 use Rattle.std.proofs.Common.{◌∙◌, ◌++◌, ap, subst, List, ℕ}
 use Rattle.point_order.specs.declared.cell.Cell.{Cell}
 use Rattle.cloud_cells.specs.Groups.{cells_of_groups, points_of_groups}
-use Rattle.cloud_cells.specs.Nets.{AreMoved, cells_of_slots}
+use Rattle.cell_slots.specs.Nets.{AreMoved, cells_of_slots}
 use Rattle.cloud_cells.specs.declared.groups.Group.{Group}
-use Rattle.cloud_cells.proofs.Beside.{come_over, flat_behind}
+use Rattle.cell_slots.proofs.Cited.{come_over, flat_behind}
 use Rattle.cloud_cells.proofs.groups.gather.Goals as goal
 
 pub loop-group-preserved : goal.loop-group-preserved

@@ -1,6 +1,6 @@
 use Rattle.std.proofs.Common.{◌++◌, length}
 use Rattle.cloud_cells.specs.Groups.{cells_of_groups, points_of_groups}
-use Rattle.cloud_cells.specs.Nets.{AreMoved, cells_of_slots}
+use Rattle.cell_slots.specs.Nets.{AreMoved, cells_of_slots}
 use Rattle.cloud_cells.proofs.groups.gather.Given as goal
 
 abbrev pub invariant-loop-group : goal.invariant-loop-group

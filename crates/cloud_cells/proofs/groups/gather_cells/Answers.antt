@@ -1,10 +1,8 @@
 use Rattle.std.proofs.Common.{◌≡◌, ◌∙◌, ◌++◌, ap, subst, sym, List}
 use Rattle.std.proofs.lemmas.Option.{MatchOption-at_some}
 use Rattle.point_order.specs.declared.cell.Cell.{Cell}
-use Rattle.cloud_cells.specs.Nets.{AreMoved, cells_of_slots}
-use Rattle.cloud_cells.proofs.Beside.{come_over}
-use Rattle.cloud_cells.proofs.Moving.{moved_last, moved_none, moved_on}
-use Rattle.cloud_cells.proofs.Nets.{live_append}
+use Rattle.cell_slots.specs.Nets.{AreMoved, cells_of_slots}
+use Rattle.cell_slots.proofs.Cited.{come_over, moved_last, moved_none, moved_on, live_append}
 use Rattle.cloud_cells.proofs.groups.gather_cells.Goals as goal
 
 pub add-requires : goal.add-requires

@@ -1,5 +1,5 @@
 use Rattle.std.proofs.Common.{◌++◌, length}
-use Rattle.cloud_cells.specs.Nets.{AreMoved, cells_of_slots}
+use Rattle.cell_slots.specs.Nets.{AreMoved, cells_of_slots}
 use Rattle.cloud_cells.proofs.groups.gather_cells.Given as goal
 
 abbrev pub invariant-loop-page : goal.invariant-loop-page

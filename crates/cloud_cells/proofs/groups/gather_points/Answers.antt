@@ -1,7 +1,6 @@
 use Rattle.std.proofs.Common.{◌++◌, ◌∷◌, [], subst, sym, List, ℕ}
-use Rattle.cloud_cells.specs.Nets.{AreMoved}
-use Rattle.cloud_cells.proofs.Beside.{come_over}
-use Rattle.cloud_cells.proofs.Moving.{moved_none}
+use Rattle.cell_slots.specs.Nets.{AreMoved}
+use Rattle.cell_slots.proofs.Cited.{come_over, moved_none}
 use Rattle.cloud_cells.proofs.groups.gather_points.Goals as goal
 
 pub loop-turn-preserved : goal.loop-turn-preserved

@@ -1,5 +1,5 @@
 use Rattle.std.proofs.Common.{◌++◌, length}
-use Rattle.cloud_cells.specs.Nets.{AreMoved}
+use Rattle.cell_slots.specs.Nets.{AreMoved}
 use Rattle.cloud_cells.proofs.groups.gather_points.Given as goal
 
 abbrev pub invariant-loop-turn : goal.invariant-loop-turn

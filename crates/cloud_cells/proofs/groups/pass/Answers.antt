@@ -2,11 +2,10 @@ use denote.Param.Send.{sendable}
 use Rattle.std.proofs.Common.{◌∙◌, ◌++◌, ap, length, subst, sym, List, ℕ, Option}
 use Rattle.point_order.specs.declared.cell.Cell.{Cell}
 use Rattle.cloud_cells.specs.Groups.{cells_of_groups, points_of_groups}
-use Rattle.cloud_cells.specs.Nets.{AreMoved, cells_of_slots}
-use Rattle.cloud_cells.specs.Parts.{ArePut}
+use Rattle.cell_slots.specs.Nets.{AreMoved, cells_of_slots}
+use Rattle.cell_slots.specs.Parts.{ArePut}
 use Rattle.cloud_cells.specs.declared.groups.Group.{Group}
-use Rattle.cloud_cells.proofs.Beside.{room_moved, written_back}
-use Rattle.cloud_cells.proofs.Parts.{put_moved}
+use Rattle.cell_slots.proofs.Cited.{room_moved, written_back, put_moved}
 use Rattle.cloud_cells.proofs.groups.pass.Goals as goal
 
 pub work_all-requires : goal.work_all-requires

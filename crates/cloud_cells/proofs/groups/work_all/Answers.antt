@@ -3,10 +3,10 @@ use Rattle.std.proofs.Crossing.{crosses, sync as heap_sync}
 use Rattle.cloud_cells.proofs.groups.Group.TheSendSync.{the_send as group_send}
 use Rattle.std.proofs.Common.{◌≡◌, ◌∙◌, ◌<◌, false, subst, sym, length}
 use Rattle.list_laws.proofs.Cited.{at_place, within_list}
-use Rattle.cloud_cells.specs.Nets.{cells_of_slots}
-use Rattle.cloud_cells.specs.Parts.{ArePut}
+use Rattle.cell_slots.specs.Nets.{cells_of_slots}
+use Rattle.cell_slots.specs.Parts.{ArePut}
 use Rattle.cloud_cells.specs.declared.groups.Group.{Group}
-use Rattle.cloud_cells.proofs.Beside.{put_beside, room_at}
+use Rattle.cell_slots.proofs.Cited.{put_beside, room_at}
 use Rattle.cloud_cells.proofs.groups.work_all.Goals as goal
 
 pub par_for_each_mut-requires : goal.par_for_each_mut-requires

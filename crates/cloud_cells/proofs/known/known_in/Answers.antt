@@ -1,8 +1,8 @@
 use Rattle.std.proofs.Common.{◌∙◌, sym, subst}
 use Rattle.point_order.specs.declared.cell.Cell.TheVariants.{Full, Open}
 use Rattle.cloud_cells.specs.Known.{AreMarkedAmong}
-use Rattle.cloud_cells.specs.Nets.{cells_of_slots}
-use Rattle.cloud_cells.proofs.Marks.{slot_in}
+use Rattle.cell_slots.specs.Nets.{cells_of_slots}
+use Rattle.cell_slots.proofs.Cited.{slot_in}
 use Rattle.cloud_cells.proofs.known.known_in.Goals.{in-Some, in_default}
 use Rattle.cloud_cells.proofs.known.known_in.Goals as goal
 

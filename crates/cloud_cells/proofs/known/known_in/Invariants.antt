@@ -1,7 +1,7 @@
 -- whatever is marked is the cell of a slot
 use Rattle.point_order.specs.declared.cell.Cell.TheVariants.{Full, Open}
 use Rattle.cloud_cells.specs.Known.{AreMarkedAmong}
-use Rattle.cloud_cells.specs.Nets.{cells_of_slots}
+use Rattle.cell_slots.specs.Nets.{cells_of_slots}
 use Rattle.cloud_cells.proofs.known.known_in.Given as goal
 
 abbrev pub invariant-loop-slot : goal.invariant-loop-slot

@@ -1,6 +1,5 @@
-use Rattle.cloud_cells.specs.Nets.{cells_of_slots}
-use Rattle.cloud_cells.proofs.Growing.{sorted_all}
-use Rattle.cloud_cells.proofs.Ranking.{same_on}
+use Rattle.cell_slots.specs.Nets.{cells_of_slots}
+use Rattle.net_digs.proofs.Cited.{sorted_all, same_on}
 use Rattle.cloud_cells.proofs.threads.complex_by_threads.Goals as goal
 
 pub returns : goal.returns

@@ -1,14 +1,13 @@
 use denote.Param.Send.{sendable}
 use Rattle.std.proofs.Common.{[], ◌∷◌, ◌∙◌, ◌++◌, subst, sym, List, Option}
 use Rattle.point_order.specs.declared.cell.Cell.{Cell}
-use Rattle.cloud_cells.specs.Clouds.{AreCellsOf}
-use Rattle.cloud_cells.specs.Nets.{AreMoved, cells_of_slots}
-use Rattle.cloud_cells.specs.Parts.{ArePut, HaveRoomFor}
-use Rattle.cloud_cells.specs.declared.reach.Reach.TheVariants.{Whole}
-use Rattle.cloud_cells.proofs.Growing.{grown_set, others_new}
-use Rattle.cloud_cells.proofs.Moving.{moved_cells}
-use Rattle.cloud_cells.proofs.Parts.{put_whole}
-use Rattle.cloud_cells.proofs.Standing.{whole_within}
+use Rattle.cell_slots.specs.Clouds.{AreCellsOf}
+use Rattle.cell_slots.specs.Nets.{AreMoved, cells_of_slots}
+use Rattle.cell_slots.specs.Parts.{ArePut, HaveRoomFor}
+use Rattle.cell_slots.specs.declared.reach.Reach.TheVariants.{Whole}
+use Rattle.net_digs.proofs.Cited.{grown_set, others_new}
+use Rattle.cell_slots.proofs.Cited.{moved_cells, put_whole}
+use Rattle.cell_net.proofs.Cited.{whole_within}
 use Rattle.cloud_cells.proofs.threads.net_by_threads.Goals as goal
 
 pub put_by_threads-requires : goal.put_by_threads-requires

@@ -1,6 +1,5 @@
-use Rattle.cloud_cells.specs.Nets.{cells_of_slots}
-use Rattle.cloud_cells.proofs.Moving.{moved_none}
-use Rattle.cloud_cells.proofs.Parts.{put_none}
+use Rattle.cell_slots.specs.Nets.{cells_of_slots}
+use Rattle.cell_slots.proofs.Cited.{moved_none, put_none}
 use Rattle.cloud_cells.proofs.threads.pass_if.Goals as goal
 
 pub returns-then-is_enough : goal.returns-then-is_enough

@@ -1,6 +1,5 @@
-use Rattle.cloud_cells.specs.Nets.{cells_of_slots}
-use Rattle.cloud_cells.proofs.Beside.{room_left}
-use Rattle.cloud_cells.proofs.Parts.{put_left}
+use Rattle.cell_slots.specs.Nets.{cells_of_slots}
+use Rattle.cell_slots.proofs.Cited.{room_left, put_left}
 use Rattle.cloud_cells.proofs.threads.pass_on.Goals as goal
 
 pub put_some-requires : goal.put_some-requires

@@ -1,10 +1,8 @@
 use denote.Param.Send.{sendable}
 use Rattle.std.proofs.Common.{[], refl, subst, List, ℕ}
-use Rattle.cloud_cells.specs.Nets.{cells_of_slots}
-use Rattle.cloud_cells.specs.Parts.{ArePut}
-use Rattle.cloud_cells.proofs.Beside.{room_left, room_next, wait_more}
-use Rattle.cloud_cells.proofs.Moving.{moved_none}
-use Rattle.cloud_cells.proofs.Parts.{all_put, put_left, put_none}
+use Rattle.cell_slots.specs.Nets.{cells_of_slots}
+use Rattle.cell_slots.specs.Parts.{ArePut}
+use Rattle.cell_slots.proofs.Cited.{room_left, room_next, wait_more, moved_none, all_put, put_left, put_none}
 use Rattle.cloud_cells.proofs.threads.put_by_threads.Goals as goal
 
 pub loop-turn-init : goal.loop-turn-init

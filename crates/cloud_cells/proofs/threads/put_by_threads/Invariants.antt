@@ -1,6 +1,6 @@
 use Rattle.std.proofs.Common.{take}
-use Rattle.cloud_cells.specs.Nets.{cells_of_slots}
-use Rattle.cloud_cells.specs.Parts.{ArePut}
+use Rattle.cell_slots.specs.Nets.{cells_of_slots}
+use Rattle.cell_slots.specs.Parts.{ArePut}
 use Rattle.cloud_cells.proofs.threads.put_by_threads.Given as goal
 
 abbrev pub invariant-loop-turn : goal.invariant-loop-turn

@@ -1,8 +1,6 @@
 use denote.Param.Send.{sendable}
-use Rattle.cloud_cells.specs.Nets.{cells_of_slots}
-use Rattle.cloud_cells.proofs.Beside.{room_left}
-use Rattle.cloud_cells.proofs.Moving.{moved_none}
-use Rattle.cloud_cells.proofs.Parts.{put_left, put_none}
+use Rattle.cell_slots.specs.Nets.{cells_of_slots}
+use Rattle.cell_slots.proofs.Cited.{room_left, moved_none, put_left, put_none}
 use Rattle.cloud_cells.proofs.threads.put_waiting.Goals as goal
 
 pub loop-init : goal.loop-init

@@ -1,5 +1,5 @@
-use Rattle.cloud_cells.specs.Nets.{cells_of_slots}
-use Rattle.cloud_cells.specs.Parts.{ArePut}
+use Rattle.cell_slots.specs.Nets.{cells_of_slots}
+use Rattle.cell_slots.specs.Parts.{ArePut}
 use Rattle.cloud_cells.proofs.threads.put_waiting.Given as goal
 
 abbrev pub invariant-loop : goal.invariant-loop

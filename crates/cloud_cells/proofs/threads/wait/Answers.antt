@@ -1,8 +1,7 @@
 use denote.Param.Send.{sendable}
 use Rattle.std.proofs.Common.{◌∷◌, [], ◌++◌}
-use Rattle.cloud_cells.specs.Nets.{cells_of_slots}
-use Rattle.cloud_cells.proofs.Moving.{moved_none}
-use Rattle.cloud_cells.proofs.Parts.{put_none}
+use Rattle.cell_slots.specs.Nets.{cells_of_slots}
+use Rattle.cell_slots.proofs.Cited.{moved_none, put_none}
 use Rattle.cloud_cells.proofs.threads.wait.Goals as goal
 
 pub put_waiting-requires : goal.put_waiting-requires

@@ -3,7 +3,7 @@ use Rattle.list_laws.proofs.Cited.{among_from, not_among}
 use Rattle.point_order.specs.Sets.{IsAscending, without_point}
 use Rattle.point_order.proofs.Cited.{ascending_with}
 use Rattle.point_history.proofs.Cited.{key_put}
-use Rattle.cloud_cells.specs.Clouds.{AreCellsOf}
+use Rattle.cell_slots.specs.Clouds.{AreCellsOf}
 use Rattle.linked_mesh.proofs.Keys.{out_again}
 use Rattle.linked_mesh.proofs.set.move_over.Goals as goal
 

@@ -3,8 +3,8 @@ use Rattle.list_laws.proofs.Cited.{not_among}
 use Rattle.point_order.specs.Sets.{IsAscending, without_point}
 use Rattle.point_order.proofs.Cited.{ascending_with}
 use Rattle.point_history.proofs.Cited.{key_put}
-use Rattle.cloud_cells.specs.Clouds.{AreCellsOf}
-use Rattle.cloud_cells.proofs.Cited.{moved_cells}
+use Rattle.cell_slots.specs.Clouds.{AreCellsOf}
+use Rattle.cell_slots.proofs.Cited.{moved_cells}
 use Rattle.linked_mesh.proofs.Keys.{out_again}
 use Rattle.linked_mesh.proofs.set.put_in.Goals as goal
 

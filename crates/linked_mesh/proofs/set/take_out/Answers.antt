@@ -1,7 +1,7 @@
 use Rattle.std.proofs.Common.{sym, subst, List, ℕ}
 use Rattle.std.proofs.lemmas.Bool.{MatchBool-at_false, MatchBool-at_true}
 use Rattle.list_laws.proofs.Cited.{among_from}
-use Rattle.cloud_cells.specs.Clouds.{AreCellsOf}
+use Rattle.cell_slots.specs.Clouds.{AreCellsOf}
 use Rattle.linked_mesh.proofs.set.take_out.Goals as goal
 
 pub take_point-requires : goal.take_point-requires

@@ -2,7 +2,7 @@ use Rattle.std.proofs.Common.{arith}
 use Rattle.std.proofs.lemmas.Bool.{MatchBool-at_false, MatchBool-at_true}
 use Rattle.list_laws.proofs.Cited.{on_err}
 use Rattle.point_order.specs.Sets.{with_point}
-use Rattle.cloud_cells.proofs.Cited.{moved_cells}
+use Rattle.cell_slots.proofs.Cited.{moved_cells}
 use Rattle.linked_mesh.proofs.Moved.{arrived_back, arrived_some, still_there}
 use Rattle.linked_mesh.proofs.shift.move_point.Goals as goal
 

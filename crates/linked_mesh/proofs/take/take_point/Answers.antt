@@ -1,8 +1,8 @@
 use Rattle.std.proofs.Common.{subst, List, ◌++◌, ◌≤◌, arith}
 use Rattle.list_laws.proofs.Cited.{on_err}
 use Rattle.point_order.specs.declared.cell.Cell.{Cell}
-use Rattle.cloud_cells.specs.Nets.{AreWithAll}
-use Rattle.cloud_cells.proofs.Cited.{moved_cells}
+use Rattle.cell_slots.specs.Nets.{AreWithAll}
+use Rattle.cell_slots.proofs.Cited.{moved_cells}
 use Rattle.linked_mesh.proofs.Taken.{back_with, left_with, open_in}
 use Rattle.linked_mesh.proofs.take.take_point.Goals as goal
 

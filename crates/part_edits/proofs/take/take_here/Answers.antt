@@ -1,8 +1,8 @@
 use Rattle.std.proofs.Common.{subst, List, ◌++◌}
 use Rattle.list_laws.proofs.Cited.{on_err}
 use Rattle.point_order.specs.declared.cell.Cell.{Cell}
-use Rattle.cloud_cells.specs.Nets.{AreWithAll}
-use Rattle.cloud_cells.proofs.Moving.{moved_on}
+use Rattle.cell_slots.specs.Nets.{AreWithAll}
+use Rattle.cell_slots.proofs.Cited.{moved_on}
 use Rattle.part_edits.proofs.Taken.{back_with, opened_beside, taken_with}
 use Rattle.part_edits.proofs.take.take_here.Goals as goal
 

@@ -2,8 +2,8 @@ use Rattle.std.proofs.Common.{[], slice_index_or, subst, List, Option}
 use Rattle.point_order.specs.declared.cell.Cell.TheVariants.{Full, Open}
 use Rattle.point_order.specs.declared.cell.Cell.{Cell}
 use Rattle.point_order.specs.Sets.{IsIn}
-use Rattle.cloud_cells.specs.Nets.{AreAllIn, cells_of_slots}
-use Rattle.cloud_cells.proofs.Growing.{all_listed}
+use Rattle.cell_slots.specs.Nets.{AreAllIn, cells_of_slots}
+use Rattle.net_digs.proofs.Cited.{all_listed}
 use Rattle.cloud_cells.proofs.made.Made.compared.Goals as goal
 
 pub returns-then-are_all : goal.returns-then-are_all

@@ -1,5 +1,5 @@
-use Rattle.cloud_cells.specs.Nets.{cells_of_slots}
-use Rattle.cloud_cells.proofs.Moving.{moved_cells}
+use Rattle.cell_slots.specs.Nets.{cells_of_slots}
+use Rattle.cell_slots.proofs.Cited.{moved_cells}
 use Rattle.cloud_cells.proofs.made.Made.of_points.Goals as goal
 
 pub invariant_of-result : goal.invariant_of-result

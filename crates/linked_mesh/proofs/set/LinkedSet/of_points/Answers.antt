@@ -1,5 +1,5 @@
 use Rattle.std.proofs.Common.{subst, sym, List, ℕ}
-use Rattle.cloud_cells.specs.Clouds.{AreCellsOf}
+use Rattle.cell_slots.specs.Clouds.{AreCellsOf}
 use Rattle.linked_mesh.proofs.set.LinkedSet.of_points.Goals as goal
 
 pub invariant_of-result : goal.invariant_of-result

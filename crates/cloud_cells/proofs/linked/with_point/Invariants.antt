@@ -1,6 +1,0 @@
-use Rattle.std.proofs.Common.{ℕ, ◌<◌}
-use Rattle.cloud_cells.specs.Linked.{NoneHasAt}
-use Rattle.cloud_cells.proofs.linked.with_point.Given as goal
-
-abbrev pub invariant-loop-i : goal.invariant-loop-i
-invariant-loop-i l = (k : ℕ) → k < l.i → NoneHasAt l.fn.v l.fn.net k

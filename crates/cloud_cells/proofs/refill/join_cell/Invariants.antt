@@ -1,5 +1,0 @@
-use Rattle.std.proofs.Common.{◌≡◌}
-use Rattle.cloud_cells.proofs.refill.join_cell.Given as goal
-
-abbrev pub invariant-loop-facet : goal.invariant-loop-facet
-invariant-loop-facet l = (l.net ≡ l.initial.net) × (l.number ≡ l.facet-index)

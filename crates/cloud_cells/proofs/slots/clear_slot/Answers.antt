@@ -1,7 +1,0 @@
-use Rattle.cloud_cells.proofs.Nets.{live_less}
-use Rattle.cloud_cells.proofs.slots.clear_slot.Goals as goal
-
-pub returns-then-place-len-clause-taken : goal.returns-then-place-len-clause-taken
-returns-then-place-len-clause-taken c =
-    rw c.clear.ensures
-    (live_less c.args.slots.now c.place_of-place.result c.args.cell.now c.place_of-place.ensures)

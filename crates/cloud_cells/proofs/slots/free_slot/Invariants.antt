@@ -1,6 +1,0 @@
-use Rattle.std.proofs.Common.{◌≢◌, ℕ, ◌<◌, None}
-use Rattle.cloud_cells.specs.Nets.{slot_at}
-use Rattle.cloud_cells.proofs.slots.free_slot.Given as goal
-
-abbrev pub invariant-loop-i : goal.invariant-loop-i
-invariant-loop-i l = (k : ℕ) → k < l.i → slot_at l.fn.slots k ≢ None

@@ -1,0 +1,11 @@
+pub mod Digging
+pub mod Filling
+pub mod FourCells
+pub mod Growing
+pub mod Marked
+pub mod Refilling
+pub mod StarSearch
+pub mod Behind
+pub mod Arrivals
+pub mod Ranking
+pub mod Cited

@@ -1,0 +1,51 @@
+use Rattle.std.proofs.Common.{sym, ◌∙◌, ap, subst, List, ◌+◌, ◌++◌, take, length, [], ◌∷◌, arith}
+use Rattle.std.proofs.lemmas.Bool.{MatchBool-at_false, MatchBool-at_true}
+use Rattle.std.proofs.lemmas.List.{take_all}
+use Rattle.list_laws.proofs.Cited.{in_left}
+use Rattle.point_order.specs.declared.cell.Cell.{Cell}
+use Rattle.point_order.specs.declared.cell.Facet.{Facet}
+use Rattle.point_order.specs.Facets.{facets_of}
+use Rattle.point_order.specs.Sets.{IsIn}
+use Rattle.hole_laws.proofs.Cited.{facets_few, more_twice, one_more}
+use Rattle.cell_slots.specs.Stars.{AreCrossedAround}
+use Rattle.net_digs.proofs.star.explore_around.Goals as goal
+
+pub cross_around-requires-clause-among : goal.cross_around-requires-clause-among
+cross_around-requires-clause-among c =
+    let i = c.loop-facet.invariant.0 in
+    subst (λ (l : List Cell). IsIn c.args.spot.now l) (sym i.1)
+    (in_left c.args.spot.now c.args.star.now.gone.items i.0 c.requires.among)
+
+-- one facet more is crossed
+pub loop-facet-preserved : goal.loop-facet-preserved
+loop-facet-preserved c =
+    let i = c.loop-facet.invariant in
+    let e = c.in_ok-could.ensures in
+    let new = c.cross_around.new.star.gone.items in (
+      more_twice c.args.star.now.gone.items c.loop-facet.star.gone.items new i.0 e.more,
+      e.marked,
+      λ others s k crossed t. (
+          let now = crossed ++ take c.loop-facet.facet-index c.facets-facets.result in
+          let w = MatchBool-at_true _ _ c.if-not-could.false e.crossed others s k now (i.2 others s k crossed t) in
+          subst (λ (l : List Facet). AreCrossedAround s c.args.v l new)
+          (one_more crossed c.facets-facets.result c.loop-facet.facet-index c.facet-item.result
+          (omega (arith, c.type_inv.facet-items)) c.facet-item.is)
+          (subst (λ (f : Facet). AreCrossedAround s c.args.v (now ++ f ∷ []) new) (sym c.facet-item.is) w)),
+      ap (λ n. n + 1) i.3,
+    )
+
+pub returns-then-not-could-clause-more : goal.returns-then-not-could-clause-more
+returns-then-not-could-clause-more c =
+    more_twice c.args.star.now.gone.items c.loop-facet.star.gone.items c.cross_around.new.star.gone.items
+    c.loop-facet.invariant.0 c.in_ok-could.ensures.more
+
+pub returns-then-not-could-clause-explored : goal.returns-then-not-could-clause-explored
+returns-then-not-could-clause-explored c =
+    MatchBool-at_false _ _ c.if-not-could.true c.in_ok-could.ensures.crossed
+
+pub returns-clause-explored : goal.returns-clause-explored
+returns-clause-explored c others s k crossed t =
+    subst (λ (l : List Facet). AreCrossedAround s c.args.v (crossed ++ l) c.loop-facet.star.gone.items)
+    (take_all c.loop-facet.facet-index c.facets-facets.result (omega
+    (arith, ap length (c.facets-facets.ensures ∙ ap facets_of c.cell.ensures), facets_few c.args.spot.now)) ∙
+    (c.facets-facets.ensures ∙ ap facets_of c.cell.ensures)) (c.loop-facet.invariant.2 others s k crossed t)
