@@ -13,9 +13,9 @@ use Rattle.del_laws.proofs.Cited.{listed_every_point, listed_inside, listed_is_c
 use Rattle.del_laws.proofs.NearestPoints.{nearest_by_cells}
 use Rattle.cell_store.specs.Buckets.{InHand}
 use Rattle.cell_store.specs.Shares.{Shows}
-use Rattle.near_vertex.specs.Points.{IsFirstOf, IsNearest}
+use Rattle.nearest_points.specs.Points.{IsFirstOf, IsNearest}
 use Rattle.near_vertex.specs.Around.{ShareACell, IsFirstAround}
-use Rattle.near_vertex.proofs.Order.{not_before_chain, one_before}
+use Rattle.nearest_points.proofs.Cited.{not_before_chain, one_before}
 
 -- ---- the search
 

@@ -1,4 +1,3 @@
 pub mod Order
 pub mod Around
 pub mod Starts
-pub mod Cited

@@ -6,7 +6,7 @@ use Rattle.cell_store.specs.Buckets.{BucketContent, InHand, bucket_at, points_at
 use Rattle.bucket_grid.specs.Grids.{bucket_of}
 use Rattle.cell_store.specs.Shares.{Shows}
 use Rattle.cell_walk.specs.Turns.{IsFirstMissing}
-use Rattle.near_vertex.specs.Points.{IsNearest}
+use Rattle.nearest_points.specs.Points.{IsNearest}
 use Rattle.near_vertex.specs.Around.{Nearing, IsFirstAround}
 use Rattle.near_vertex.specs.declared.walk.NearStart.{NearStart}
 use Rattle.near_vertex.specs.declared.walk.NearStart.TheVariants.{At, Need as Lacks}

@@ -6,9 +6,9 @@ ghost use Rattle.cell_store.specs.Meshes.{IsWhole};
 ghost use Rattle.cell_store.specs.Shares.{Shows, ShowsSome};
 ghost use Rattle.near_vertex.specs.Points.{AreNear, IsNear};
 
-use crate::search::square_from;
 use crate::walk::nearest;
 use cell_store::Hold;
+use nearest_points::square_from;
 use point_order::Point;
 use std::alloc::{AllocError, Global};
 

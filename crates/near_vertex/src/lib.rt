@@ -20,6 +20,5 @@ mod texts;
 mod walk;
 
 pub use answers::{Near, nearest_to_each};
-pub use search::first_among;
 pub use texts::put_near;
 pub use walk::{NearStart, NearTurn, NearWalk, nearest};

@@ -1,60 +1,21 @@
 //! The search for the next point of a walk, and for the first.
 
-ghost use Rattle.std.specs.Prelude.{◌≡◌, ℕ, List, ◌∷◌, IsSome, IfSome, MatchOption};
-ghost use Rattle.whole_ring.specs.Bounds.{IsWithin};
-ghost use Rattle.point_order.specs.Orientation.{distance};
+ghost use Rattle.std.specs.Prelude.{ℕ, List, IsSome, IfSome, MatchOption};
 ghost use Rattle.point_order.specs.Sets.{IsIn};
-ghost use Rattle.point_order.specs.Sizes.{greatest_square};
-ghost use Rattle.del_laws.specs.Nearest.{comes_before as is_first};
 ghost use Rattle.cell_store.specs.Buckets.{bucket_at};
 ghost use Rattle.bucket_grid.specs.Grids.{bucket_of};
 ghost use Rattle.cell_store.specs.Meshes.{IsWhole};
 ghost use Rattle.cell_store.specs.Shares.{Shows, ShowsSome};
 ghost use Rattle.cell_walk.specs.Turns.{IsFirstMissing};
-ghost use Rattle.near_vertex.specs.Points.{IsFirstOf};
 ghost use Rattle.near_vertex.specs.Around.{IsFirstAround};
 ghost use Rattle.near_vertex.specs.Turns.{HasNoPoint, IsLeastOfLowest, LeastIs};
 
 use cell_store::Hold;
-use point_order::{Point, Step};
+use nearest_points::{first_among, square_from};
+use point_order::Point;
 
 // How many points of a bucket are looked at for one that is near, on each side of its place in the order of keys.
 const LOOKS: usize = 256;
-
-// The square of the distance of a point from q.
-pub(crate) fn square_from(q: Point, a: Point) -> i64
-    ensures value { result ≡ distance q a }
-    ensures bound { IsWithin greatest_square result }
-{
-    Step::between(q, a).square()
-}
-
-// Whether a comes before b, as seen from a place from which the squares of their distances are these: it is nearer, or
-// as near with the lesser key.
-fn comes_before(near: i64, a: Point, far: i64, b: Point) -> bool
-    requires near_bound { IsWithin greatest_square near }
-    requires far_bound { IsWithin greatest_square far }
-    ensures { (q : ℕ) → near ≡ distance q a → far ≡ distance q b → result ≡ is_first q a b }
-{
-    near < far || (!(far < near) && a < b)
-}
-
-/// The first, as seen from q, of a point and the points of a list: the nearest, and among those as near the one with
-/// the least key. It takes no memory.
-pub fn first_among(q: Point, p: Point, points: &[Point]) -> Point
-    ensures { IsFirstOf q (p ∷ points.now) result }
-{
-    let mut first = p;
-    let mut least = square_from(q, p);
-    for x in points {
-        let square = square_from(q, *x);
-        if comes_before(square, *x, least, first) {
-            first = *x;
-            least = square;
-        }
-    }
-    first
-}
 
 // The first, as seen from q, of the points that share a cell with p. Its bucket is to be in hand.
 pub(crate) fn first_around(hold: &Hold, q: Point, p: Point) -> Point

@@ -3,7 +3,7 @@
 ghost use Rattle.std.specs.Prelude.{◌≡◌, ℕ, List};
 ghost use Rattle.cell_store.specs.Meshes.{IsWhole};
 ghost use Rattle.cell_store.specs.Shares.{Shows, ShowsSome};
-ghost use Rattle.near_vertex.specs.Points.{IsNearest};
+ghost use Rattle.nearest_points.specs.Points.{IsNearest};
 ghost use Rattle.near_vertex.specs.Turns.{ShowsNearWalk, IsNearWalkIn, NearStartGives, NearTurnGives};
 
 use crate::search::{first_around, first_missing, lowest_point, some_point};

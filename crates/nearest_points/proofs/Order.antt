@@ -193,3 +193,43 @@ one_later q p l i x best h e k f = record {
     ]
   ];
 }
+
+-- ---- a walk ends
+
+-- a number that is not negative, as a natural number
+abbrev size : ℤ → ℕ
+size (pos n) = n
+size (negsuc n) = 0
+
+-- what falls on a walk: the distance and the key as one number
+abbrev pub rank : ℕ → ℕ → ℕ
+rank q p = size (distance q p) * 2 ^ 42 + p
+
+-- no distance is negative
+pub not_negative : (q p : ℕ) → pos 0 ≤ℤ distance q p
+unfolding distance square_of_step
+not_negative q p = omega (
+  arith,
+  ints,
+  square_nonneg (x_from q p),
+  square_nonneg (y_from q p),
+  square_nonneg (z_from q p),
+)
+
+-- a number that is not negative is its size
+pub size_is : (z : ℤ) → pos 0 ≤ℤ z → pos (unsigned_abs z) ≡ z
+size_is (pos n) h = refl
+size_is (negsuc n) h = absurd (let g : ⊥ = omega (arith, ints, h) in g)
+
+-- in numbers
+falls : (da db : ℤ) (a b : ℕ) → pos 0 ≤ℤ da → pos 0 ≤ℤ db → a < 2 ^ 42 → IsLower da db a b →
+    size da * 2 ^ 42 + a < size db * 2 ^ 42 + b
+falls (pos m) (pos n) a b ha hb k (nearer l) = omega (arith, ints, l, k)
+falls (pos m) (pos n) a b ha hb k (as_near l i) = omega (arith, ints, l, i)
+falls (negsuc m) db a b ha hb k l = absurd (let h : ⊥ = omega (arith, ints, ha) in h)
+falls (pos m) (negsuc n) a b ha hb k l = absurd (let h : ⊥ = omega (arith, ints, hb) in h)
+
+-- it is less where the one comes before the other
+pub rank_falls : (q a b : ℕ) → a < 2 ^ 42 → comes_before q a b ≡ true → rank q a < rank q b
+rank_falls q a b k t = falls (distance q a) (distance q b) a b (not_negative q a) (not_negative q b) k
+    (lower_from q a b t)

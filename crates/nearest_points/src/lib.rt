@@ -3,4 +3,4 @@
 
 mod search;
 
-pub use search::first_among;
+pub use search::{first_among, square_from};

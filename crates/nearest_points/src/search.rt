@@ -9,8 +9,8 @@ ghost use Rattle.nearest_points.specs.Points.{IsFirstOf};
 
 use point_order::{Point, Step};
 
-// The square of the distance of a point from q.
-pub(crate) fn square_from(q: Point, a: Point) -> i64
+/// The square of the distance of a point from `q`, below 2^30.
+pub fn square_from(q: Point, a: Point) -> i64
     ensures value { result ≡ distance q a }
     ensures bound { IsWithin greatest_square result }
 {

@@ -1,6 +1,6 @@
 use Rattle.std.proofs.Common.{ap, length, subst, List, ℕ, ◌∷◌}
 use Rattle.cell_store.specs.Stars.{cells_around}
-use Rattle.near_vertex.specs.Points.{IsFirstOf}
+use Rattle.nearest_points.specs.Points.{IsFirstOf}
 use Rattle.near_vertex.proofs.Around.{one_more, first_of_all}
 use Rattle.cell_conflict.proofs.Cited.{none_in}
 use Rattle.near_vertex.proofs.search.first_around.Goals as goal

@@ -1,6 +1,6 @@
 use Rattle.std.proofs.Common.{refl, subst, ◌∙◌, ◌<◌}
-use Rattle.near_vertex.specs.Points.{IsNearest}
-use Rattle.near_vertex.proofs.Order.{rank, rank_falls}
+use Rattle.nearest_points.specs.Points.{IsNearest}
+use Rattle.nearest_points.proofs.Cited.{rank, rank_falls}
 use Rattle.near_vertex.proofs.Starts.{none_under}
 use Rattle.near_vertex.proofs.walk.nearest.Goals as goal
 

@@ -1,7 +1,7 @@
 use Rattle.std.proofs.Common.{◌≡◌, ℕ, List}
 use Rattle.cell_store.specs.Shares.{Shows}
 use Rattle.near_vertex.specs.Turns.{IsNearWalkIn}
-use Rattle.near_vertex.proofs.Order.{rank}
+use Rattle.nearest_points.proofs.Cited.{rank}
 use Rattle.near_vertex.proofs.walk.nearest.Given as goal
 
 abbrev pub invariant-loop-p : goal.invariant-loop-p

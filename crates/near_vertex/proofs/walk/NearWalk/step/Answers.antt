@@ -3,7 +3,7 @@ use Rattle.std.proofs.Common.{◌≡◌, refl, ap, sym, subst, ◌∙◌}
 use Rattle.list_laws.proofs.Cited.{not_both, same_from, same_true}
 use Rattle.cell_store.specs.Buckets.{bucket_at}
 use Rattle.bucket_grid.specs.Grids.{bucket_of}
-use Rattle.near_vertex.specs.Points.{IsFirstOf}
+use Rattle.nearest_points.specs.Points.{IsFirstOf}
 use Rattle.near_vertex.specs.Around.{Nearing, IsFirstAround}
 use Rattle.near_vertex.specs.Turns.{bucket_under, IsNearWalkIn, HasStepped}
 use Rattle.near_vertex.proofs.Around.{beside_in, here_nearest, moved_before}
