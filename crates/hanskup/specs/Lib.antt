@@ -9,7 +9,7 @@ pub use Rattle.edit_history.specs.Histories
 pub use Rattle.del_laws.specs.Keys
 pub use Rattle.cell_store.specs.Shares
 pub use Rattle.cell_store.specs.Meshes
-pub use Rattle.insertion.specs.Opening
+pub use Rattle.opening_entries.specs.Opening
 pub use Rattle.one_mesh.specs.Opened
 pub use Rattle.one_mesh.specs.Applied
 pub use Rattle.alpha_complex.specs.Condition

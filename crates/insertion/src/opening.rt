@@ -5,7 +5,8 @@ ghost use Rattle.point_order.specs.Coordinates.{IsKey};
 ghost use Rattle.point_order.specs.Sets.{AreFour, ascending};
 ghost use Rattle.cell_store.specs.Meshes.{AllInHand};
 ghost use Rattle.cell_store.specs.Changes.{IsNoted};
-ghost use Rattle.insertion.specs.Opening.{inserted, opening_history, AreFourIndependent, IsBare, HasCellsOfFour};
+ghost use Rattle.insertion.specs.Opening.{IsBare, HasCellsOfFour};
+ghost use Rattle.opening_entries.specs.Opening.{inserted, opening_history, AreFourIndependent};
 ghost use Rattle.hole_laws.specs.FiveCells.{five_cells};
 
 use bucket_grid::Grid;

@@ -3,7 +3,7 @@
 ghost use Rattle.std.specs.Prelude.{◌≡◌, ◌<◌, ◌^◌, length, IfOk, OnOk, OnErr};
 ghost use Rattle.edit_history.specs.Edits.{reply_to};
 ghost use Rattle.edit_history.specs.Histories.{replay};
-ghost use Rattle.insertion.specs.Opening.{opening_history, AreFourIndependent};
+ghost use Rattle.opening_entries.specs.Opening.{opening_history, AreFourIndependent};
 ghost use Rattle.one_mesh.specs.Applied.{edited};
 
 use bucket_grid::Grid;

@@ -3,7 +3,7 @@
 ghost use Rattle.std.specs.Prelude.{◌≡◌, ◌↔◌, ◌<◌, ◌≤◌, ◌^◌, false, Some, length, slice_index, option_map, IfOk, IsErr};
 ghost use Rattle.point_order.specs.Solid.{is_solid};
 ghost use Rattle.edit_history.specs.Opening.{opening_four};
-ghost use Rattle.insertion.specs.Opening.{AreFourIndependent};
+ghost use Rattle.opening_entries.specs.Opening.{AreFourIndependent};
 ghost use Rattle.one_mesh.specs.Opened.{tagged_at};
 
 use edit_history::{NotSolid, find_four};

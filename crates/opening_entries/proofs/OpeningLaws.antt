@@ -1,25 +1,16 @@
 -- The mesh of four independent points stands for the history that begins with them.
-use Rattle.std.specs.Prelude.{◌≡◌, refl, ℕ, zero, suc, map, ◌+◌, ◌<◌, true, false, Bool, cond, List, [], ◌∷◌, ◌++◌}
-use Rattle.std.specs.Prelude.{length, Option, Some, slice_index_or, pos, ◌==◌}
-use Rattle.std.specs.List.{filter}
+use Rattle.std.specs.Prelude.{◌≡◌, refl, ℕ, map, ◌+◌, true, false, Bool, List, [], ◌∷◌, pos}
 use Rattle.std.proofs.Common.{inl, inr, ap, sym, subst, ◌∙◌, arith}
 use Rattle.std.proofs.lemmas.Int.{ints}
 use Rattle.list_laws.proofs.Cited.{among_from, self_negative}
-use Rattle.point_order.specs.declared.cell.Cell.{Cell}
-use Rattle.point_order.specs.Complex.{complex}
-use Rattle.point_order.specs.Coordinates.{IsKey}
 use Rattle.point_order.specs.Orientation.{orientation, is_flat}
-use Rattle.point_order.specs.Sets.{IsIn, IsAscending, AreFour, ascending, is_among, with_point}
-use Rattle.point_order.specs.Solid.{is_solid}
-use Rattle.point_order.proofs.Cited.{ascending_ascending, ascending_is, ascending_with, in_ascending, in_ascending_from}
-use Rattle.point_order.proofs.Cited.{in_with, in_with_new, in_with_old, last_first, last_second, last_third, swap_first}
-use Rattle.point_order.proofs.Cited.{swap_middle, zero_true}
-use Rattle.edit_history.specs.declared.history.Entry.{Entry}
+use Rattle.point_order.specs.Sets.{IsIn, AreFour, ascending, is_among, with_point}
+use Rattle.point_order.proofs.Cited.{ascending_is, ascending_with, in_with, in_with_new, in_with_old, last_first}
+use Rattle.point_order.proofs.Cited.{last_second, last_third, swap_first, swap_middle, zero_true}
 use Rattle.edit_history.specs.declared.history.Reply.TheVariants.{Inserted}
-use Rattle.edit_history.specs.Edits.{is_move, point_of, reply_to, changed}
-use Rattle.edit_history.specs.Histories.{replay, replay_from, IsLegal, IsLegalFrom}
-use Rattle.edit_history.proofs.Cited.{leaves_set, solid_from}
-use Rattle.opening_entries.specs.Opening.{inserted, inserted_from, opening_history, AreFourIndependent}
+use Rattle.edit_history.specs.Edits.{reply_to, changed}
+use Rattle.edit_history.specs.Histories.{replay, replay_from, IsLegalFrom}
+use Rattle.opening_entries.specs.Opening.{inserted, inserted_from, opening_history}
 
 -- ---- independent points are distinct
 
@@ -44,7 +35,7 @@ four_apart a b c d f = (
 -- ---- the history
 
 -- each point is new where it comes
-abbrev AreNew : List ℕ → List (ℕ × ℕ) → Type 0
+abbrev pub AreNew : List ℕ → List (ℕ × ℕ) → Type 0
 AreNew s [] = Unit {0}
 AreNew s (line ∷ lines) = (¬ (IsIn line.1 s)) × AreNew (with_point line.1 s) lines
 
@@ -61,6 +52,17 @@ inserts s n line a = by (is_among line.1 s) refl
     by true e = absurd (a (among_from line.1 s e))
     by false e = rw e refl
 
+-- entries that insert points, each new where it comes, are legal
+pub legal_from : (n : ℕ) (s : List ℕ) (lines : List (ℕ × ℕ)) → AreNew s lines → IsLegalFrom n s (inserted_from n lines)
+legal_from n s [] a = tt
+legal_from n s (line ∷ lines) a =
+    let i = inserts s n line a.0 in (
+      refl,
+      sym i,
+      subst (λ (t : List ℕ). IsLegalFrom (n + 1) t (inserted_from (n + 1) lines))
+          (ap (changed s line.1) (sym i)) (legal_from (n + 1) (with_point line.1 s) lines a.1),
+    )
+
 -- and leave the set with these points
 replay_is : (n : ℕ) (s : List ℕ) (lines : List (ℕ × ℕ)) → AreNew s lines → replay_from s (inserted_from n lines)
     ≡ with_all s lines
@@ -71,7 +73,7 @@ replay_is n s (line ∷ lines) a =
     ∙ replay_is (n + 1) (with_point line.1 s) lines a.1
 
 -- four independent points are each new
-four_new : (a b c d : ℕ × ℕ) → is_flat a.1 b.1 c.1 d.1 ≡ false → AreNew [] (a ∷ b ∷ c ∷ d ∷ [])
+pub four_new : (a b c d : ℕ × ℕ) → is_flat a.1 b.1 c.1 d.1 ≡ false → AreNew [] (a ∷ b ∷ c ∷ d ∷ [])
 four_new a b c d f =
     let n = four_apart a.1 b.1 c.1 d.1 f in (
       (λ i. i),

@@ -1,6 +1,6 @@
 use Rattle.std.proofs.Common.{◌∙◌}
 use Rattle.cell_store.proofs.Cited.{history_is}
-use Rattle.insertion.specs.Opening.{opening_history}
+use Rattle.opening_entries.specs.Opening.{opening_history}
 use Rattle.insertion.proofs.OpeningLaws.{apart_by, stands_by}
 use Rattle.insertion.proofs.opening.open_mesh.Goals as goal
 
