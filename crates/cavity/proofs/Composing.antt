@@ -5,7 +5,7 @@ use Rattle.point_order.specs.declared.cell.Cell.{Cell}
 use Rattle.point_order.specs.Sets.{IsIn}
 use Rattle.list_laws.specs.Lists.{Gathers}
 use Rattle.point_order.proofs.Cited.{cell_in_or_not}
-use Rattle.cell_store.specs.Changes.{IsChange}
+use Rattle.cell_changes.specs.Changes.{IsChange}
 use Rattle.cavity.specs.Both.{AreOfBoth, IsOtherThan}
 
 -- what two steps gathered

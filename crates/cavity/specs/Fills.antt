@@ -7,7 +7,7 @@ use Rattle.point_order.specs.Sets.{with_point}
 use Rattle.hole_laws.specs.Edits.{IsSolidSet, IsNew}
 use Rattle.bucket_grid.specs.Grids.{bucket_of}
 use Rattle.cell_store.specs.Buckets.{InHand, bucket_at}
-use Rattle.cell_store.specs.Changes.{IsChange}
+use Rattle.cell_changes.specs.Changes.{IsChange}
 use Rattle.cell_store.specs.Ready.{AreHeld}
 
 -- Gone are exactly the cells of the complex of s that are none of that of s with p, and fresh are exactly the cells of

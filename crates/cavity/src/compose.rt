@@ -3,7 +3,7 @@
 ghost use Rattle.std.specs.Prelude.{List, IfOk, OnOk};
 ghost use Rattle.point_order.specs.declared.cell.Cell.{Cell};
 ghost use Rattle.list_laws.specs.Lists.{Gathers};
-ghost use Rattle.cell_store.specs.Changes.{IsChange};
+ghost use Rattle.cell_changes.specs.Changes.{IsChange};
 ghost use Rattle.cavity.specs.Both.{AreOfBoth, IsOtherThan};
 
 use crate::fill_hole::Fresh;

@@ -27,7 +27,8 @@ use Rattle.bucket_grid.specs.Grids.{bucket_of}
 use Rattle.cell_store.specs.Buckets.{BucketContent, InHand, bucket_at, cells_in, points_at}
 use Rattle.cell_store.specs.Swaps.{touches, swapped, without_cells}
 use Rattle.cell_store.specs.Shares.{IsSight}
-use Rattle.cell_store.specs.Changes.{dropped_in, put_in, swapped_in, IsChange, IsDropped, IsSwapped, NoneTouches}
+use Rattle.cell_store.specs.Changes.{dropped_in, put_in, swapped_in, IsDropped, IsSwapped, NoneTouches}
+use Rattle.cell_changes.specs.Changes.{IsChange}
 use Rattle.cell_store.specs.Ready.{AreHeld, FindsCells}
 use Rattle.cell_store.proofs.HandLaws.{held_point}
 use Rattle.cell_store.specs.Touches.{IsTouched}

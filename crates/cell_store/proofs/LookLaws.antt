@@ -8,7 +8,7 @@ use Rattle.edit_history.specs.Histories.{replay}
 use Rattle.hole_laws.specs.Edits.{IsNew}
 use Rattle.cell_store.specs.Buckets.{InHand}
 use Rattle.cell_store.specs.Between.{Enters, IsEntered, IsLeft, ShowsWhole}
-use Rattle.cell_store.specs.Changes.{IsChange}
+use Rattle.cell_changes.specs.Changes.{IsChange}
 use Rattle.cell_store.specs.Meshes.{IsHoldOf, MeshView, history_in, mesh_in, within_64_bits}
 use Rattle.cell_store.proofs.BetweenLaws.{entered_shows, held_entered, left_is_same}
 use Rattle.cell_store.proofs.MeshLaws.{all_are_held, held_by, roomed, shows_of}

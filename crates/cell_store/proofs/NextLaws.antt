@@ -28,7 +28,8 @@ use Rattle.bucket_grid.specs.Grids.{bucket_of}
 use Rattle.cell_store.specs.Buckets.{BucketContent, bucket_at}
 use Rattle.cell_store.specs.Swaps.{touches, swapped}
 use Rattle.cell_store.specs.Shares.{IsShare, cells_share, entries_share}
-use Rattle.cell_store.specs.Changes.{swapped_in, noted_in, IsChange, NextEntry, EntryKeepsHold, ShareAfterEntry}
+use Rattle.cell_store.specs.Changes.{swapped_in, noted_in, NextEntry, EntryKeepsHold, ShareAfterEntry}
+use Rattle.cell_changes.specs.Changes.{IsChange}
 use Rattle.cell_store.specs.Changes.{ShareElsewhere}
 use Rattle.cell_stars.proofs.Cited.{swapped_from, swapped_new, swapped_none, swapped_old, swapped_sorted}
 

@@ -39,7 +39,8 @@ use Rattle.bucket_grid.specs.Grids.{bucket_of}
 use Rattle.cell_store.specs.Buckets.{BucketContent, InHand, bucket_at}
 use Rattle.cell_store.specs.Swaps.{touches, without_cells, is_cell_among}
 use Rattle.cell_store.specs.Shares.{IsSight, Shows, cells_share, points_on}
-use Rattle.cell_store.specs.Changes.{IsChange, NoneTouches}
+use Rattle.cell_store.specs.Changes.{NoneTouches}
+use Rattle.cell_changes.specs.Changes.{IsChange}
 use Rattle.cell_store.specs.Touches.{HoldTouched, IsTouched, ShareOutsideTouch, ReachFromHeld, CommitsCommute}
 use Rattle.cell_stars.proofs.Cited.{among_from as cell_from, among_true as cell_among, swapped_none}
 use Rattle.cell_store.proofs.HandLaws.{held_point}

@@ -7,7 +7,8 @@ use Rattle.edit_history.specs.declared.history.Edit.TheVariants.{Add}
 use Rattle.hole_laws.specs.Edits.{IsNew, IsSolidSet}
 use Rattle.bucket_grid.specs.Grids.{bucket_of}
 use Rattle.cell_store.specs.Buckets.{BucketContent, InHand, bucket_at}
-use Rattle.cell_store.specs.Changes.{IsChange, IsDropped, IsPut, IsSwapped}
+use Rattle.cell_store.specs.Changes.{IsDropped, IsPut, IsSwapped}
+use Rattle.cell_changes.specs.Changes.{IsChange}
 use Rattle.cell_store.specs.Meshes.{IsWhole}
 use Rattle.cell_store.specs.Ready.{AreHeld}
 use Rattle.cell_store.specs.Shares.{IsSight, Shows}

@@ -8,6 +8,7 @@ use Rattle.point_order.specs.Solid.{is_solid}
 use Rattle.edit_history.specs.declared.history.Entry.{Entry}
 use Rattle.edit_history.specs.Edits.{HasKeys, is_move, point_of, reply_to, changed, after}
 use Rattle.edit_history.specs.Histories.{replay, IsLegal}
+use Rattle.cell_changes.specs.Changes.{IsChange}
 use Rattle.del_laws.specs.Keys.{AreKeys}
 use Rattle.bucket_grid.specs.Grids.{bucket_of}
 use Rattle.cell_store.specs.Swaps.{touches, swapped}
@@ -71,13 +72,6 @@ pub record IsArrived (e : Entry) (old new : InHand) : Type 0 where
 -- the bucket b after all that an entry makes of it
 abbrev pub brought_in : ℕ → ℕ → List Cell → List Cell → Entry → BucketContent → BucketContent
 brought_in g b gone fresh e c = noted_in g b e (arrived_in g b e (swapped_in g b gone fresh c))
-
--- gone are exactly the cells of s that are not in t, and fresh those of t that are not in s
-pub record IsChange (s t gone fresh : List Cell) : Type 0 where
-  pub went : (c : Cell) → IsIn c gone → IsIn c s × (IsIn c t → ⊥)
-  pub all_gone : (c : Cell) → IsIn c s → (IsIn c t → ⊥) → IsIn c gone
-  pub came : (c : Cell) → IsIn c fresh → IsIn c t × (IsIn c s → ⊥)
-  pub all_fresh : (c : Cell) → IsIn c t → (IsIn c s → ⊥) → IsIn c fresh
 
 -- The history with an entry is legal, the points that it leaves are keys and solid, and gone and fresh are exactly what
 -- the entry takes from the complex and adds to it.

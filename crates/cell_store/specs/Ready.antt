@@ -11,7 +11,8 @@ use Rattle.cell_stars.specs.Plans.{PlanView, Allows, MakesExchange}
 use Rattle.cell_stars.specs.Turns.{AreReady, IsTurn, IsWayBack, WasTurned}
 use Rattle.cell_store.specs.Swaps.{touches, swapped}
 use Rattle.cell_store.specs.Buckets.{Layout, InHand, bucket_at, cells_in, layout_at, points_at}
-use Rattle.cell_store.specs.Changes.{IsChange, NoneTouches}
+use Rattle.cell_store.specs.Changes.{NoneTouches}
+use Rattle.cell_changes.specs.Changes.{IsChange}
 use Rattle.cell_store.specs.Shares.{Shows}
 use Rattle.point_order.specs.Complex.{complex}
 use Rattle.cell_store.specs.declared.room.Exchange.{Exchange}

@@ -10,7 +10,8 @@ ghost use Rattle.cell_store.specs.Between.{ShowsWhole};
 ghost use Rattle.bucket_grid.specs.Grids.{is_grid_size};
 ghost use Rattle.cell_store.specs.Buckets.{InHand, content_of};
 ghost use Rattle.cell_store.specs.Shares.{IsSound, share_at};
-ghost use Rattle.cell_store.specs.Changes.{Follows, IsChange};
+ghost use Rattle.cell_store.specs.Changes.{Follows};
+ghost use Rattle.cell_changes.specs.Changes.{IsChange};
 ghost use Rattle.cell_store.specs.Meshes.{AllInHand, HasPlaces, IsHoldOf, StandsForSome, history_in, mesh_in};
 ghost use Rattle.cell_store.specs.Meshes.{within_64_bits};
 

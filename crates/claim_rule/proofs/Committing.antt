@@ -14,7 +14,8 @@ use Rattle.edit_history.specs.Edits.{HasKeys, edit_points, after}
 use Rattle.edit_history.specs.Histories.{replay}
 use Rattle.bucket_grid.specs.Grids.{bucket_of}
 use Rattle.cell_store.specs.Buckets.{BucketContent, InHand, bucket_at}
-use Rattle.cell_store.specs.Changes.{IsChange, IsNext, IsSwapped}
+use Rattle.cell_store.specs.Changes.{IsNext, IsSwapped}
+use Rattle.cell_changes.specs.Changes.{IsChange}
 use Rattle.claim_rule.specs.declared.board.Seat.{Seat}
 use Rattle.claim_rule.specs.declared.trial.Trial.{Trial}
 use Rattle.claim_rule.specs.declared.event.Event.TheVariants.{Commit}

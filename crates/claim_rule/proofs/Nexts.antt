@@ -12,7 +12,8 @@ use Rattle.edit_history.proofs.Cited.{leaves_set}
 use Rattle.hole_laws.specs.Edits.{IsSolidSet}
 use Rattle.cell_store.specs.Swaps.{without_cells}
 use Rattle.cell_store.specs.Shares.{IsSound, share_at}
-use Rattle.cell_store.specs.Changes.{IsChange, IsNext}
+use Rattle.cell_store.specs.Changes.{IsNext}
+use Rattle.cell_changes.specs.Changes.{IsChange}
 use Rattle.cell_store.specs.Touches.{IsTouched}
 use Rattle.cell_store.proofs.Cited.{all_out, left_out, next_entry, share_outside}
 use Rattle.claim_rule.specs.Boards.{BoardState}

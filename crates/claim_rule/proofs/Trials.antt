@@ -22,7 +22,7 @@ use Rattle.hole_laws.specs.Commuting.{Reaches}
 use Rattle.hole_laws.specs.Laws.{IsReached}
 use Rattle.hole_laws.specs.Lists.{AreJoined}
 use Rattle.cell_store.specs.Swaps.{without_cells}
-use Rattle.cell_store.specs.Changes.{IsChange}
+use Rattle.cell_changes.specs.Changes.{IsChange}
 use Rattle.cell_store.proofs.Cited.{all_out, left_out}
 use Rattle.claim_rule.specs.declared.trial.Trial.{Trial}
 use Rattle.claim_rule.proofs.Nexts.{both_out}

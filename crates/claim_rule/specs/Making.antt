@@ -6,7 +6,8 @@ use Rattle.edit_history.specs.declared.history.Edit.{Edit}
 use Rattle.edit_history.specs.declared.history.Entry.{Entry}
 use Rattle.edit_history.specs.Edits.{reply_to, after}
 use Rattle.cell_store.specs.Buckets.{InHand}
-use Rattle.cell_store.specs.Changes.{IsArrived, IsChange, IsSwapped, IsNoted}
+use Rattle.cell_store.specs.Changes.{IsArrived, IsSwapped, IsNoted}
+use Rattle.cell_changes.specs.Changes.{IsChange}
 use Rattle.cell_store.specs.Touches.{HoldTouched}
 use Rattle.claim_rule.specs.Kept.{held_by}
 

@@ -11,7 +11,7 @@ use Rattle.edit_history.specs.declared.history.Reply.{Reply}
 use Rattle.edit_history.specs.declared.history.Reply.TheVariants.{Missing, Occupied}
 use Rattle.edit_history.specs.Edits.{edit_points, reply_to, after}
 use Rattle.hole_laws.specs.Commuting.{Reaches}
-use Rattle.cell_store.specs.Changes.{IsChange}
+use Rattle.cell_changes.specs.Changes.{IsChange}
 use Rattle.cell_store.specs.Swaps.{without_cells}
 use Rattle.claim_rule.specs.declared.trial.Trial.{Trial}
 

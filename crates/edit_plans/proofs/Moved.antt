@@ -21,7 +21,8 @@ use Rattle.bucket_grid.specs.Grids.{bucket_of}
 use Rattle.cell_store.specs.Between.{Enters, HasWay, IsEntered, IsLeft, ShowsWhole, WasEntered}
 use Rattle.cell_store.specs.Buckets.{BucketContent, InHand, Room, bucket_at, room_both}
 use Rattle.cell_store.specs.Meshes.{AllInHand, IsHoldOf, MeshView}
-use Rattle.cell_store.specs.Changes.{IsChange, put_in, swapped_in}
+use Rattle.cell_store.specs.Changes.{put_in, swapped_in}
+use Rattle.cell_changes.specs.Changes.{IsChange}
 use Rattle.cell_store.specs.Ready.{AreHeld}
 use Rattle.cell_store.specs.Shares.{Shows}
 use Rattle.cell_store.specs.Touches.{HoldTouched}
@@ -34,7 +35,7 @@ use Rattle.insertion.specs.Arrivals.{ArrivalGives}
 use Rattle.insertion.specs.declared.arrival.Arrival.{Arrival}
 use Rattle.insertion.specs.declared.arrival.ArrivalTurn.{ArrivalTurn}
 use Rattle.insertion.specs.declared.arrival.ArrivalTurn.TheVariants.{Done as Comes, Need as Wants}
-use Rattle.vertex_removal.specs.Refills.{IsRefilled}
+use Rattle.cell_changes.specs.Changes.{IsRefilled}
 use Rattle.vertex_removal.specs.Turns.{RefillAsksBelow, AsksNothing, NoneIsNeededAround, RefillGives}
 use Rattle.vertex_removal.specs.declared.refill.RefillTurn.{RefillTurn}
 use Rattle.vertex_removal.specs.declared.refill.RefillTurn.TheVariants.{Done as Fills, Flat as LiesFlat, Need as Lacks}

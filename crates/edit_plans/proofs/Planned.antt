@@ -15,7 +15,7 @@ use Rattle.edit_history.proofs.Cited.{duplicate, flat, inserts, missing, reply_t
 use Rattle.hole_laws.specs.Edits.{IsNew}
 use Rattle.bucket_grid.specs.Grids.{bucket_of}
 use Rattle.cell_store.specs.Buckets.{BucketContent, InHand, bucket_at}
-use Rattle.cell_store.specs.Changes.{IsChange}
+use Rattle.cell_changes.specs.Changes.{IsChange}
 use Rattle.cell_store.specs.Meshes.{AreAmong}
 use Rattle.cell_store.specs.Ready.{AreHeld}
 use Rattle.cell_store.specs.Shares.{Shows}

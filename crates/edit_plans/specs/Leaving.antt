@@ -6,7 +6,7 @@ use Rattle.edit_history.specs.declared.history.Reply.{Reply}
 use Rattle.edit_history.specs.declared.history.Reply.TheVariants.{Flat, Moved}
 use Rattle.cell_store.specs.Between.{IsEntered}
 use Rattle.cell_store.specs.Buckets.{InHand}
-use Rattle.cell_store.specs.Changes.{IsChange}
+use Rattle.cell_changes.specs.Changes.{IsChange}
 use Rattle.cell_store.specs.Meshes.{AllInHand}
 use Rattle.cell_store.specs.Shares.{Shows}
 use Rattle.cavity.specs.Both.{AreOfBoth}

@@ -8,7 +8,7 @@ use Rattle.edit_history.specs.Edits.{HasKeys, after, reply_to}
 use Rattle.hole_laws.specs.Edits.{IsNew}
 use Rattle.bucket_grid.specs.Grids.{bucket_of}
 use Rattle.cell_store.specs.Buckets.{InHand, bucket_at}
-use Rattle.cell_store.specs.Changes.{IsChange}
+use Rattle.cell_changes.specs.Changes.{IsChange}
 use Rattle.cell_store.specs.Meshes.{AreAmong}
 use Rattle.cell_store.specs.Ready.{AreHeld}
 use Rattle.cell_store.specs.Shares.{Shows}

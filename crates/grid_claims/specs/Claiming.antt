@@ -4,7 +4,7 @@ use Rattle.edit_history.specs.declared.history.Edit.{Edit}
 use Rattle.edit_history.specs.declared.history.Entry.{Entry}
 use Rattle.edit_history.specs.Edits.{HasKeys, edit_points, reply_to, after}
 use Rattle.cell_store.specs.Buckets.{InHand, room_for}
-use Rattle.cell_store.specs.Changes.{IsChange}
+use Rattle.cell_changes.specs.Changes.{IsChange}
 use Rattle.cell_store.specs.Missing.{ArePointsHeld}
 use Rattle.point_order.specs.Complex.{complex}
 use Rattle.cell_store.specs.Ready.{AreHeld}

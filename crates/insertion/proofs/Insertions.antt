@@ -9,7 +9,7 @@ use Rattle.edit_history.specs.declared.history.Entry.{Entry}
 use Rattle.edit_history.specs.declared.history.Reply.TheVariants.{Inserted, Duplicate}
 use Rattle.edit_history.specs.Edits.{point_of, reply_to, changed, after}
 use Rattle.edit_history.specs.Histories.{replay}
-use Rattle.cell_store.specs.Changes.{IsChange}
+use Rattle.cell_changes.specs.Changes.{IsChange}
 use Rattle.insertion.specs.Entries.{IsInsertion, InsertionFollows}
 
 -- it is inserted

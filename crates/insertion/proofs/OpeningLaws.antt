@@ -19,7 +19,8 @@ use Rattle.bucket_grid.specs.Grids.{bucket_of}
 use Rattle.cell_store.specs.Swaps.{swapped, touches}
 use Rattle.cell_store.specs.Buckets.{BucketContent, InHand, bucket_at, at_place}
 use Rattle.cell_store.specs.Shares.{Stands, IsShare, points_share, cells_share, entries_share}
-use Rattle.cell_store.specs.Changes.{IsChange, IsNoted, noted_in, swapped_in}
+use Rattle.cell_store.specs.Changes.{IsNoted, noted_in, swapped_in}
+use Rattle.cell_changes.specs.Changes.{IsChange}
 use Rattle.cell_store.proofs.Cited.{cells_after, entries_after, entries_stay, mapped_some, points_after, points_stay}
 use Rattle.cell_store.proofs.Cited.{replay_next}
 use Rattle.insertion.specs.Opening.{IsBare}

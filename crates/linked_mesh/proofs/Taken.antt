@@ -11,7 +11,7 @@ use Rattle.cell_slots.proofs.Cited.{moved_cells}
 use Rattle.net_digs.proofs.Cited.{refilled}
 use Rattle.star_refill.specs.Coming.{AreAround, HaveAllAcross}
 use Rattle.gift_wrap.specs.Near.{IsStar}
-use Rattle.star_refill.specs.Refills.{IsRefilled}
+use Rattle.cell_changes.specs.Changes.{IsRefilled}
 use Rattle.linked_mesh.specs.Takes.{AreLeft, IsOpenIn}
 
 -- the star was taken out

@@ -7,7 +7,7 @@ ghost use Rattle.point_order.specs.Solid.{is_solid};
 ghost use Rattle.cell_slots.specs.Clouds.{AreCellsOf};
 ghost use Rattle.net_digs.specs.Linked.{AreCellsWith};
 ghost use Rattle.linked_mesh.specs.Takes.{IsOpenIn, IsOpenInSome, AreLeft};
-ghost use Rattle.star_refill.specs.Refills.{IsRefilled};
+ghost use Rattle.cell_changes.specs.Changes.{IsRefilled};
 
 use net_owner::{LinkedCells, OpenStar};
 use point_order::{Cell, Point};

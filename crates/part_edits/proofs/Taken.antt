@@ -16,7 +16,7 @@ use Rattle.cell_slots.proofs.Cited.{moved_cells}
 use Rattle.net_digs.proofs.Cited.{refilled}
 use Rattle.cell_slots.proofs.Cited.{first_distinct, in_two, joined, last_distinct, moved_first, moved_last, moved_over}
 use Rattle.star_refill.specs.Coming.{AreAround, HaveAllAcross}
-use Rattle.star_refill.specs.Refills.{IsRefilled}
+use Rattle.cell_changes.specs.Changes.{IsRefilled}
 use Rattle.gift_wrap.specs.Near.{IsStar}
 use Rattle.part_edits.specs.Takes.{IsOpenBeside, IsTakenBeside}
 

@@ -1,9 +1,8 @@
 -- The hole of a point that is taken, and what fills it.
-use Rattle.std.specs.Prelude.{◌≡◌, ℕ, true, List, ◌==◌, IsSome}
-use Rattle.std.proofs.Common.{refl, sym, subst, inl, ◌∙◌}
-use Rattle.std.proofs.lemmas.Bool.{eq-eqb}
+use Rattle.std.specs.Prelude.{◌≡◌, ℕ, true, List}
+use Rattle.std.proofs.Common.{inl}
 use Rattle.list_laws.specs.Lists.{AreDistinct}
-use Rattle.list_laws.proofs.Cited.{filtered_from, filtered_true, is_in, some_of}
+use Rattle.list_laws.proofs.Cited.{is_in}
 use Rattle.point_order.specs.declared.cell.Cell.{Cell}
 use Rattle.point_order.specs.Complex.{complex}
 use Rattle.point_order.specs.Facets.{points_of}
@@ -13,7 +12,7 @@ use Rattle.del_laws.proofs.Cited.{solid_more}
 use Rattle.hole_laws.specs.Edits.{IsSet, IsLinkSet}
 use Rattle.hole_laws.proofs.Cited.{cells_of_rest, old_lack_point, refilled_from_link, rest_new, rest_set}
 use Rattle.gift_wrap.specs.Near.{AreTaken, IsStar}
-use Rattle.star_refill.specs.Refills.{IsRefilled}
+use Rattle.cell_changes.specs.Changes.{IsRefilled}
 
 module _ (s : List ℕ) (v : ℕ) (i : IsSet s) (m : IsIn v s) (t : List ℕ) (l : IsLinkSet s v t) where
   -- the rest is solid

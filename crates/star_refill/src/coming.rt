@@ -7,7 +7,7 @@ ghost use Rattle.point_order.specs.Solid.{is_solid as is_solid_of};
 ghost use Rattle.gift_wrap.specs.Near.{AreTaken};
 ghost use Rattle.gift_wrap.specs.Wraps.{IsHole};
 ghost use Rattle.star_refill.specs.Coming.{AreAround, AreAroundInSome, HaveAllAcross};
-ghost use Rattle.star_refill.specs.Refills.{IsRefilled};
+ghost use Rattle.cell_changes.specs.Changes.{IsRefilled};
 
 use edit_history::find_four;
 use gift_wrap::{cells_wrapped, points_but};
@@ -15,16 +15,21 @@ use net_digs::cells_taken;
 use point_order::{Cell, Point};
 use std::alloc::{AllocError, Global};
 
-// Whether four of the points are independent.
-fn is_solid(points: &[Point]) -> bool
+/// Whether four of the points are independent.
+pub fn is_solid(points: &[Point]) -> bool
     ensures { result ≡ is_solid_of points.now }
 {
     find_four(points).is_ok()
 }
 
-// The cells that v takes away from the complex of the points near it, by wrapping the hole or by digging in that
-// complex.
-fn cells_coming(
+/// The cells that `v` takes away from the complex of the points near it, each once, in any order: by wrapping the hole,
+/// or by digging in that complex.
+///
+/// The points are those of a solid set between the link of `v` and the rest, and the star is that of `v`.
+///
+/// # Errors
+/// Want of memory.
+pub fn cells_coming(
     alloc: Global,
     points: &[Point],
     v: Point,

@@ -3,4 +3,4 @@
 
 mod coming;
 
-pub use coming::cells_for_star;
+pub use coming::{cells_coming, cells_for_star, is_solid};

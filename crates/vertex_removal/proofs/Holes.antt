@@ -1,24 +1,17 @@
--- The hole of a point that is taken, and what fills it.
-use Rattle.std.specs.Prelude.{◌≡◌, ℕ, true, List, ◌==◌, IsSome}
-use Rattle.std.proofs.Common.{refl, sym, subst, inl, ◌∙◌}
+-- The point that is taken, and the cells that fill its hole, in a hold of buckets.
+use Rattle.std.specs.Prelude.{ℕ, List, ◌==◌, IsSome}
+use Rattle.std.proofs.Common.{refl, sym, subst, ◌∙◌}
 use Rattle.std.proofs.lemmas.Bool.{eq-eqb}
-use Rattle.list_laws.specs.Lists.{AreDistinct}
-use Rattle.list_laws.proofs.Cited.{filtered_from, filtered_true, is_in, some_of}
+use Rattle.list_laws.proofs.Cited.{filtered_from, filtered_true, some_of}
 use Rattle.point_order.specs.declared.cell.Cell.{Cell}
-use Rattle.point_order.specs.Complex.{complex}
-use Rattle.point_order.specs.Facets.{points_of}
-use Rattle.point_order.specs.Sets.{IsIn, without_point}
-use Rattle.point_order.specs.Solid.{is_solid}
-use Rattle.del_laws.proofs.Cited.{solid_more}
-use Rattle.hole_laws.specs.Edits.{IsSet, IsLinkSet}
-use Rattle.hole_laws.proofs.Cited.{cells_of_rest, coming_are_near, old_lack_point, refilled_from_link, rest_new}
-use Rattle.hole_laws.proofs.Cited.{rest_set}
+use Rattle.point_order.specs.Sets.{IsIn}
+use Rattle.hole_laws.specs.Edits.{IsSet}
+use Rattle.hole_laws.proofs.Cited.{coming_are_near}
 use Rattle.bucket_grid.specs.Grids.{bucket_of}
 use Rattle.cell_store.specs.Buckets.{InHand, bucket_at}
 use Rattle.cell_store.specs.Ready.{AreHeld}
 use Rattle.cell_store.specs.Shares.{Shows}
-use Rattle.gift_wrap.specs.Near.{AreTaken, IsStar}
-use Rattle.vertex_removal.specs.Refills.{IsRefilled}
+use Rattle.cell_changes.specs.Changes.{IsRefilled}
 
 -- a point whose bucket is in hand is in each set that the hold shows, or in none
 pub still_there : (hold : InHand) (h k : List ℕ) (v : ℕ) → Shows hold h → Shows hold k →
@@ -29,40 +22,6 @@ still_there hold h k v st sk o m =
     let i = filtered_true (λ p. bucket_of hold.grid p == b) h v m (eq-eqb b b refl) in
     let e = sym (st.sights b x.0 x.1).points ∙ (sk.sights b x.0 x.1).points in
     (filtered_from (λ p. bucket_of hold.grid p == b) k v (subst (λ (l : List ℕ). IsIn v l) e i)).0
-
-module _ (s : List ℕ) (v : ℕ) (i : IsSet s) (m : IsIn v s) (t : List ℕ) (l : IsLinkSet s v t) where
-  -- the rest is solid
-  pub rest_solid : is_solid (without_point v s) ≡ true
-  rest_solid = solid_more t (without_point v s) l.inside l.solid.solid
-
-  -- no cell of the rest has v
-  lacks : (q : Cell) → IsIn q (complex (without_point v s)) → ¬ (IsIn v (points_of q))
-  lacks q o =
-      old_lack_point (without_point v s) v (record { set = rest_set v s i; solid = rest_solid }) (rest_new v s i m) q o
-
-  -- a cell of the set that is none of the rest has it
-  has : (q : Cell) → IsIn q (complex s) → (IsIn q (complex (without_point v s)) → ⊥) → IsIn v (points_of q)
-  has q k n = elim (is_in v (points_of q)) [
-    | yes y ↦ y
-    | no x ↦ absurd (n ((cells_of_rest s v i m rest_solid q).1 (inl (k, x))))
-  ]
-
-  -- the cells at v, and those that v takes away from the complex of the points near
-  pub hole_filled : (star fresh : List Cell) → IsStar s v star → AreDistinct star → AreTaken t v fresh →
-      IsRefilled s v star fresh
-  hole_filled star fresh k once f =
-      record {
-        solid = rest_solid;
-        star = k;
-        change = record {
-          went = λ q j. (let r = (k q).0 j in (r.0, λ o. lacks q o r.1));
-          all_gone = λ q j n. (k q).1 (j, has q j n);
-          came = λ q j. (let r = (refilled_from_link s v t i m l q).1 ((f.goes q).0 j) in (r.before, r.after));
-          all_fresh = λ q j n. (f.goes q).1 ((refilled_from_link s v t i m l q).0 (record { before = j; after = n }));
-        };
-        gone_once = once;
-        fresh_once = f.once;
-      }
 
 -- the buckets of the fresh cells are in hand with those of the cells at v
 pub fresh_held : (hold : InHand) (s : List ℕ) (v : ℕ) (gone fresh : List Cell) → IsSet s → IsIn v s →

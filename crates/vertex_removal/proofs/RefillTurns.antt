@@ -10,9 +10,10 @@ use Rattle.cell_store.specs.Buckets.{InHand, bucket_at}
 use Rattle.cell_store.specs.Ready.{AreHeld}
 use Rattle.cell_store.specs.Missing.{IsCellMissing}
 use Rattle.gift_wrap.specs.Near.{IsStar, AreTaken}
-use Rattle.vertex_removal.specs.Refills.{IsRefilled}
+use Rattle.cell_changes.specs.Changes.{IsRefilled}
 use Rattle.vertex_removal.specs.Turns.{IsNeededAround, NoneIsNeededAround}
-use Rattle.vertex_removal.proofs.Holes.{hole_filled, fresh_held}
+use Rattle.star_refill.proofs.Cited.{hole_filled}
+use Rattle.vertex_removal.proofs.Holes.{fresh_held}
 
 -- a bucket that is missing for the cells at v is needed
 pub star_needs : (hold : InHand) (s : List ℕ) (v : ℕ) (star : List Cell) (b : ℕ) → IsStar s v star →

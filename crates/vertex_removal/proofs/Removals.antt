@@ -9,7 +9,7 @@ use Rattle.edit_history.specs.declared.history.Reply.TheVariants.{Removed, Moved
 use Rattle.edit_history.specs.Edits.{point_of, reply_to, changed, after, moved_to}
 use Rattle.edit_history.specs.Histories.{replay}
 use Rattle.edit_history.proofs.Cited.{after_moved, does_move, reply_there}
-use Rattle.cell_store.specs.Changes.{IsChange}
+use Rattle.cell_changes.specs.Changes.{IsChange}
 use Rattle.vertex_removal.specs.Refills.{MoveFollows, RemovalFollows}
 
 -- the entry of a taken point follows, with the cells that go and come

@@ -1,4 +1,3 @@
 pub mod Refills
 pub mod Turns
 pub mod Stars
-pub mod Coming

@@ -1,27 +1,16 @@
--- The cells that go when a point is taken, and those that come.
-use Rattle.std.specs.Prelude.{◌≡◌, ℕ, ◌↔◌, true, List, length}
-use Rattle.list_laws.specs.Lists.{AreDistinct}
+-- The entries of points that are taken and moved.
+use Rattle.std.specs.Prelude.{◌≡◌, ℕ, true, List, length}
 use Rattle.point_order.specs.declared.cell.Cell.{Cell}
 use Rattle.point_order.specs.Complex.{complex}
-use Rattle.point_order.specs.Facets.{points_of}
-use Rattle.point_order.specs.Sets.{IsIn, without_point}
+use Rattle.point_order.specs.Sets.{IsIn}
 use Rattle.point_order.specs.Solid.{is_solid}
 use Rattle.edit_history.specs.declared.history.Edit.TheVariants.{Take, Move}
 use Rattle.edit_history.specs.declared.history.Entry.{Entry}
 use Rattle.edit_history.specs.declared.history.Reply.TheVariants.{Removed, Moved}
 use Rattle.edit_history.specs.Edits.{moved_to, point_of}
 use Rattle.edit_history.specs.Histories.{replay}
-use Rattle.cell_store.specs.Changes.{IsChange, Follows}
-
--- The set without v is solid. Gone are exactly the cells of the complex of s that have v, and these are
--- those that are none of the complex of the set without v. Fresh are exactly the cells of the latter
--- that are none of the former. Each stands once.
-pub record IsRefilled (s : List ℕ) (v : ℕ) (gone fresh : List Cell) : Type 0 where
-  pub solid : is_solid (without_point v s) ≡ true
-  pub star : (c : Cell) → IsIn c gone ↔ (IsIn c (complex s) × IsIn v (points_of c))
-  pub change : IsChange (complex s) (complex (without_point v s)) gone fresh
-  pub gone_once : AreDistinct gone
-  pub fresh_once : AreDistinct fresh
+use Rattle.cell_store.specs.Changes.{Follows}
+use Rattle.cell_changes.specs.Changes.{IsChange}
 
 -- The entry is the removal of a point that is there after the history, and continues it.
 pub record IsRemoval (h : List Entry) (e : Entry) : Type 0 where

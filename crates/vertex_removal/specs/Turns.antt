@@ -11,7 +11,7 @@ use Rattle.cell_store.specs.Shares.{Shows}
 use Rattle.cell_store.specs.Ready.{AreHeld}
 use Rattle.vertex_removal.specs.declared.refill.RefillTurn.{RefillTurn}
 use Rattle.vertex_removal.specs.declared.refill.RefillTurn.TheVariants.{Done, Flat, Need}
-use Rattle.vertex_removal.specs.Refills.{IsRefilled}
+use Rattle.cell_changes.specs.Changes.{IsRefilled}
 
 -- the hold shows a set of which v is a point
 abbrev pub ShowsWithPoint : InHand → ℕ → Type 0

@@ -19,10 +19,8 @@
 //! ```
 #![tactic(auto)]
 
-mod coming;
 pub mod laws;
 mod near;
 mod refill;
 
-pub use coming::cells_for_star;
 pub use refill::{Refill, RefillTurn};

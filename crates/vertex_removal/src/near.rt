@@ -14,9 +14,9 @@ ghost use Rattle.gift_wrap.specs.Near.{IsStar, AreAdded, IsListedOf, IsOfOne};
 ghost use Rattle.vertex_removal.specs.Stars.{ShowsStar};
 
 use cell_store::Hold;
-use edit_history::find_four;
 use gift_wrap::points_but;
 use point_order::{Cell, Point};
+use star_refill::is_solid;
 use std::alloc::{AllocError, Global};
 
 // As many cells as a point mostly has at the most: room for them is made at once.
@@ -32,13 +32,6 @@ pub(crate) fn star_of(alloc: Global, hold: &Hold, v: Point) -> Result<Vec<Cell>,
         star.push(*cell)?;
     }
     Ok(star)
-}
-
-// Whether four of the points are independent.
-pub(crate) fn is_solid(points: &[Point]) -> bool
-    ensures { result ≡ is_solid_of points.now }
-{
-    find_four(points).is_ok()
 }
 
 // Adds the cells without v that lie across the facets of a cell, the buckets of whose points are in hand.

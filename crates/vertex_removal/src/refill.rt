@@ -5,16 +5,20 @@ ghost use Rattle.cell_store.specs.Buckets.{bucket_at};
 ghost use Rattle.bucket_grid.specs.Grids.{bucket_of};
 ghost use Rattle.cell_store.specs.Meshes.{AllInHand};
 ghost use Rattle.cell_store.specs.Shares.{Shows};
-ghost use Rattle.gift_wrap.specs.Near.{AreTaken};
-ghost use Rattle.gift_wrap.specs.Wraps.{IsHole};
 ghost use Rattle.vertex_removal.specs.Turns.{ShowsWithPoint, RefillGives, RefillAsksBelow, AsksNothing};
 
 use crate::near::{near_set, star_of};
 use cavity::Fresh;
 use cell_store::Hold;
+<<<<<<< HEAD
 use gift_wrap::{cells_once, cells_wrapped};
 use net_digs::cells_taken;
 use point_order::{Cell, Point};
+=======
+use gift_wrap::cells_once;
+use point_order::Point;
+use star_refill::cells_coming;
+>>>>>>> 2ee26dae (cell_changes: which cells go and come is said once; vertex_removal stands on star_refill)
 use std::alloc::{AllocError, Global};
 use std::marker::Model;
 
@@ -44,23 +48,6 @@ pub enum RefillTurn {
     Flat,
     /// The bucket with this number is not in hand, and has a finite point of a cell at the point.
     Need(u32),
-}
-
-// The cells that v takes away from the complex of the points near it, by wrapping the hole or by digging in that
-// complex.
-pub(crate) fn cells_coming(
-    alloc: Global,
-    points: &[Point],
-    v: Point,
-    star: &[Cell],
-) -> Result<Vec<Cell>, AllocError>
-    requires { IsHole points.now v star.now }
-    ensures { IfOk result (λ cells. AreTaken points.now v cells.items) }
-{
-    match cells_wrapped(alloc, points, v, star)? {
-        Some(cells) => Ok(cells),
-        None => Ok(cells_taken(alloc, points, v)?),
-    }
 }
 
 impl Refill {

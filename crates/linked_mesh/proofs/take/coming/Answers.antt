@@ -3,7 +3,7 @@ use Rattle.point_order.specs.Sets.{without_point}
 use Rattle.point_order.specs.Solid.{is_solid}
 use Rattle.edit_history.proofs.Cited.{ok_then}
 use Rattle.star_refill.specs.Coming.{HaveAllAcross}
-use Rattle.star_refill.specs.Refills.{IsRefilled}
+use Rattle.cell_changes.specs.Changes.{IsRefilled}
 use Rattle.linked_mesh.proofs.Taken.{all_across, around_all, around_star, known_all}
 use Rattle.linked_mesh.proofs.take.coming.Goals as goal
 

@@ -1,4 +1,4 @@
--- The cells that go when a point is taken, and those that come.
+-- The cells that go and those that come, from one complex to another.
 use Rattle.std.specs.Prelude.{◌≡◌, ℕ, ◌↔◌, true, List}
 use Rattle.list_laws.specs.Lists.{AreDistinct}
 use Rattle.point_order.specs.declared.cell.Cell.{Cell}
