@@ -1,12 +1,12 @@
 -- Cells are taken out of the net: the net and those that are gone have the cells of the complex still.
-use Rattle.std.specs.Prelude.{List, [], ◌∷◌, ◌++◌}
+use Rattle.std.specs.Prelude.{List, [], ◌∷◌, ◌++◌, IfSome, MatchOption, None, Option, Some}
 use Rattle.std.proofs.Common.{refl, sym, subst, inl, inr}
 use Rattle.list_laws.proofs.Cited.{distinct_push, from_append, in_left, in_right}
 use Rattle.point_order.specs.declared.cell.Cell.{Cell}
 use Rattle.point_order.specs.declared.cell.Facet.{Facet}
 use Rattle.point_order.specs.Sets.{IsIn}
 use Rattle.cell_slots.specs.Clouds.{HasOtherIn}
-use Rattle.hole_laws.specs.Others.{IsOtherOf}
+use Rattle.hole_laws.specs.Others.{HaveNoOther, IsOtherOf}
 use Rattle.cell_slots.specs.Nets.{AreMoved, IsWithout}
 use Rattle.cell_slots.proofs.Cited.{first_distinct, in_two, joined, last_distinct}
 

@@ -44,7 +44,6 @@ pub use byte_ends::{Failed, MemSink, MemSource, Sink, Source, StdSink, StdSource
 pub use cell_lists::{Places, QuadList};
 pub use cell_store::{BadGrid, Grid, Hold, Mesh};
 pub use cloud_cells::complex_by_threads;
-pub use net_digs::complex_of_points;
 pub use edit_files::{File, ReadRefused, Version, file_text, read_file, read_file_up_to};
 pub use edit_history::{Edit, Entry, NotSolid, PointSet, Reply};
 pub use exact_orient::{collinear, orient};
@@ -57,6 +56,7 @@ pub use mesh_files::{
 };
 pub use mesh_handle::{Location, locate};
 pub use near_vertex::{Near, NearStart, NearTurn, NearWalk, nearest, nearest_to_each, put_near};
+pub use net_digs::complex_of_points;
 pub use one_mesh::{
     Receipt, apply, begin, begin_cloud, begin_cloud_by_threads, complex, find_four, grid_for,
     history, into_parts, opening_points, points,

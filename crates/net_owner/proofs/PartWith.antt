@@ -1,5 +1,5 @@
 -- Cells that are a part of a complex.
-use Rattle.std.specs.Prelude.{◌≡◌, ℕ, List, ◌++◌, ◌∷◌, [], map, IfSome, MatchOption, None, Option, Some}
+use Rattle.std.specs.Prelude.{◌≡◌, ℕ, List, ◌++◌, ◌∷◌, [], map}
 use Rattle.std.proofs.Common.{inl, refl}
 use Rattle.list_laws.proofs.Cited.{in_left}
 use Rattle.point_order.specs.declared.cell.Cell.{Cell}
@@ -7,7 +7,7 @@ use Rattle.point_order.specs.declared.cell.Facet.{Facet}
 use Rattle.point_order.specs.Complex.{complex}
 use Rattle.point_order.specs.Sets.{IsIn}
 use Rattle.hole_laws.specs.Lists.{cell_over}
-use Rattle.hole_laws.specs.Others.{HaveNoOther, IsOtherOf}
+use Rattle.hole_laws.specs.Others.{IsOtherOf}
 use Rattle.cell_slots.specs.Clouds.{AreCellsOf}
 use Rattle.net_digs.specs.Digs.{IsHoleOf}
 use Rattle.net_digs.specs.Linked.{ArePartLacking, ArePartWith, HasComeTo}
@@ -16,7 +16,7 @@ use Rattle.cell_slots.specs.Parts.{AreWithin, AreWithinNew, InEach}
 use Rattle.cell_slots.specs.declared.reach.Reach.TheVariants.{Part, Whole}
 use Rattle.net_digs.proofs.Cited.{exchanged_beside, filled}
 use Rattle.cell_slots.proofs.Cited.{moved_cells, moved_first}
-use Rattle.cell_net.proofs.Cited.{other_of, other_right}
+use Rattle.cell_net.proofs.Cited.{other_of}
 
 -- those with a point
 pub part_within : (v : ℕ) (cells : List Cell) → ArePartWith v cells → AreWithin Part cells

@@ -3,15 +3,9 @@ use Rattle.std.specs.Prelude.{◌≡◌, ℕ, Bool, true, false, List, ◌++◌}
 use Rattle.point_order.specs.declared.cell.Cell.{Cell}
 use Rattle.point_order.specs.Sets.{IsIn, without_point}
 use Rattle.point_order.specs.Solid.{is_solid}
-<<<<<<< HEAD
 use Rattle.cell_slots.specs.Clouds.{AreCellsOf}
 use Rattle.cell_slots.specs.Stars.{AreStarOf}
-use Rattle.star_refill.specs.Refills.{IsRefilled}
-=======
-use Rattle.cloud_cells.specs.Clouds.{AreCellsOf}
-use Rattle.cloud_cells.specs.Stars.{AreStarOf}
 use Rattle.cell_changes.specs.Changes.{IsRefilled}
->>>>>>> 2ee26dae (cell_changes: which cells go and come is said once; vertex_removal stands on star_refill)
 use Rattle.part_edits.specs.declared.take.Coming.{Coming}
 use Rattle.part_edits.specs.declared.take.Coming.TheVariants.{Fresh, Level, Unknown}
 

@@ -10,15 +10,9 @@ ghost use Rattle.vertex_removal.specs.Turns.{ShowsWithPoint, RefillGives, Refill
 use crate::near::{near_set, star_of};
 use cavity::Fresh;
 use cell_store::Hold;
-<<<<<<< HEAD
-use gift_wrap::{cells_once, cells_wrapped};
-use net_digs::cells_taken;
-use point_order::{Cell, Point};
-=======
 use gift_wrap::cells_once;
 use point_order::Point;
 use star_refill::cells_coming;
->>>>>>> 2ee26dae (cell_changes: which cells go and come is said once; vertex_removal stands on star_refill)
 use std::alloc::{AllocError, Global};
 use std::marker::Model;
 
