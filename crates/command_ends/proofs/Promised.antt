@@ -14,8 +14,9 @@ use Rattle.edit_files.specs.Grammar.{IsFile}
 use Rattle.command_pages.specs.Run.{file_limits, IsKept, IsSolidFile, Writes, WritesFront, input_limit}
 use Rattle.edit_files.proofs.Cited.{no_fault_of, one_file_of}
 use Rattle.mesh_files.specs.Text.{report_text}
-use Rattle.near_vertex.specs.declared.answers.Near.{Near}
-use Rattle.near_vertex.specs.Points.{AreNear, near_text}
+use Rattle.nearest_points.specs.declared.answers.Near.{Near}
+use Rattle.nearest_points.specs.Points.{AreNear}
+use Rattle.near_texts.specs.Text.{near_text}
 use Rattle.plain_laws.specs.Plain.{IsAnchored}
 use Rattle.solid_parts.specs.Parts.{AreSolidParts}
 use Rattle.solid_parts.proofs.Cited.{same_count}

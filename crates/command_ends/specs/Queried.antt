@@ -1,8 +1,9 @@
 -- The command `near`: the answers to the queries of a file, and their text.
 use Rattle.std.specs.Prelude.{◌≡◌, ℕ, List}
 use Rattle.edit_history.specs.Histories.{replay}
-use Rattle.near_vertex.specs.declared.answers.Near.{Near}
-use Rattle.near_vertex.specs.Points.{AreNear, near_text}
+use Rattle.nearest_points.specs.declared.answers.Near.{Near}
+use Rattle.nearest_points.specs.Points.{AreNear}
+use Rattle.near_texts.specs.Text.{near_text}
 use Rattle.command_pages.specs.Command.{Command}
 use Rattle.command_pages.specs.Files.{of_file}
 

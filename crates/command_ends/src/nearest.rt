@@ -7,7 +7,8 @@ ghost use Rattle.command_ends.specs.Queried.{IsQueried};
 
 use byte_ends::Failed;
 use cell_store::Mesh;
-use near_vertex::{nearest_to_each, put_near};
+use near_texts::put_near;
+use near_vertex::nearest_to_each;
 use point_order::Point;
 use std::alloc::{AllocError, Global};
 use text_sheets::WholeText;

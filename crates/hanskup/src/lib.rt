@@ -55,7 +55,9 @@ pub use mesh_files::{
     shape_text, summary_text,
 };
 pub use mesh_handle::{Location, locate};
-pub use near_vertex::{Near, NearStart, NearTurn, NearWalk, nearest, nearest_to_each, put_near};
+pub use near_texts::put_near;
+pub use near_vertex::{NearStart, NearTurn, NearWalk, nearest, nearest_to_each};
+pub use nearest_points::Near;
 pub use net_digs::complex_of_points;
 pub use one_mesh::{
     Receipt, apply, begin, begin_cloud, begin_cloud_by_threads, complex, find_four, grid_for,

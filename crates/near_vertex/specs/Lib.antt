@@ -1,4 +1,3 @@
-pub mod Points
 pub mod Around
 pub mod Turns
 pub mod Laws

@@ -16,9 +16,7 @@
 mod answers;
 pub mod laws;
 mod search;
-mod texts;
 mod walk;
 
-pub use answers::{Near, nearest_to_each};
-pub use texts::put_near;
+pub use answers::nearest_to_each;
 pub use walk::{NearStart, NearTurn, NearWalk, nearest};

@@ -2,8 +2,8 @@ use Rattle.std.proofs.Common.{◌∙◌, ◌++◌, ap, List, ℕ}
 use Rattle.edit_history.specs.Histories.{replay}
 use Rattle.cell_store.proofs.Cited.{shows_of}
 use Rattle.text_sheets.specs.Pages.{Grown}
-use Rattle.near_vertex.specs.declared.answers.Near.{Near}
-use Rattle.near_vertex.specs.Points.{near_text}
+use Rattle.nearest_points.specs.declared.answers.Near.{Near}
+use Rattle.near_texts.specs.Text.{near_text}
 use Rattle.command_ends.proofs.nearest.near_text.Goals as goal
 
 pub returns-in-Ok : goal.returns-in-Ok

@@ -1,7 +1,7 @@
 use Rattle.std.proofs.Common.{◌++◌, ◌∷◌, [], sym, subst, List, ℕ, take}
 use Rattle.list_laws.proofs.Cited.{take_next, zip_push}
-use Rattle.near_vertex.specs.declared.answers.Near.{Near}
-use Rattle.near_vertex.specs.Points.{AreNear, IsNear}
+use Rattle.nearest_points.specs.declared.answers.Near.{Near}
+use Rattle.nearest_points.specs.Points.{AreNear, IsNear}
 use Rattle.near_vertex.proofs.answers.nearest_to_each.Goals as goal
 
 pub loop-q-preserved : goal.loop-q-preserved

@@ -1,6 +1,6 @@
 use Rattle.text_sheets.proofs.Cited.{then}
-use Rattle.near_vertex.specs.Points.{near_text}
-use Rattle.near_vertex.proofs.texts.put_all.Goals as goal
+use Rattle.near_texts.specs.Text.{near_text}
+use Rattle.near_texts.proofs.texts.put_all.Goals as goal
 
 pub returns : goal.returns
 unfolding near_text

@@ -4,8 +4,8 @@ use Rattle.std.specs.Prelude.{map, codes}
 use Rattle.std.specs.List.{concat}
 use Rattle.text_sheets.specs.Lines.{block}
 use Rattle.text_sheets.proofs.Cited.{PutsBut}
-use Rattle.near_vertex.specs.Points.{near_line}
-use Rattle.near_vertex.proofs.texts.put_nears.Given as goal
+use Rattle.near_texts.specs.Text.{near_line}
+use Rattle.near_texts.proofs.texts.put_nears.Given as goal
 
 abbrev pub invariant-loop-near : goal.invariant-loop-near
 invariant-loop-near g l =

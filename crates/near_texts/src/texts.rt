@@ -6,10 +6,10 @@ ghost use Rattle.byte_ends.specs.Ends.{AppendsFront, HasCause, Rose};
 ghost use Rattle.point_order.specs.Sets.{IsAscending};
 ghost use Rattle.text_sheets.specs.Lines.{block};
 ghost use Rattle.text_sheets.specs.Sheets.{Puts};
-ghost use Rattle.near_vertex.specs.Points.{near_line, near_text};
+ghost use Rattle.near_texts.specs.Text.{near_line, near_text};
 
-use crate::answers::Near;
 use byte_ends::{Failed, Sink};
+use nearest_points::Near;
 use point_order::Point;
 use text_sheets::{Indices, Sheet, put_number, put_number_and, put_title};
 

@@ -1,6 +1,6 @@
 use Rattle.std.proofs.Common.{◌≡◌, ◌∙◌, rules}
 use Rattle.text_sheets.proofs.Cited.{closed, closed_cause, closed_front, went_well}
-use Rattle.near_vertex.proofs.texts.put_near.Goals as goal
+use Rattle.near_texts.proofs.texts.put_near.Goals as goal
 
 pub returns : goal.returns
 returns g c =

@@ -3,9 +3,9 @@ use Rattle.std.specs.Prelude.{map, codes}
 use Rattle.std.specs.List.{concat}
 use Rattle.std.proofs.lemmas.List.{length-map}
 use Rattle.text_sheets.proofs.Cited.{ends, goes_on, starts}
-use Rattle.near_vertex.specs.declared.answers.Near.{Near}
-use Rattle.near_vertex.specs.Points.{near_line}
-use Rattle.near_vertex.proofs.texts.put_nears.Goals as goal
+use Rattle.nearest_points.specs.declared.answers.Near.{Near}
+use Rattle.near_texts.specs.Text.{near_line}
+use Rattle.near_texts.proofs.texts.put_nears.Goals as goal
 
 pub loop-near-init : goal.loop-near-init
 loop-near-init g c =

@@ -1,5 +1,5 @@
 use Rattle.text_sheets.proofs.Cited.{then}
-use Rattle.near_vertex.proofs.texts.put_near_line.Goals as goal
+use Rattle.near_texts.proofs.texts.put_near_line.Goals as goal
 
 pub returns : goal.returns
 returns g c =

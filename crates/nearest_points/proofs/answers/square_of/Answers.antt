@@ -1,8 +1,8 @@
 use Rattle.std.proofs.Common.{◌∙◌, ap, sym, subst, lit<, w64, ℕ, ℤ, pos, ◌≤ℤ◌}
 use Rattle.std.specs.Prelude.{unsigned_abs}
 use Rattle.whole_ring.proofs.Cited.{read, within_fits}
-use Rattle.nearest_points.proofs.Cited.{not_negative, size_is}
-use Rattle.near_vertex.proofs.answers.square_of.Goals as goal
+use Rattle.nearest_points.proofs.Order.{not_negative, size_is}
+use Rattle.nearest_points.proofs.answers.square_of.Goals as goal
 
 pub returns : goal.returns
 returns c =
