@@ -8,11 +8,13 @@
 //! let receipt = apply(alloc, &mut mesh, 4, Edit::Add(p))?;  // its number and its reply; less than 2^32 entries before
 //! let cell = locate(&mesh, q);                              // a cell in conflict with q; none where it is a point
 //! let near = nearest(&mesh, q);                             // without memory
+//! let nears = nearest_to_each(alloc, &mesh, &queries)?;     // with the squares of their distances
 //! let cells = complex(alloc, &mesh)?;                       // sorted
 //! let (entries, cells) = into_parts(alloc, mesh)?;          // both, and the mesh is let go
 //! ```
 #![tactic(auto)]
 
+mod answers;
 mod mesh;
 mod near;
 mod opening;
@@ -20,6 +22,7 @@ mod set;
 mod shift;
 mod take;
 
+pub use answers::nearest_to_each;
 pub use edit_history::{Edit, Receipt, find_four};
 pub use mesh::{
     LinkedMesh, apply, begin_cloud, complex, count, has_point, history, into_parts, locate,
