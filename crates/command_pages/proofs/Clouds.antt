@@ -1,7 +1,7 @@
 -- The history of one thread of a file keeps it for every number of workers.
-use Rattle.std.specs.Prelude.{◌≡◌, ◌⊎◌, ℕ, ◌%◌, ◌<◌, List, [], Some}
+use Rattle.std.specs.Prelude.{◌≡◌, ◌⊎◌, ℕ, ◌%◌, ◌<◌, List, Some}
 use Rattle.std.specs.Option.{option_map}
-use Rattle.std.proofs.Common.{sym, ◌∙◌, ap, subst, inl, arith}
+use Rattle.std.proofs.Common.{sym, subst, inl, arith}
 use Rattle.list_laws.proofs.Cited.{all_of_each, each_of_all}
 use Rattle.edit_history.specs.declared.history.Edit.{Edit}
 use Rattle.edit_history.specs.declared.history.Entry.{Entry}
@@ -25,12 +25,11 @@ any_workers points edits workers h some k =
           each_of_all (λ (e : Entry). e.by < 1) h k.workers e i in omega (arith, b, some));
     }
 
--- without edits it is the history of the points alone
+-- so it keeps the file for each
 pub kept_by_any : (file : Content) (four : List ℕ) (h : List Entry) → KeepsLaw →
-    option_map places (opening_four file.points) ≡ Some four → file.edits ≡ []
-    → h ≡ one_thread file.points [] → (workers : ℕ) → 0 < workers → IsKept file workers h
-kept_by_any file four h law e none is workers some =
-    let same : h ≡ one_thread file.points file.edits = is ∙ ap (one_thread file.points) (sym none) in
+    option_map places (opening_four file.points) ≡ Some four → h ≡ one_thread file.points file.edits →
+    (workers : ℕ) → 0 < workers → IsKept file workers h
+kept_by_any file four h law e same workers some =
     let one = (found (opening_four file.points) four e (law file.points file.edits)).1 in
     record {
       keeps = subst (Keeps file.points file.edits workers) (sym same)

@@ -56,3 +56,9 @@ module _ (left : Option (List ℕ)) (file : Content) (f : IsFileOf left file) wh
         kept = r.kept;
         text_is = r.told;
       }) f.told
+
+-- what holds of a result for every number of workers holds for one
+pub by_any : {A : Type 0} (P : ℕ → A → Type 0) (m : Result A Stop) (workers : ℕ) → 0 < workers →
+    IfOk m (λ a. (n : ℕ) → 0 < n → P n a) → IfOk m (P workers)
+by_any P (Ok a) workers some k = k workers some
+by_any P (Err stop) workers some k = tt

@@ -1,8 +1,8 @@
 -- The edits of a file that one worker makes in their order, behind its points.
-use Rattle.std.specs.Prelude.{◌≡◌, ◌⊎◌, ℕ, suc, ◌+◌, ◌%◌, ◌<◌, ◌==◌, true, List, [], ◌∷◌, ◌++◌, map, length, Option}
-use Rattle.std.specs.Prelude.{Some, IfSome, IsPermutation}
+use Rattle.std.specs.Prelude.{◌≡◌, ℕ, suc, ◌+◌, ◌%◌, ◌<◌, ◌==◌, true, List, [], ◌∷◌, ◌++◌, map, length, Some}
+use Rattle.std.specs.Prelude.{IsPermutation}
 use Rattle.std.specs.List.{flat_map}
-use Rattle.std.proofs.Common.{refl, sym, ◌∙◌, ap, subst, inl, arith, get_or}
+use Rattle.std.proofs.Common.{refl, sym, ◌∙◌, ap, subst, arith, get_or}
 use Rattle.std.proofs.Math.Nat.{mod-lt}
 use Rattle.std.proofs.lemmas.List.Sorted.{IsPermutation-sym}
 use Rattle.list_laws.proofs.Cited.{EachLater, all_of_each, all_pass, later_left, later_pairs, later_right, later_unmap}
@@ -12,14 +12,12 @@ use Rattle.edit_history.specs.declared.history.Entry.{Entry}
 use Rattle.edit_history.specs.Edits.{after, point_of, reply_to, share_point}
 use Rattle.edit_history.specs.Histories.{IsLegal, IsLegalFrom, entries_from, replay, replay_from}
 use Rattle.edit_history.specs.Opening.{opening_four, FourPlaces}
-use Rattle.edit_history.specs.OneThread.{Keeps, line_of, lines_of_one_thread, one_thread, tagged_lines}
-use Rattle.edit_history.proofs.Cited.{entry_lines, keeps_law}
-use Rattle.edit_files.specs.Content.{Content}
+use Rattle.edit_history.specs.OneThread.{line_of, one_thread}
+use Rattle.edit_history.proofs.Cited.{entry_lines}
 use Rattle.edit_lists.specs.Dealing.{AreOpening}
 use Rattle.plain_laws.specs.Running.{Pair, AreRuns, IsRun, dealt_out, dealt_to, edit_lines, segments}
 use Rattle.plain_laws.proofs.Cited.{dealt_all, entry_by, run_behind_alone, segments_keep}
 use Rattle.edit_workers.specs.Alone.{with_edits}
-use Rattle.command_pages.specs.Run.{AreDealt, IsKept}
 
 -- the tag rises
 abbrev Rises : Pair → Pair → Type 0
@@ -115,19 +113,3 @@ pub made_by_one : (points : List ℕ) (edits : List Edit) (four : List ℕ) → 
     first ≡ length points → k ≡ with_edits h first edits → k ≡ one_thread points edits
 made_by_one points edits four found legal h k first begun number made =
     made ∙ (λ i. with_edits (begun i) (number i) edits) ∙ one_worker points edits found.0 found.1 legal
-
--- the history of one thread keeps the file for one worker
-pub kept_by_one : (file : Content) (four : List ℕ) (workers : ℕ) (h : List Entry) → AreOpening file.points four →
-    workers ≡ 1 → h ≡ one_thread file.points file.edits → IsKept file workers h
-kept_by_one file four workers h found one is =
-    let points : List ℕ = file.points in
-    let edits : List Edit = file.edits in
-    record {
-      keeps = subst (λ (n : ℕ). Keeps points edits n h) (sym one) (subst (Keeps points edits 1) (sym is)
-          (subst (λ (o : Option FourPlaces). IfSome o (λ _. Keeps points edits 1 (one_thread points edits))) found.1
-          (keeps_law points edits)));
-      alone = λ e. is;
-      dealt = subst (AreDealt workers) (sym is) (all_of_each
-          (λ (e : Entry). (e.by ≡ 0) ⊎ (e.by ≡ point_of e.edit % workers)) (one_thread points edits)
-          (λ e i. inl (entry_by 0 [] (lines_of_one_thread (opening_four points) (tagged_lines points edits)) e i)));
-    }

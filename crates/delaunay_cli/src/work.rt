@@ -11,8 +11,8 @@ ghost use Rattle.command_words.specs.Stops.{line_of_end, status_of_end, status_o
 ghost use Rattle.command_words.specs.Words.{ReadsSource, kind_of_words, Asks, Draws};
 
 use crate::drawn::draw;
+use crate::near::query;
 use crate::parted::part;
-use crate::queried::query;
 use crate::reported::report;
 use crate::stepped::step;
 use byte_ends::{Sink, Source};
@@ -46,7 +46,7 @@ fn make<R: Threads + Sync, S: Source, G: Gate + Sync>(
         Task::Report(making, asked) => report(rt, alloc, making, asked, src, gate),
         Task::Step(making) => step(rt, alloc, making, src, gate),
         Task::Part(making, wanted) => part(rt, alloc, making, wanted, src, gate),
-        Task::Query(making) => query(rt, alloc, making, src, gate),
+        Task::Query(_making) => query(alloc, src, gate),
         Task::Check => check_source(alloc, src),
         Task::Draw(making, drawn) => draw(rt, alloc, making, drawn, gate),
     }

@@ -42,4 +42,4 @@ pub returns-clause-kept : goal.returns-clause-kept
 returns-clause-kept g c =
     let kept = c.in_ok-kept.ensures ∙ ap (λ (p : List ℕ). one_thread p []) c.deref-4.ensures.value in
     kept_by_any (content c.args.file.now) c.args.four c.in_ok-kept.kept.items c.one_thread_is_legal.ensures.keeps
-    c.requires.found c.requires.no_edits kept
+    c.requires.found (kept ∙ ap (one_thread c.args.file.now.points.items) (sym c.requires.no_edits))

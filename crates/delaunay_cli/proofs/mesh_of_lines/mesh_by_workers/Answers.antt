@@ -47,5 +47,4 @@ returns-clause-kept g c =
     }
 
 pub returns-clause-grid : goal.returns-clause-grid
-returns-clause-grid g c = λ several. c.in_ok-mesh-2.ensures.grid ∙ ap (λ (m : MeshView). m.grid) c.in_ok-mesh.ensures
-    ∙ c.grid_of-grid.ensures several
+returns-clause-grid g c = c.in_ok-mesh-2.ensures.grid ∙ ap (λ (m : MeshView). m.grid) c.in_ok-mesh.ensures

@@ -1,8 +1,12 @@
 use Rattle.std.proofs.Common.{refl, subst}
+use Rattle.std.specs.Prelude.{IfSome}
 use Rattle.byte_ends.specs.Ends.{Rose}
 use Rattle.command_words.specs.Tasks.{IsTask}
+use Rattle.command_pages.specs.Page.{text_of_page}
+use Rattle.command_ends.specs.Meshed.{IsQueriedFile}
 use Rattle.command_ends.proofs.Cited.{checked, drawn, kind_is, made_as, parted, queried, reads_as, reads_source}
 use Rattle.command_ends.proofs.Cited.{reported, stepped, unmade_as}
+use Rattle.delaunay_cli.proofs.FilesRead.{by_any}
 use Rattle.delaunay_cli.proofs.work.make.Goals as goal
 
 pub returns-in-Report-clause-made : goal.returns-in-Report-clause-made
@@ -80,9 +84,12 @@ pub returns-in-Query-clause-made : goal.returns-in-Query-clause-made
 returns-in-Query-clause-made g c =
     let words = c.args.words.now in
     let left = g.S.Source.left c.args.src.now in
+    let making = c.in-Query._making in
     made_as words _ _ c.in_ok-making.ensures.taken c.in_ok-making.ensures.task c.in-Query.is left c.query.result
-    (queried words left c.in-Query.making c.query.result
-    (subst (IsTask words) c.in-Query.is c.in_ok-making.ensures.task) c.query.ensures.made c.query.ensures.plain_end)
+    (queried words left making c.query.result
+    (subst (IsTask words) c.in-Query.is c.in_ok-making.ensures.task)
+    (by_any (λ n made. IfSome left (IsQueriedFile n made.kept.items (text_of_page made.page))) c.query.result
+    making.workers making.some c.query.ensures.made) c.query.ensures.plain_end)
 
 pub returns-in-Query-clause-stop : goal.returns-in-Query-clause-stop
 returns-in-Query-clause-stop g c =
