@@ -25,6 +25,7 @@ use Rattle.cell_store.proofs.Cited.{cells_after, entries_after, entries_stay, ma
 use Rattle.cell_store.proofs.Cited.{replay_next}
 use Rattle.insertion.specs.Opening.{IsBare}
 use Rattle.opening_entries.specs.Opening.{inserted, opening_history, AreFourIndependent}
+use Rattle.opening_entries.proofs.Cited.{AreNew, four_apart, four_new, leaves_four, legal_from, points_of_lines}
 use Rattle.insertion.specs.Opening.{HasCellsOfFour, bare_bucket}
 use Rattle.hole_laws.specs.FiveCells.{five_cells}
 use Rattle.hole_laws.proofs.Cited.{four_have_five}

@@ -4,6 +4,7 @@ use Rattle.std.proofs.Common.{inl, inr, subst}
 use Rattle.list_laws.proofs.Cited.{not_both}
 use Rattle.point_order.specs.Sets.{IsIn}
 use Rattle.del_laws.specs.Nearest.{comes_before}
+use Rattle.nearest_points.proofs.Cited.{before_chain, before_self}
 use Rattle.near_vertex.specs.Laws.{Approaches, NoPointTwice}
 
 -- ---- no point twice

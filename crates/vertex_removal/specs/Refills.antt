@@ -10,7 +10,7 @@ use Rattle.edit_history.specs.declared.history.Reply.TheVariants.{Removed, Moved
 use Rattle.edit_history.specs.Edits.{moved_to, point_of}
 use Rattle.edit_history.specs.Histories.{replay}
 use Rattle.cell_store.specs.Changes.{Follows}
-use Rattle.cell_changes.specs.Changes.{IsChange}
+use Rattle.cell_changes.specs.Changes.{IsChange, IsRefilled}
 
 -- The entry is the removal of a point that is there after the history, and continues it.
 pub record IsRemoval (h : List Entry) (e : Entry) : Type 0 where
