@@ -16,9 +16,10 @@ use std::alloc::Global;
 /// once; the tetrahedra by the numbers of their points; the tetrahedra across from those points, or 2^32 - 1; and the
 /// triangles of the hull.
 ///
-/// Answers 0 where all is done; else 1: want of memory, 2: a coordinate is not 0 to 16383, 3: no four of the points
-/// are independent, 4: a room has too few rows, and the sizes tell how many are wanted, 6: 32 bits do not number the
-/// points or the tetrahedra. Then the rooms are as before. What is behind the rows of a room always is.
+/// Answers 0 where all is done; else 1: want of memory, 2: a coordinate is not 0 to 16383, which is told first, 3: no
+/// four of the points are independent, 4: a room has too few rows, and the sizes tell how many are wanted, 6: 32 bits
+/// do not number the points, or the tetrahedra and hull triangles together. Then the rooms are as before. What is
+/// behind the rows of a room always is.
 #[unsafe(no_mangle)]
 pub extern "C" fn delaunay_c_mesh(
     alloc: Global,
@@ -33,6 +34,7 @@ pub extern "C" fn delaunay_c_mesh(
         (take sizes.new.cells neighbours.new) (take sizes.new.hull hull.new) }
     ensures sized { result ≡ 0 → AreSizesOfMesh given.now sizes.new }
     ensures outside { result ≡ 2 → HasOutside given.now }
+    ensures first { HasOutside given.now → result ≡ 2 }
     ensures flat { result ≡ 3 → AreFlat given.now }
     ensures many { result ≡ 6 → AreMany given.now }
     ensures wanted { result ≡ 4 → AreSizesOfMesh given.now sizes.new }
@@ -89,6 +91,7 @@ pub extern "C" fn delaunay_c_alphas(
         (take sizes.new.cells cell_alphas.new) }
     ensures sized { result ≡ 0 → AreSizesOfFaces given.now sizes.new }
     ensures outside { result ≡ 2 → HasOutside given.now }
+    ensures first { HasOutside given.now → result ≡ 2 }
     ensures flat { result ≡ 3 → AreFlat given.now }
     ensures many { result ≡ 6 → AreMany given.now }
     ensures wanted { result ≡ 4 → AreSizesOfFaces given.now sizes.new }

@@ -13,13 +13,14 @@ use std::alloc::Global;
 /// Puts the mesh of the points at the given places, in any order, of which some may be equal, into the handle. A mesh
 /// that was there is freed.
 ///
-/// Answers 0 where this is done; else 1: want of memory, 2: a coordinate is not 0 to 16383, 3: no four of the points
-/// are independent, 6: 32 bits do not number the points. Then the handle is as before.
+/// Answers 0 where this is done; else 1: want of memory, 2: a coordinate is not 0 to 16383, which is told first, 3: no
+/// four of the points are independent, 6: 32 bits do not number the points. Then the handle is as before.
 #[unsafe(no_mangle)]
 pub extern "C" fn delaunay_c_open(alloc: Global, handle: &mut MeshHandle, given: &[Place]) -> u8
     ensures done { result ≡ 0 → HoldsPoints given.now handle.new.mesh }
     ensures refused { 0 < result → handle.new.mesh ≡ handle.old.mesh }
     ensures outside { result ≡ 2 → HasOutside given.now }
+    ensures first { HasOutside given.now → result ≡ 2 }
     ensures flat { result ≡ 3 → AreFlat given.now }
     ensures many { result ≡ 6 → AreMany given.now }
     ensures statuses { (result ≤ 3) ⊎ (result ≡ 6) }
@@ -44,7 +45,8 @@ pub extern "C" fn delaunay_c_close(alloc: Global, handle: &mut MeshHandle)
 /// Adds the point at a place to the mesh of the handle. The reply is 0: inserted, or 1: duplicate.
 ///
 /// Answers 0 where this is done; else 1: want of memory, 2: a coordinate is not 0 to 16383, which is told first, 5: the
-/// handle has no mesh, 6: 2^32 edits were made of it. Then the mesh and the reply are as before.
+/// handle has no mesh, 6: its history has 2^32 entries, those of the points that it was opened with among them. Then
+/// the mesh and the reply are as before.
 #[unsafe(no_mangle)]
 pub extern "C" fn delaunay_c_add(
     alloc: Global,

@@ -41,6 +41,7 @@ pub extern "C" fn delaunay_c_filtered(
     ensures sized { result ≡ 0 → AreSizesOfMesh given.now sizes.new }
     ensures faces_sized { result ≡ 0 → AreSizesOfFaces given.now face_counts.new }
     ensures outside { result ≡ 2 → HasOutside given.now }
+    ensures first { HasOutside given.now → result ≡ 2 }
     ensures flat { result ≡ 3 → AreFlat given.now }
     ensures many { result ≡ 6 → AreMany given.now }
     ensures wanted { result ≡ 4 → AreSizesOfMesh given.now sizes.new }

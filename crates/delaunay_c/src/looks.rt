@@ -14,7 +14,7 @@ use std::alloc::Global;
 /// How many points, cells and triangles of the hull the mesh of the handle has.
 ///
 /// Answers 0 where they are told; else 1: want of memory, 5: the handle has no mesh, 6: 32 bits do not number its
-/// points or its tetrahedra. Then the sizes are as before.
+/// points, or its tetrahedra and hull triangles together. Then the sizes are as before.
 #[unsafe(no_mangle)]
 pub extern "C" fn delaunay_c_counts(
     alloc: Global,
@@ -40,8 +40,8 @@ pub extern "C" fn delaunay_c_counts(
 /// The points, tetrahedra, neighbours and hull of the mesh of the handle, as `delaunay_c_mesh` tells them.
 ///
 /// Answers 0 where all is done; else 1: want of memory, 4: a room has too few rows, and the sizes tell how many are
-/// wanted, 5: the handle has no mesh, 6: 32 bits do not number its points or its tetrahedra. Then the rooms are as
-/// before. What is behind the rows of a room always is.
+/// wanted, 5: the handle has no mesh, 6: 32 bits do not number its points, or its tetrahedra and hull triangles
+/// together. Then the rooms are as before. What is behind the rows of a room always is.
 #[unsafe(no_mangle)]
 pub extern "C" fn delaunay_c_complex(
     alloc: Global,

@@ -16,8 +16,9 @@ const BEYOND: u64 = 1 << 34;
 /// The least alpha, a squared radius in sixteenths, at which every point is in an admitted tetrahedron of the complex
 /// of the points at the given places and these have at most so many solid parts; 2^34 where there is none.
 ///
-/// Answers 0 where it is told; else 1: want of memory, 2: a coordinate is not 0 to 16383, 3: no four of the points are
-/// independent, 6: 32 bits do not number the points or the tetrahedra. Then what it would write is as before.
+/// Answers 0 where it is told; else 1: want of memory, 2: a coordinate is not 0 to 16383, which is told first, 3: no
+/// four of the points are independent, 6: 32 bits do not number the points, or the tetrahedra and hull triangles
+/// together. Then what it would write is as before.
 #[unsafe(no_mangle)]
 pub extern "C" fn delaunay_c_least_alpha(
     alloc: Global,
@@ -29,6 +30,7 @@ pub extern "C" fn delaunay_c_least_alpha(
     ensures none { result ≡ 0 → 2 ^ 34 ≤ least.new → IsLeastAlphaOf given.now parts None }
     ensures told { result ≡ 0 → least.new ≤ 2 ^ 34 }
     ensures outside { result ≡ 2 → HasOutside given.now }
+    ensures first { HasOutside given.now → result ≡ 2 }
     ensures flat { result ≡ 3 → AreFlat given.now }
     ensures many { result ≡ 6 → AreMany given.now }
     ensures statuses { (result ≤ 3) ⊎ (result ≡ 6) }
@@ -68,6 +70,7 @@ pub extern "C" fn delaunay_c_solid_parts(
         (take sizes.new.parts counts.new) }
     ensures sized { result ≡ 0 → AreSizesOfParts given.now (min alpha (2 ^ 34 - 1)) sizes.new }
     ensures outside { result ≡ 2 → HasOutside given.now }
+    ensures first { HasOutside given.now → result ≡ 2 }
     ensures flat { result ≡ 3 → AreFlat given.now }
     ensures many { result ≡ 6 → AreMany given.now }
     ensures wanted { result ≡ 4 → AreSizesOfParts given.now (min alpha (2 ^ 34 - 1)) sizes.new }

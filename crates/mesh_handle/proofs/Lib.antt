@@ -1,5 +1,4 @@
 pub mod Pointers
-pub mod Locating
 pub mod Handles
 pub mod Places
 pub mod Turns

@@ -1,8 +1,9 @@
 //! The mesh of places, in a handle, and its end.
 
-ghost use Rattle.std.specs.Prelude.{◌≡◌, IfErr, IfOk, None, OnErr, OnOk};
+ghost use Rattle.std.specs.Prelude.{◌≡◌, IfErr, IfOk, IsErrOf, None, OnErr, OnOk};
 ghost use Rattle.edit_history.specs.Histories.{replay};
-ghost use Rattle.mesh_rows.specs.Meshes.{IsStopCause, IsSetOf};
+ghost use Rattle.mesh_rows.specs.Meshes.{HasOutside, IsStopCause, IsSetOf};
+ghost use Rattle.mesh_rows.specs.declared.stop.Stop.TheVariants.{Outside};
 ghost use Rattle.mesh_handle.specs.Handles.{HoldsPoints};
 
 use crate::handle::{MeshHandle, free};
@@ -15,6 +16,7 @@ use std::alloc::Global;
 fn mesh_at(alloc: Global, given: &[Place]) -> Result<LinkedMesh, Stop>
     ensures points { IfOk result (λ mesh. IsSetOf given.now (replay mesh)) }
     ensures refused { IfErr result (λ stop. IsStopCause given.now stop) }
+    ensures first { HasOutside given.now → IsErrOf result Outside }
 {
     one_thread_is_legal();
     let points = set_of(alloc, given)?;
@@ -36,6 +38,7 @@ pub fn open(alloc: Global, handle: &mut MeshHandle, given: &[Place]) -> Result<(
     ensures done { OnOk result (HoldsPoints given.now handle.new.mesh) }
     ensures refused { OnErr result (handle.new.mesh ≡ handle.old.mesh) }
     ensures cause { IfErr result (λ stop. IsStopCause given.now stop) }
+    ensures first { HasOutside given.now → IsErrOf result Outside }
 {
     let mesh = mesh_at(alloc, given)?;
     match Box::new(alloc, mesh) {

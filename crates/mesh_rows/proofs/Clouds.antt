@@ -1,11 +1,13 @@
 -- Sets of points at given places.
-use Rattle.std.proofs.Common.{◌≡◌, ◌∙◌, ◌<◌, ◌+◌, ℕ, ℤ, ap, refl, sym, subst, inl, inr, List, [], ◌∷◌, ◌++◌, length}
-use Rattle.std.proofs.Common.{map, take, get_or}
+use Rattle.std.proofs.Common.{◌≡◌, ◌∙◌, ◌<◌, ◌+◌, ℕ, ℤ, ap, arith, refl, sym, subst, inl, inr, List, [], ◌∷◌, ◌++◌}
+use Rattle.std.proofs.Common.{length, map, pos, take, get_or}
+use Rattle.std.proofs.lemmas.Int.{ints}
 use Rattle.std.proofs.lemmas.List.{get_or_default}
 use Rattle.std.specs.Prelude.{Result, Ok, Err, IfErr, IsErrAnd}
 use Rattle.list_laws.proofs.Cited.{at_in, from_append, take_next}
 use Rattle.point_order.specs.declared.point.OutOfRange.{OutOfRange}
-use Rattle.point_order.specs.Coordinates.{IsFirstOutside, IsKey, IsNoCoordinate}
+use Rattle.point_order.specs.Coordinates.{IsFirstOutside, IsKey, IsNoCoordinate, x_of, y_of, z_of}
+use Rattle.point_order.proofs.Cited.{x_of_below, y_of_below, z_of_below}
 use Rattle.point_order.specs.Sets.{IsIn, IsAscending, AreSamePoints}
 use Rattle.del_laws.specs.Keys.{AreKeys}
 use Rattle.mesh_rows.specs.declared.rows.Place.{Place}
@@ -80,3 +82,28 @@ points_more given i d old new p h e k n m a =
           ∙ ap (λ (y : Place). take i given ++ y ∷ []) e ∙ sym q,
       subst AreKeys (sym n) (keys_more old p a k),
     )
+
+-- numbers below 16384 are coordinates
+no_coordinate : (n : ℕ) → n < 16384 → IsNoCoordinate (pos n) → ⊥
+no_coordinate n h (inl low) = omega (arith, ints)
+no_coordinate n h (inr high) = omega (arith, ints)
+
+-- a point's place does not lie outside
+pub inside : (place : Place) (p : ℕ) → point_place p ≡ place → LiesOutside place → ⊥
+inside place p at (inl x) =
+    no_coordinate (x_of p) (x_of_below p) (subst IsNoCoordinate (sym (ap (λ (q : Place). q.x) at)) x)
+inside place p at (inr (inl y)) =
+    no_coordinate (y_of p) (y_of_below p) (subst IsNoCoordinate (sym (ap (λ (q : Place). q.y) at)) y)
+inside place p at (inr (inr z)) =
+    no_coordinate (z_of p) (z_of_below p) (subst IsNoCoordinate (sym (ap (λ (q : Place). q.z) at)) z)
+
+-- no place at a front of the places lies outside, and none at the next
+pub none_more : (given : List Place) (i : ℕ) (d : Place) (p : ℕ) → i < length given → point_place p ≡ get_or given i d →
+    (HasOutside (take i given) → ⊥) → HasOutside (take (i + 1) given) → ⊥
+none_more given i d p h e none some =
+    let x = get_or given i d in
+    let q = take_next given i x h (get_or_default given i d x h) in
+    elim (from_append some.0 (take i given) (x ∷ []) (subst (λ (l : List Place). IsIn some.0 l) q some.1)) [
+      | inl j ↦ none (some.0, j, some.2)
+      | inr j ↦ elim j [ inl s ↦ inside x p e (subst LiesOutside (sym s) some.2) | inr n ↦ absurd n ]
+    ]

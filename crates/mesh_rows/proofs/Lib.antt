@@ -1,7 +1,8 @@
 mod FullFirst
 mod Others
-mod Clouds
+pub mod Clouds
 mod RowLaws
 mod Alphas
 mod RankAt
 mod LeastsAround
+pub mod Cited

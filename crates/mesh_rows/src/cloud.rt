@@ -1,12 +1,12 @@
 //! The points at given places, and the cells of their complex.
 
-ghost use Rattle.std.specs.Prelude.{◌≡◌, ◌⊎◌, ◌<◌, ◌≤◌, ◌^◌, ◌∷◌, ◌++◌, [], map, length, false, IfOk, IfErr, IsTrue};
-ghost use Rattle.std.specs.Prelude.{OnOk};
+ghost use Rattle.std.specs.Prelude.{◌≡◌, ◌⊎◌, ◌<◌, ◌≤◌, ◌^◌, ◌∷◌, ◌++◌, [], map, length, true, false, IfOk, IfErr};
+ghost use Rattle.std.specs.Prelude.{IsErrOf, IsTrue, OnOk};
 ghost use Rattle.point_order.specs.Coordinates.{IsKey};
 ghost use Rattle.point_order.specs.Solid.{is_solid};
 ghost use Rattle.del_laws.specs.Keys.{AreKeys};
 ghost use Rattle.mesh_rows.specs.Rows.{point_place, LiesOutside};
-ghost use Rattle.mesh_rows.specs.Meshes.{IsStopCause, IsCloud, IsSetOf};
+ghost use Rattle.mesh_rows.specs.Meshes.{HasOutside, IsStopCause, IsCloud, IsSetOf};
 ghost use Rattle.mesh_rows.specs.declared.stop.Stop.TheVariants.{Outside};
 
 use crate::rows::Place;
@@ -38,6 +38,20 @@ pub fn point_at(place: &Place) -> Result<Point, Stop>
     }
 }
 
+// Whether some place is that of no point.
+fn has_outside(given: &[Place]) -> bool
+    ensures some { result ≡ true → HasOutside given.now }
+    ensures none { result ≡ false → HasOutside given.now → ⊥ }
+{
+    for place in given {
+        match point_at(place) {
+            Ok(_) => {}
+            Err(_) => return true,
+        }
+    }
+    false
+}
+
 // Puts a point behind the others.
 fn put_point(points: &mut Vec<Point>, p: Point) -> Result<(), AllocError>
     ensures { OnOk result (points.new.items ≡ points.old.items ++ p ∷ []) }
@@ -59,14 +73,18 @@ fn points_of(alloc: Global, given: &[Place]) -> Result<Vec<Point>, Stop>
     Ok(points)
 }
 
-/// The points at the places, ascending, each once.
+/// The points at the places, ascending, each once. All places are looked at before any memory is taken.
 ///
 /// # Errors
-/// `Stop::Memory`, or `Stop::Outside` where some place is that of no point.
+/// `Stop::Outside` where some place is that of no point, else `Stop::Memory`.
 pub fn set_of(alloc: Global, given: &[Place]) -> Result<Vec<Point>, Stop>
     ensures set { IfOk result (λ points. IsSetOf given.now points.items) }
     ensures refused { IfErr result (λ stop. IsStopCause given.now stop) }
+    ensures first { HasOutside given.now → IsErrOf result Outside }
 {
+    if has_outside(given) {
+        return Err(Stop::Outside);
+    }
     let points = points_of(alloc, given)?;
     Ok(points_in_order(points))
 }
@@ -95,6 +113,7 @@ pub fn cloud_of(alloc: Global, given: &[Place]) -> Result<Cloud, Stop>
     ensures set { IfOk result (λ cloud. IsSetOf given.now cloud.points.items) }
     ensures cloud { IfOk result (λ cloud. IsCloud cloud.points.items cloud.cells.items) }
     ensures refused { IfErr result (λ stop. IsStopCause given.now stop) }
+    ensures first { HasOutside given.now → IsErrOf result Outside }
 {
     let points = set_of(alloc, given)?;
     if !are_solid(&points) {

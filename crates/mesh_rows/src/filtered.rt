@@ -1,7 +1,8 @@
 //! A complex and all of its faces, by one triangulation.
 
-ghost use Rattle.std.specs.Prelude.{◌≡◌, length, IfErr, IfOk};
-ghost use Rattle.mesh_rows.specs.Meshes.{AreFiltered, IsMesh, IsStopCause};
+ghost use Rattle.std.specs.Prelude.{◌≡◌, length, IfErr, IfOk, IsErrOf};
+ghost use Rattle.mesh_rows.specs.Meshes.{AreFiltered, HasOutside, IsMesh, IsStopCause};
+ghost use Rattle.mesh_rows.specs.declared.stop.Stop.TheVariants.{Outside};
 
 use crate::cloud::cloud_of;
 use crate::levels::{Levels, face_rows, held_of};
@@ -31,6 +32,7 @@ pub fn filtered_of(alloc: Global, given: &[Place]) -> Result<Filtered, Stop>
     ensures triangle_count { IfOk result (λ f. length f.faces.triangle_alphas.items
         ≡ length f.faces.triangles.items) }
     ensures refused { IfErr result (λ stop. IsStopCause given.now stop) }
+    ensures first { HasOutside given.now → IsErrOf result Outside }
 {
     let cloud = cloud_of(alloc, given)?;
     // The faces first, beside which much more is made for the time being than beside the mesh.

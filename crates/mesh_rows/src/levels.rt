@@ -1,6 +1,6 @@
 //! The faces of a complex, and the least alphas of each.
 
-ghost use Rattle.std.specs.Prelude.{◌≡◌, ◌≤◌, ◌<◌, ◌^◌, ◌∷◌, [], ℕ, List, length, map, IfErr, IfOk};
+ghost use Rattle.std.specs.Prelude.{◌≡◌, ◌≤◌, ◌<◌, ◌^◌, ◌∷◌, [], ℕ, List, length, map, IfErr, IfOk, IsErrOf};
 ghost use Rattle.std.specs.List.{AllZip};
 ghost use Rattle.point_order.specs.Sets.{IsAscending};
 ghost use Rattle.alpha_complex.specs.Condition.{AreFacesOf};
@@ -11,7 +11,8 @@ ghost use Rattle.face_list.specs.Tables.{IsTable, table_seen};
 ghost use Rattle.hole_laws.specs.Edits.{IsSet};
 ghost use Rattle.mesh_rows.specs.Around.{AreAlphasAround};
 ghost use Rattle.mesh_rows.specs.Held.{HoldsFaces};
-ghost use Rattle.mesh_rows.specs.Meshes.{AreFaceRows, AreFiltered, IsStopCause, IsCloud};
+ghost use Rattle.mesh_rows.specs.Meshes.{AreFaceRows, AreFiltered, HasOutside, IsStopCause, IsCloud};
+ghost use Rattle.mesh_rows.specs.declared.stop.Stop.TheVariants.{Outside};
 
 use crate::around::alphas_around;
 use crate::cloud::{Cloud, cloud_of};
@@ -208,6 +209,7 @@ pub fn levels_of(alloc: Global, given: &[Place]) -> Result<Levels, Stop>
     ensures edge_count { IfOk result (λ l. length l.edge_alphas.items ≡ length l.edges.items) }
     ensures triangle_count { IfOk result (λ l. length l.triangle_alphas.items ≡ length l.triangles.items) }
     ensures refused { IfErr result (λ stop. IsStopCause given.now stop) }
+    ensures first { HasOutside given.now → IsErrOf result Outside }
 {
     let cloud = cloud_of(alloc, given)?;
     let held = held_of(alloc, &cloud.points, &cloud.cells)?;

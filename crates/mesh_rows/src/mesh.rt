@@ -1,7 +1,8 @@
 //! The points, cells, neighbours and hull of a complex.
 
-ghost use Rattle.std.specs.Prelude.{◌≡◌, length, IfOk, IfErr};
-ghost use Rattle.mesh_rows.specs.Meshes.{AreMeshRows, IsStopCause, IsCloud, IsMesh};
+ghost use Rattle.std.specs.Prelude.{◌≡◌, length, IfOk, IfErr, IsErrOf};
+ghost use Rattle.mesh_rows.specs.Meshes.{AreMeshRows, HasOutside, IsStopCause, IsCloud, IsMesh};
+ghost use Rattle.mesh_rows.specs.declared.stop.Stop.TheVariants.{Outside};
 
 use crate::across::neighbours;
 use crate::cloud::cloud_of;
@@ -50,6 +51,7 @@ pub fn mesh_of(alloc: Global, given: &[Place]) -> Result<Made, Stop>
     ensures mesh { IfOk result (λ m. IsMesh given.now m.points.items m.cells.items m.neighbours.items m.hull.items) }
     ensures count { IfOk result (λ m. length m.neighbours.items ≡ length m.cells.items) }
     ensures refused { IfErr result (λ stop. IsStopCause given.now stop) }
+    ensures first { HasOutside given.now → IsErrOf result Outside }
 {
     let cloud = cloud_of(alloc, given)?;
     let made = rows_of(alloc, &cloud.points, &cloud.cells)?;

@@ -1,11 +1,13 @@
 //! The solid parts of the complex of given points, and the least alpha at which there are few.
 
-ghost use Rattle.std.specs.Prelude.{◌≡◌, ◌<◌, ◌≤◌, ◌^◌, ◌↔◌, ◌++◌, ℕ, List, length, map, IfErr, IfOk, IsTrue, OnOk};
+ghost use Rattle.std.specs.Prelude.{◌≡◌, ◌<◌, ◌≤◌, ◌^◌, ◌↔◌, ◌++◌, ℕ, List, length, map, IfErr, IfOk, IsErrOf, IsTrue};
+ghost use Rattle.std.specs.Prelude.{OnOk};
 ghost use Rattle.point_order.specs.Sets.{IsAscending};
 ghost use Rattle.solid_parts.specs.LeastAlpha.{IsLeastAlpha};
 ghost use Rattle.solid_parts.specs.Parts.{cells_of_parts};
 ghost use Rattle.solid_parts.specs.Seen.{parts_seen};
-ghost use Rattle.mesh_rows.specs.Meshes.{IsCloud, IsStopCause};
+ghost use Rattle.mesh_rows.specs.Meshes.{HasOutside, IsCloud, IsStopCause};
+ghost use Rattle.mesh_rows.specs.declared.stop.Stop.TheVariants.{Outside};
 ghost use Rattle.mesh_rows.specs.Parts.{AreParts, ArePartRows, IsLeastAlphaOf, LacksPartRoom};
 ghost use Rattle.mesh_rows.specs.Rooms.{AreRowsPut};
 ghost use Rattle.mesh_rows.specs.Rows.{cell_row};
@@ -53,6 +55,7 @@ fn least_of(alloc: Global, all: &[Cell], parts: u32) -> Result<Option<u64>, Allo
 pub fn least_alpha_of(alloc: Global, given: &[Place], parts: u32) -> Result<Option<u64>, Stop>
     ensures least { IfOk result (λ least. IsLeastAlphaOf given.now parts least) }
     ensures refused { IfErr result (λ stop. IsStopCause given.now stop) }
+    ensures first { HasOutside given.now → IsErrOf result Outside }
 {
     let cloud = cloud_of(alloc, given)?;
     let least = least_of(alloc, &cloud.cells, parts)?;
@@ -129,6 +132,7 @@ pub fn parts_of(alloc: Global, given: &[Place], alpha: u64) -> Result<Parts, Sto
     requires { alpha < 2 ^ 34 }
     ensures parts { IfOk result (λ p. AreParts given.now alpha p.cells.items p.counts.items) }
     ensures refused { IfErr result (λ stop. IsStopCause given.now stop) }
+    ensures first { HasOutside given.now → IsErrOf result Outside }
 {
     let cloud = cloud_of(alloc, given)?;
     let made = part_rows(alloc, &cloud.points, &cloud.cells, alpha)?;
