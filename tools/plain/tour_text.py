@@ -42,7 +42,7 @@ def triples_of(points, radius):
 
 def text():
     lines = [(True, p) for p in FOUR] + EDITS
-    replies, left = plain.replies_of(lines, range(len(lines)))
+    replies, _ = plain.replies_of(lines, range(len(lines)))
     five = [*FOUR, CORNER]
     yield from (f'edit {i}: {replies[i]}' for i in (4, 5))
     yield from (f'cell {c}' for c in cells_of(five))
@@ -51,11 +51,13 @@ def text():
     taken = [c for c in cells_of(five) if c not in cells_of([*five, BESIDE])]
     assert len(taken) == 1
     yield f'{BESIDE} is in conflict with {taken[0]}'
+    near = min(five, key=lambda p: (sum((a - b) ** 2 for a, b in zip(p, BESIDE)), p))
+    yield f'{near} is the nearest point to {BESIDE}'
     yield from (f'edit {i}: {replies[i]}' for i in (6, 7))
     cubes = [(low + x, low + y, low + z) for low in (100, 16000) for x, y, z in product((0, 1), repeat=3)]
     yield '8 and 8 points were added side by side'
-    yield f'a snapshot has {len(lines) + 16} entries and {len(cells_of(left + cubes))} cells'
-    yield f'the mesh has {len(lines) + 16} entries'
+    yield f'a snapshot has {len(FOUR) + 16} entries and {len(cells_of(FOUR + cubes))} cells'
+    yield f'the mesh has {len(FOUR) + 16} entries'
 
 
 with open(os.path.join(TOP, 'crates/tour/stdout'), 'w', encoding='ascii') as sink:

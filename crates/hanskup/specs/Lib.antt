@@ -7,11 +7,12 @@ pub use Rattle.point_order.specs.Complex
 pub use Rattle.edit_history.specs.Edits
 pub use Rattle.edit_history.specs.Histories
 pub use Rattle.del_laws.specs.Keys
+pub use Rattle.nearest_points.specs.Points
+pub use Rattle.opening_entries.specs.Opening
+pub use Rattle.linked_mesh.specs.Applied
+pub use Rattle.one_mesh.specs.Opened
+pub use Rattle.alpha_complex.specs.Condition
 pub use Rattle.cell_store.specs.Shares
 pub use Rattle.cell_store.specs.Meshes
-pub use Rattle.opening_entries.specs.Opening
-pub use Rattle.one_mesh.specs.Opened
-pub use Rattle.one_mesh.specs.Applied
-pub use Rattle.alpha_complex.specs.Condition
 pub use Rattle.grid_claims.specs.Passes
 pub use Rattle.grid_claims.specs.Tries

@@ -1,3 +1,4 @@
 pub mod CloudSets
 pub mod Edited
 pub mod Gathering
+pub mod Locating

@@ -16,6 +16,7 @@ mod edits;
 mod grids;
 mod lists;
 mod opening;
+mod place;
 
 pub use clouds::{begin_cloud, begin_cloud_by_threads};
 pub use edit_history::{NotSolid, Receipt, find_four};
@@ -23,3 +24,4 @@ pub use edits::{apply, begin};
 pub use grids::grid_for;
 pub use lists::{complex, history, into_parts, points};
 pub use opening::opening_points;
+pub use place::locate;

@@ -11,28 +11,32 @@ mod threads;
 
 use anyhow::{Result, bail};
 use hanskup::{
-    Cell, Edit, Faces, Grid, Location, Mesh, Point, Shape, alpha, apply, begin, complex, faces,
-    locate, opening_points, points, shape_text,
+    Cell, Edit, Faces, LinkedMesh, Point, Shape, alpha, apply, begin, complex, count, faces,
+    locate, nearest, opening_points, points, shape_text,
 };
 use std::alloc::Global;
 use std::thread::Threads;
 
-// A mesh begins with four points that do not lie in one plane, each with a tag: here its place in the list.
-fn first_mesh(alloc: Global) -> Result<Mesh> {
-    let corners = [
+// Four points that do not lie in one plane.
+pub(crate) fn four_corners() -> Result<[Point; 4]> {
+    Ok([
         Point::new(0, 0, 0)?,
         Point::new(20, 0, 0)?,
         Point::new(0, 20, 0)?,
         Point::new(0, 0, 20)?,
-    ];
+    ])
+}
+
+// A mesh begins with four points that do not lie in one plane, each with a tag: here its place in the list.
+fn first_mesh(alloc: Global) -> Result<LinkedMesh> {
+    let corners = four_corners()?;
     let four = opening_points(&corners)?;
-    let grid = Grid::new(4)?;
-    Ok(begin(alloc, grid, four)?)
+    Ok(begin(alloc, four)?)
 }
 
 // Adds or takes a point. The reply says what came of it.
-fn edit(rt: &impl Print, alloc: Global, mesh: &mut Mesh, tag: u32, edit: Edit) -> Result<()> {
-    if mesh.count() >= 1 << 32 {
+fn edit(rt: &impl Print, alloc: Global, mesh: &mut LinkedMesh, tag: u32, edit: Edit) -> Result<()> {
+    if count(mesh) >= 1 << 32 {
         bail!("the history is full");
     }
     let receipt = apply(alloc, mesh, tag, edit)?;
@@ -88,7 +92,11 @@ fn show_cells(rt: &impl Print, cells: &[Cell]) -> Result<()> {
 }
 
 // The complex of the mesh, and two of its alpha complexes, both from the same faces.
-fn show_complex(rt: &(impl Print + Threads + Sync), alloc: Global, mesh: &Mesh) -> Result<()> {
+fn show_complex(
+    rt: &(impl Print + Threads + Sync),
+    alloc: Global,
+    mesh: &LinkedMesh,
+) -> Result<()> {
     let _ = points(alloc, mesh)?;
     let cells = complex(alloc, mesh)?;
     show_cells(rt, &cells)?;
@@ -97,17 +105,23 @@ fn show_complex(rt: &(impl Print + Threads + Sync), alloc: Global, mesh: &Mesh) 
     show_shape(rt, alloc, &faces, 300)
 }
 
-// Where a place lies: at a point, or in conflict with a cell, found by a walk.
-fn show_place(rt: &impl Print, mesh: &Mesh, p: Point) -> Result<()> {
-    match locate(mesh, p) {
-        Location::Vertex => bail!("{p} is there already"),
-        Location::Inside(cell) => println!(rt; "{p} is in conflict with {cell}")?,
-    }
+// Where a place lies, at a point or in conflict with a cell, and which point is nearest to it.
+fn show_place(rt: &impl Print, mesh: &LinkedMesh, p: Point) -> Result<()> {
+    let Some(cell) = locate(mesh, p) else {
+        bail!("{p} is there already");
+    };
+    let near = nearest(mesh, p);
+    println!(rt; "{p} is in conflict with {cell}")?;
+    println!(rt; "{near} is the nearest point to {p}")?;
     Ok(())
 }
 
 // Edits a mesh, and looks at it in between.
-fn edit_and_show(rt: &(impl Print + Threads + Sync), alloc: Global, mesh: &mut Mesh) -> Result<()> {
+fn edit_and_show(
+    rt: &(impl Print + Threads + Sync),
+    alloc: Global,
+    mesh: &mut LinkedMesh,
+) -> Result<()> {
     let corner = Point::new(20, 20, 20)?;
     edit(rt, alloc, mesh, 4, Edit::Add(corner))?;
     edit(rt, alloc, mesh, 5, Edit::Add(corner))?;
@@ -121,5 +135,5 @@ fn main(rt: HostRuntime) -> Result<()> {
     let alloc = rt.alloc();
     let mut mesh = first_mesh(alloc)?;
     edit_and_show(&rt, alloc, &mut mesh)?;
-    threads::edit_side_by_side(&rt, alloc, mesh)
+    threads::edit_side_by_side(&rt, alloc, &four_corners()?)
 }

@@ -1,13 +1,14 @@
 //! Two threads edit one mesh, each by a pass of its own, and one of them takes a snapshot.
 
-ghost use Rattle.std.specs.Prelude.{◌≡◌, ◌≤◌, false, IfOk};
+ghost use Rattle.std.specs.Prelude.{◌≡◌, ◌≤◌, ◌^◌, false, length, IfOk};
 ghost use Rattle.hanskup.specs.Edits.{is_move};
 ghost use Rattle.hanskup.specs.Passes.{Opened};
 ghost use Rattle.hanskup.specs.Tries.{IsStill, opening_pass};
 
 use anyhow::bail;
+use hanskup::buckets::{Mesh, begin};
 use hanskup::table::{MeshTable, OpenGate, Pass, Receipt, Refused, Snapshot};
-use hanskup::{Edit, Mesh, Point};
+use hanskup::{Edit, Grid, Point, opening_points};
 use std::alloc::Global;
 use std::thread::{Threads, join};
 
@@ -175,13 +176,23 @@ fn show_whole(rt: &impl Print, whole: &Whole, count: u64) -> anyhow::Result<()> 
     Ok(())
 }
 
-/// Adds two cubes to the mesh by two threads side by side, and looks at the whole by a snapshot. Whatever comes of
-/// that, the table is closed.
+// The mesh over 64 buckets that begins with the first four of the points which do not lie in one plane.
+fn mesh_of(alloc: Global, points: &[Point]) -> anyhow::Result<Mesh>
+    requires { length points.now ≤ 2 ^ 32 }
+{
+    let four = opening_points(points)?;
+    let grid = Grid::new(4)?;
+    Ok(begin(alloc, grid, four)?)
+}
+
+/// Adds two cubes to the mesh of four corners by two threads side by side, and looks at the whole by a snapshot.
+/// Whatever comes of that, the table is closed.
 pub(crate) fn edit_side_by_side<R: Threads + Sync + Print>(
     rt: &R,
     alloc: Global,
-    mesh: Mesh,
+    corners: &[Point; 4],
 ) -> anyhow::Result<()> {
+    let mesh = mesh_of(alloc, corners)?;
     let (table, pass) = opened(alloc, mesh)?;
     let (pass, whole) = add_and_look(rt, alloc, &table, pass);
     let count = table.close(pass).count();
