@@ -1,6 +1,6 @@
 -- What is written of the points that an anchored file leaves goes by the file's lines.
-use Rattle.std.proofs.Common.{◌≡◌, inl, inr, subst, ℕ, List}
-use Rattle.std.specs.Prelude.{Option, IfSome, String}
+use Rattle.std.proofs.Common.{◌≡◌, ◌↔◌, inl, inr, subst, ℕ, List}
+use Rattle.std.specs.Prelude.{None, Option, Some, IfSome, String}
 use Rattle.std.specs.Io.KnownBytes.{Appends}
 use Rattle.std.specs.declared.alloc.Global.{Global}
 use Rattle.byte_ends.specs.Ends.{AppendsFront}
@@ -11,13 +11,21 @@ use Rattle.edit_files.specs.Grammar.{IsFile}
 use Rattle.plain_laws.specs.Plain.{IsAnchored}
 use Rattle.plain_laws.proofs.Cited.{anchored_is_plain}
 use Rattle.command_ends.specs.Ends.{Ends}
-use Rattle.command_ends.specs.Parted.{IsParted}
+use Rattle.command_ends.specs.Parted.{HasNoAlpha, HasNoPart, IsParted}
 use Rattle.command_ends.specs.PlainText.{plain_points}
 use Rattle.command_ends.specs.Queried.{IsQueried}
 use Rattle.command_pages.specs.Run.{IsKept, file_limits}
+use Rattle.command_pages.specs.Statuses.{HasText}
 use Rattle.command_ends.specs.Stepped.{IsStepped}
 use Rattle.command_words.specs.Words.{asked_alpha, asked_index, asked_most, worker_count, Asks, Parts, Queries, Steps}
-use Rattle.command_ends.proofs.Promised.{of_near, of_one, of_parts, of_steps}
+use Rattle.command_ends.proofs.MadeAsAsked.{reading}
+use Rattle.command_ends.proofs.Promised.{no_alpha, no_part, of_kept, of_near, of_one, of_parts, of_steps}
+
+-- what follows of two facts on the bytes, where they are told
+both_told : (left : Option (List ℕ)) (P Q R : List ℕ → Type 0) → ((bytes : List ℕ) → P bytes → Q bytes → R bytes) →
+    IfSome left P → IfSome left Q → IfSome left R
+both_told None P Q R f p q = tt
+both_told (Some bytes) P Q R f p q = f bytes p q
 
 module _ {words : List (String Global)} {left left_after : Option (List ℕ)} {read_failed : Type 0}
     {held holds : Option (List ℕ)} {write_failed : Type 0} {status : ℕ} {kept : List Entry}
@@ -89,3 +97,34 @@ module _ {words : List (String Global)} {left left_after : Option (List ℕ)} {r
   near_plainly_front w z =
       of_one e (IsPlainly OfNear (AppendsFront held holds)) (λ file. OfNear file (replay kept) e.text)
       (λ file k t. plainly OfNear (AppendsFront held holds) file k t (e.front z)) ((of_near e w).made (inr z))
+
+  -- the points that the history leaves are those of the lines of the file that the bytes are
+  plain_of_bytes : Asks Parts words → HasText status →
+      OfBytes (λ file. IsAnchored file.points file.edits → replay kept ≡ plain_points file)
+  plain_of_bytes w s = of_kept e (λ file. IsAnchored file.points file.edits → replay kept ≡ plain_points file)
+      left_plainly (reading words (inr (inr (inl w)))) s
+
+  -- what is so of a status and the points that the history leaves is so of the points that the lines tell
+  status_plainly : (Told : List ℕ → Type 0) → Asks Parts words → HasText status →
+      IfSome left (λ bytes. Told (replay kept)) →
+      OfBytes (λ file. IsAnchored file.points file.edits → Told (plain_points file))
+  status_plainly Told w s told = both_told left (λ bytes. Told (replay kept))
+      (λ bytes. (file : Content) → IsFile file_limits bytes file → IsAnchored file.points file.edits →
+      replay kept ≡ plain_points file)
+      (λ bytes. (file : Content) → IsFile file_limits bytes file → IsAnchored file.points file.edits →
+      Told (plain_points file))
+      (λ bytes t same file i a. subst Told (same file i a) t) told (plain_of_bytes w s)
+
+  -- no alpha has so few parts
+  pub no_alpha_plainly : Asks Parts words → HasText status →
+      OfBytes (λ file. IsAnchored file.points file.edits →
+      (status ≡ 9 ↔ HasNoAlpha (plain_points file) (asked_most words)))
+  no_alpha_plainly w s =
+      status_plainly (λ l. status ≡ 9 ↔ HasNoAlpha l (asked_most words)) w s (no_alpha e w s)
+
+  -- no part has the index
+  pub no_part_plainly : (i : ℕ) → Asks Parts words → HasText status → asked_index words ≡ Some i →
+      OfBytes (λ file. IsAnchored file.points file.edits →
+      (status ≡ 8 ↔ HasNoPart (plain_points file) (asked_alpha words) (asked_most words) i))
+  no_part_plainly i w s o =
+      status_plainly (λ l. status ≡ 8 ↔ HasNoPart l (asked_alpha words) (asked_most words) i) w s (no_part e i w s o)

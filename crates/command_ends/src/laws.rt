@@ -144,7 +144,7 @@ pub fn run_that_steps()
 
 /// Where no edit takes one of the opening four, or moves it, what `steps`, `parts` and `near` write goes by the file
 /// and the command alone, whatever the number of workers and the grid: it is the text of the points that the file's
-/// lines tell by themselves.
+/// lines tell by themselves. So do the statuses 9 and 8 of `parts`.
 pub fn run_of_an_anchored_file()
     ensures steps { (r : ARun) → Asks Steps r.words → r.status ≡ 0
         → IfSome r.left (λ bytes. (file : Content) → IsFile file_limits bytes file
@@ -164,6 +164,14 @@ pub fn run_of_an_anchored_file()
         → IsAnchored file.points file.edits
         → (text : List ℕ) × IsParted (plain_points file) (asked_alpha r.words) (asked_most r.words)
         (asked_index r.words) 0 text × AppendsFront r.held r.holds text) }
+    ensures no_alpha { (r : ARun) → Asks Parts r.words → HasText r.status
+        → IfSome r.left (λ bytes. (file : Content) → IsFile file_limits bytes file
+        → IsAnchored file.points file.edits
+        → r.status ≡ 9 ↔ HasNoAlpha (plain_points file) (asked_most r.words)) }
+    ensures no_part { (r : ARun) (i : ℕ) → Asks Parts r.words → HasText r.status → asked_index r.words ≡ Some i
+        → IfSome r.left (λ bytes. (file : Content) → IsFile file_limits bytes file
+        → IsAnchored file.points file.edits
+        → r.status ≡ 8 ↔ HasNoPart (plain_points file) (asked_alpha r.words) (asked_most r.words) i) }
     ensures near { (r : ARun) → Asks Queries r.words → r.status ≡ 0
         → IfSome r.left (λ bytes. (file : Content) → IsFile file_limits bytes file
         → IsAnchored file.points file.edits

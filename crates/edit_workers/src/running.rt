@@ -317,7 +317,8 @@ fn run_segment<G: Gate + Sync, R: Threads + Sync>(
 
 /// Makes the edits of all segments on the mesh, one segment after another. Each list of a segment is done by a worker
 /// of its own, as many side by side as there are processors, and two at least; then what they leave over, in the order
-/// of its tags. A segment of one pair needs no workers.
+/// of its tags. A segment of one pair needs no workers, nor does one of less than eight pairs, or of one list, among
+/// several: one thread makes it, in the order of its tags.
 ///
 /// The history goes on with each pair of the segments once: those of a segment before those of the next, those of a
 /// segment that share a point by their tags, and each entry by a number below the number of lists of its segment; with

@@ -209,8 +209,8 @@ fn meet_facets(sides: &mut Vec<Side>, cell: &Cell) -> Result<(), AllocError>
 }
 
 /// The cells that v takes away from the complex of the points near it, by wrapping the hole of the cells at v, in any
-/// order. There is no answer where one of these is Open, nor where there is too much to look at: past 256 points or
-/// 1,024 cells.
+/// order. There may be no answer, and then the caller digs in that complex instead: mostly since a cell at v is Open,
+/// or since there is too much to look at, past 256 points or 1,024 cells.
 ///
 /// # Errors
 /// Want of memory.
