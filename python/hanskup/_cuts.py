@@ -9,8 +9,9 @@ import numpy as np
 import numpy.typing as npt
 
 from ._errors import GREATEST, Flat, OutOfRange
-from ._grid import Placing, numbers_of, placed
+from ._grid import Placing, placed
 from ._kinds import ArrayLike, Bools, Ints, Numbers
+from ._numbers import numbers_of
 
 _PIECE = 1 << 20  # points at a time
 _SAMPLE = 200_000  # points by which the cuts are laid

@@ -7,10 +7,11 @@ import numpy as np
 from ._arrays import Arrays
 from ._edited import ADD, MOVE, TAKE, Edited
 from ._errors import GREATEST, HanskupError, OutOfRange, check
-from ._grid import keys, numbers_of
+from ._grid import keys
 from ._kept import kept, sealed
 from ._kinds import ArrayLike, Ints, Numbers, Words
 from ._library import MeshRows
+from ._numbers import numbers_of
 from ._progress import pieces
 
 _PIECE = 1024  # so many edits are made before an interrupt is heard

@@ -7,7 +7,7 @@ import numpy as np
 import numpy.typing as npt
 
 from ._errors import GREATEST, OutOfRange
-from ._kinds import ArrayLike, Floats, Ints, Numbers, Rows
+from ._kinds import Floats, Ints, Numbers, Rows
 
 # The three other corners of each corner of a tetrahedron.
 OTHERS = np.array([[1, 2, 3], [0, 2, 3], [0, 1, 3], [0, 1, 2]])
@@ -35,21 +35,6 @@ class Placing:
         """Where places of the grid lie, (n, 3) floats."""
         points: Floats = grid * self.unit + self.origin
         return points
-
-
-def numbers_of(points: ArrayLike) -> Numbers:
-    """Coordinates as an array of whole numbers or of floats. Raises ValueError for anything else."""
-    if isinstance(points, np.ma.MaskedArray) and points.mask.any():
-        raise ValueError('a coordinate is masked')
-    array = np.asarray(points)
-    if array.dtype.kind == 'O':
-        try:
-            array = array.astype(float)
-        except TypeError:
-            raise ValueError('coordinates are real numbers') from None
-    if array.dtype.kind not in 'iuf':
-        raise ValueError(f'coordinates are real numbers, and not {array.dtype}')
-    return array
 
 
 def placed(points: Floats, unit: float | None) -> Placing:

@@ -5,9 +5,10 @@ from __future__ import annotations
 import numpy as np
 
 from ._arrays import Arrays
-from ._grid import centres, dot, numbers_of
+from ._grid import centres, dot
 from ._kept import kept
 from ._kinds import ArrayLike, Floats, Numbers
+from ._numbers import places_of
 
 
 class Lifts(Arrays):
@@ -68,7 +69,7 @@ class Lifts(Arrays):
         Raises:
             ValueError: the shape is another, or they are not real numbers.
         """
-        places = _places_of(x)
+        places = places_of(x).astype(float)
         squares = np.einsum('...i,...i->...', places, places)
         return np.concatenate([places, squares[..., None] * self.paraboloid_scale + self.paraboloid_shift], axis=-1)
 
@@ -81,10 +82,3 @@ class Lifts(Arrays):
         """
         told: Floats = self.lift_points(xi) @ self.equations[:, :4].T + self.equations[:, 4]
         return told
-
-
-def _places_of(places: ArrayLike) -> Numbers:
-    array = numbers_of(places)
-    if array.ndim < 1 or array.shape[-1] != 3:
-        raise ValueError(f'places are an array of shape (..., 3), and not {array.shape}')
-    return array.astype(float)

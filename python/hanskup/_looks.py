@@ -7,9 +7,12 @@ from typing import NamedTuple
 import numpy as np
 
 from ._edits import Edits
-from ._grid import cubes_of, dot, keys, numbers_of
+from ._grid import cubes_of, dot, keys
+from ._ground import Ground
 from ._interpolate import Interpolator, Linear, Natural
+from ._kept import kept
 from ._kinds import ArrayLike, Ints, Numbers, Rows
+from ._numbers import numbers_of
 from ._progress import pieces
 
 _PIECE = 16384
@@ -91,9 +94,15 @@ class Looks(Edits):
         found: Rows = self._given[near]
         return found
 
+    @kept
+    def _ground(self) -> Ground:
+        here = self.living
+        return Ground(self._walk, self.placing, self.rounding, self._inverse[here], self.points[here])
+
     def find_simplex(self, points: ArrayLike, progress: bool = True) -> Ints:
         """(k,) the simplex that has each place, -1 outside of the hull, as scipy's find_simplex. Where several have it,
-        in a shared side, one of them. The places are those of the grid that are nearest; of these it is exact.
+        in a shared side, one of them. Of places of the grid it is exact. A place that the grid cannot tell from a point
+        is taken as there, and one that lies less than a step of the grid beyond the hull as on it, as by `interpolate`.
 
         It is Python over the proved rows, and tested beside scipy.
 
@@ -103,21 +112,19 @@ class Looks(Edits):
         Raises:
             ValueError: as of add.
         """
-        places = self._checked(points)
-        return self._walk.find(np.rint(self.placing.on_grid(places)) if self.placing else places.astype(float),
-                               progress)
+        return self._ground.find(self._checked(points).astype(float), progress)[0]
 
-    def interpolate(self, values: ArrayLike, method: str = 'linear', fill_value: float = math.nan) -> Interpolator:
+    def interpolate(self, values: ArrayLike, method: str = 'linear', fill_value: complex = math.nan) -> Interpolator:
         """What interpolates values of the points, as scipy's LinearNDInterpolator: call it with places.
 
             mesh.interpolate(temperatures)(places)
 
-        It is Python over the proved rows, in floating point, and tested beside scipy. The points stand where the grid
-        has them, and an edit of the mesh later on does not change it.
+        It is Python over the proved rows, in floating point, and tested beside scipy. At a point it gives this point's
+        value. Between them the points stand where the grid has them. An edit of the mesh later on does not change it.
 
         Args:
             values: (n, ...) a number, or an array of them, for each point, real or complex. Of points that fell
-                together that of the first one counts, and of those that went none.
+                together the nearest one counts at their place, and the first one around it; of those that went none.
             method: 'linear' over the simplices; or 'natural', by natural neighbours (Sibson): smooth but at the points.
             fill_value: what comes outside of the hull.
         Raises:
@@ -131,4 +138,5 @@ class Looks(Edits):
             array = numbers_of(array).astype(float)
         if array.ndim < 1 or len(array) != len(self.points):
             raise ValueError(f'there are {len(self.points)} points, and values of the shape {array.shape}')
-        return kinds[method](self._walk, self.placing, array[self._given], fill_value)
+        here = np.cumsum(self.living) - 1
+        return kinds[method](self._ground, array[self.living], here[self._given], fill_value)

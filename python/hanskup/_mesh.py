@@ -9,12 +9,13 @@ import numpy as np
 
 from . import _adapters, _library, _parts
 from ._errors import GREATEST, Flat, OutOfRange
-from ._grid import Placing, numbers_of, placed, volumes
+from ._grid import Placing, placed, volumes
 from ._kept import sealed
 from ._kinds import ArrayLike, Ints, Numbers, Rows
 from ._library import filtered_rows, mesh_rows
 from ._lifts import Lifts
 from ._looks import Looks
+from ._numbers import numbers_of
 from ._progress import waiting
 from ._shape import Shape, SolidParts, area_of
 from ._voronoi import Voronoi
