@@ -3,6 +3,7 @@ from __future__ import annotations
 
 import json
 import os
+import re
 from typing import Any, NamedTuple
 
 import numpy as np
@@ -15,6 +16,9 @@ from ._numbers import numbers_of
 
 _PIECE = 1 << 20  # points at a time
 _SAMPLE = 200_000  # points by which the cuts are laid
+
+MARK = 'hanskup-tiles'  #: the file by which a folder is known to be of a run in tiles
+_OF_A_RUN = re.compile(r'plan\.json(\.new)?|(\d{5}\.(places|numbers|cells\.npy|left|mesh)|left\.(cells|hull)\.npy)(\.\d+)?')
 
 Columns = list[npt.NDArray[np.int16]]  # of points the coordinates along each axis
 
@@ -167,12 +171,28 @@ def points_of(folder: str, tile: int, plan: Plan) -> tuple[Ints, Ints]:
     return wide[first], numbers[first].astype(np.int64)
 
 
+def _cleared(folder: str) -> None:
+    """Makes a folder for the files of a run, with a mark in it; in one that has the mark it takes an earlier run's files
+    away, and nothing else. Raises FileExistsError for a folder that has files of others."""
+    os.makedirs(folder, exist_ok=True)
+    names, mark = os.listdir(folder), os.path.join(folder, MARK)
+    if names and MARK not in names:
+        raise FileExistsError(f'{folder}: files are there that no run in tiles made, and nothing is done to them: name '
+                              'a folder that is new, empty or of an earlier run')
+    with open(mark, 'w', encoding='utf8') as file:
+        file.write('Files of a run of hanskup.tiles. The next run into this folder takes them away.\n')
+    for name in names:
+        path = os.path.join(folder, name)
+        if _OF_A_RUN.fullmatch(name) and os.path.isfile(path):
+            os.remove(path)
+
+
 def cut(points: ArrayLike, folder: str, count: int = 8, halo: float = 1.0, unit: float | None = None) -> Plan:
     """Cuts a cloud into tiles, and writes the points of each into a folder, which is made where it is missing.
 
     Args:
         points: (n, 3), as delaunay takes them; a file that `numpy.load(path, mmap_mode='r')` gives is read in pieces.
-        folder: for the files of the run; what an earlier run left there is taken away.
+        folder: for the files of the run: new, empty, or of an earlier run, whose files are taken away. A mark tells it.
         count: how many tiles; each gets about as many points.
         halo: how far each tile sees beyond its own box, in mean spacings of its points.
         unit: as of delaunay.
@@ -180,14 +200,12 @@ def cut(points: ArrayLike, folder: str, count: int = 8, halo: float = 1.0, unit:
     Raises:
         ValueError, OutOfRange, Flat: as delaunay, of the shape, the coordinates and no points; or there are more tiles
             than places, no tiles, or a halo below 0.
+        FileExistsError: the folder has files that are of no run in tiles. Nothing is done to them.
     """
     if count < 1 or not halo >= 0:
         raise ValueError('there is one tile at least, and a halo is 0 or more')
     array, placing = _checked(points, unit)
-    os.makedirs(folder, exist_ok=True)
-    for name in os.listdir(folder):
-        if name == 'plan.json' or name.split('.')[0].isdigit() or name.split('.')[0] == 'left':
-            os.remove(os.path.join(folder, name))
+    _cleared(folder)
     drawn = np.random.default_rng(0).integers(0, len(array), _SAMPLE) if len(array) > _SAMPLE else np.arange(len(array))
     sample = _on_grid(array[np.unique(drawn)], placing)
     cores = np.array(_split(np.array([[0] * 3, [GREATEST] * 3]), sample, count))

@@ -197,6 +197,33 @@ class Whole(Tiled):
         with self.assertRaises(FileNotFoundError):
             tiles.finish(self.folder, Here())
 
+    def test_files_of_others_stay(self):
+        names, cloud = ['0001.npy', '2024.csv', '17', 'left.png', 'left', 'plan.json', 'scan.npy'], drawn(200, seed=1)
+        os.makedirs(os.path.join(self.folder, '2025'))
+        for name in names:
+            with open(os.path.join(self.folder, name), 'wb') as file:
+                np.save(file, cloud)
+        for made in (lambda: tiles.delaunay(cloud, self.folder, count=2, engine=Here()),
+                     lambda: tiles.cut(cloud, self.folder, 1),
+                     lambda: tiles.main([os.path.join(self.folder, 'scan.npy'), self.folder])):
+            with self.assertRaises((FileExistsError, SystemExit)):
+                made()
+        self.assertEqual(sorted(os.listdir(self.folder)), sorted(names + ['2025']))
+        for name in names:
+            np.testing.assert_array_equal(np.load(os.path.join(self.folder, name)), cloud)
+
+    def test_a_second_run_takes_the_files_of_the_first_alone(self):
+        self.run_of(drawn(400, seed=1), 5)
+        for name in ('0001.npy', '00001.txt', 'left.png', '123456.cells.npy', 'notes'):
+            pathlib.Path(self.folder, name).write_text('mine', encoding='utf8')
+        os.mkdir(os.path.join(self.folder, '00009.mesh'))
+        self.run_of(drawn(300, seed=2), 2)
+        self.assertFalse(os.path.exists(os.path.join(self.folder, '00003.places')))
+        self.assertEqual({name for name in os.listdir(self.folder) if not name.startswith(('00000', '00001.', 'plan'))},
+                         {'0001.npy', 'left.png', '123456.cells.npy', 'notes', '00009.mesh', 'left.cells.npy',
+                          'left.hull.npy', 'hanskup-tiles'})
+        self.assertEqual(pathlib.Path(self.folder, '00001.txt').read_text(encoding='utf8'), 'mine')
+
     def test_processes_and_more_of_them(self):
         made = self.run_of(drawn(3000, seed=9), engine=2)
         os.remove(made.paths[3])  # as a run leaves it that was cut off
