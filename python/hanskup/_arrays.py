@@ -7,10 +7,12 @@ import numpy as np
 import numpy.typing as npt
 
 from . import _library
+from ._beyond import Beyond
 from ._grid import Placing, by_number, cross, dot, edge_ends, keys, outwards, volumes
 from ._kept import forget, kept, sealed
 from ._kinds import Bools, Floats, Ints, Numbers, Rows
 from ._library import BEYOND, NONE
+from ._numbers import real
 from ._progress import waiting
 from ._shape import Filtration, Shape
 from ._walk import Walk
@@ -45,7 +47,7 @@ def _in_unit(alphas: npt.NDArray[np.uint64], square: float) -> Floats:
         told = piece * square
         told[piece >= BEYOND] = np.inf
         made[start:start + _PIECE] = told
-    return sealed(made)
+    return made
 
 
 class Arrays:
@@ -276,16 +278,23 @@ class Arrays:
     def _filtration(self) -> Filtration:
         faces, given, square = self._faces, self._given, self._square
         self.__dict__.pop('_faces')
-        edges, sides = (_indices_of(rows, given) for rows in (faces.edges, faces.triangles))
+        beyond = Beyond(self, faces)  # before their room is taken
         of_points, of_edges, of_sides, of_cells = (_in_unit(alphas, square) for alphas in (
             faces.point_alphas, faces.edge_alphas, faces.triangle_alphas, faces.cell_alphas))
+        for made, (rows, alphas) in ((of_points, beyond.points), (of_edges, beyond.edges), (of_sides, beyond.triangles),
+                                     (of_cells, beyond.cells)):
+            made[rows] = alphas * square
+            sealed(made)
+        edges, sides = (_indices_of(rows, given) for rows in (faces.edges, faces.triangles))
         return Filtration(given, of_points, edges, of_edges, sides, of_sides, sealed(given[self.cells]), of_cells)
 
     def filtration(self) -> Filtration:
         """All faces with their least alphas, as GUDHI's AlphaComplex has them. The arrays are read-only, and the same
         ones until the mesh is edited.
 
-        On the grid alphas are whole sixteenths: that of a face is its squared radius, rounded up to one.
+        On the grid alphas are whole sixteenths: that of a face is its squared radius, rounded up to one. These are
+        proved. The library counts up to a radius of 32,768 steps of the grid, twice its longest side; of spheres
+        beyond this, as of nearly flat cells at the hull, the alphas are Python's, in floating point, and tested.
 
         Raises:
             WantOfMemory: there was no memory for the faces.
@@ -293,19 +302,28 @@ class Arrays:
         return self._filtration
 
     def alpha(self, radius: float) -> Shape:
-        """The alpha complex at a radius, in the unit of the points.
+        """The alpha complex at a radius, in the unit of the points; at infinity it is all of the mesh.
+
+        What is admitted at a radius of up to 32,768 steps of the grid is proved; beyond this it is Python, in floating
+        point, and tested.
 
         Raises:
-            ValueError: the radius is negative or not a number.
+            ValueError: the radius is negative or not one number.
             WantOfMemory: there was no memory for the faces.
         """
-        return Shape(self, self._checked_sixteenths(radius))
+        length = self._checked_radius(radius)
+        return Shape(self, self._sixteenths(length), length * length)
 
-    def _checked_sixteenths(self, radius: float) -> int:
-        if not radius >= 0:
-            raise ValueError('a radius is 0 or more')
-        return self._sixteenths(radius)
+    @staticmethod
+    def _checked_radius(radius: float) -> float:
+        if np.ndim(radius):
+            raise ValueError('a radius is one number for all points: balls of several sizes, as of atoms, want a '
+                             'triangulation with weights, which is not here')
+        length = real(radius, 'a radius')
+        if not length >= 0:
+            raise ValueError(f'a radius is 0 or more, and not {length:g}')
+        return length
 
     def _sixteenths(self, radius: float) -> int:
         sixteenths = radius * radius / self._square
-        return min(math.floor(sixteenths), BEYOND - 1) if sixteenths < BEYOND else BEYOND - 1
+        return math.floor(sixteenths) if sixteenths < BEYOND else BEYOND

@@ -123,7 +123,8 @@ class Spheres:
         for start in range(0, len(doubtful), _PIECE):
             piece = doubtful[start:start + _PIECE]
             sure[piece] = _are_inside(self._numbers, self._cells[chosen[piece]], low, high)
-        return chosen[sure]
+        inside: Ints = chosen[sure]
+        return inside
 
     def _gaps(self, axis: int, low: int, high: int, chosen: Ints) -> Floats:
         # How far their centres are from the planes behind the nearer end of the box, where it has an end.

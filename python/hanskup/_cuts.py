@@ -12,7 +12,7 @@ import numpy.typing as npt
 from ._errors import GREATEST, Flat, OutOfRange
 from ._grid import Placing, placed
 from ._kinds import ArrayLike, Bools, Ints, Numbers
-from ._numbers import numbers_of
+from ._numbers import numbers_of, real, whole
 
 _PIECE = 1 << 20  # points at a time
 _SAMPLE = 200_000  # points by which the cuts are laid
@@ -202,6 +202,7 @@ def cut(points: ArrayLike, folder: str, count: int = 8, halo: float = 1.0, unit:
             than places, no tiles, or a halo below 0.
         FileExistsError: the folder has files that are of no run in tiles. Nothing is done to them.
     """
+    count, halo = whole(count, 'the number of tiles'), real(halo, 'a halo')
     if count < 1 or not halo >= 0:
         raise ValueError('there is one tile at least, and a halo is 0 or more')
     array, placing = _checked(points, unit)

@@ -8,6 +8,7 @@ import numpy.typing as npt
 
 from ._errors import GREATEST, OutOfRange
 from ._kinds import Floats, Ints, Numbers, Rows
+from ._numbers import real
 
 # The three other corners of each corner of a tetrahedron.
 OTHERS = np.array([[1, 2, 3], [0, 2, 3], [0, 1, 3], [0, 1, 2]])
@@ -44,13 +45,15 @@ def placed(points: Floats, unit: float | None) -> Placing:
         extent = float((high - low).max())
     if not np.isfinite(extent):
         raise OutOfRange('the points lie too far apart for floats')
+    if unit is not None:
+        unit = real(unit, 'a unit')
+        if not 0 < unit < np.inf:
+            raise ValueError(f'a unit is more than 0 and finite, and not {unit:g}')
     if unit is None:
         unit = max(extent / GREATEST, float(np.finfo(float).tiny)) if extent > 0 else 1.0
-    elif not unit > 0:
-        raise ValueError('a unit is more than 0')
     elif not extent < (GREATEST + 0.5) * unit:
         raise OutOfRange(f'the points reach over {extent}, but the grid over {GREATEST} steps of {unit}')
-    return Placing(low, float(unit))
+    return Placing(low, unit)
 
 
 def keys(places: Ints) -> Ints:

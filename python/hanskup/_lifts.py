@@ -18,12 +18,14 @@ class Lifts(Arrays):
     @property
     def min_bound(self) -> Floats:
         """(3,) the least coordinates of the points that are there."""
-        return self.points[self.living].min(axis=0).astype(float)
+        least: Floats = self.points[self.living].min(axis=0).astype(float)
+        return least
 
     @property
     def max_bound(self) -> Floats:
         """(3,) the greatest coordinates of the points that are there."""
-        return self.points[self.living].max(axis=0).astype(float)
+        most: Floats = self.points[self.living].max(axis=0).astype(float)
+        return most
 
     @kept
     def _paraboloid(self) -> tuple[float, float]:

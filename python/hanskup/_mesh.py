@@ -12,10 +12,10 @@ from ._errors import GREATEST, Flat, OutOfRange
 from ._grid import Placing, placed, volumes
 from ._kept import sealed
 from ._kinds import ArrayLike, Ints, Numbers, Rows
-from ._library import filtered_rows, mesh_rows
+from ._library import BEYOND, filtered_rows, mesh_rows
 from ._lifts import Lifts
 from ._looks import Looks
-from ._numbers import numbers_of
+from ._numbers import numbers_of, real, whole
 from ._progress import waiting
 from ._shape import Shape, SolidParts, area_of
 from ._voronoi import Voronoi
@@ -96,29 +96,32 @@ class Mesh(Looks, Lifts):
             ValueError: fewer than one part is asked for.
             WantOfMemory: there was no memory for the faces.
         """
-        if not parts >= 1:
+        parts = whole(parts, 'the number of parts')
+        if parts < 1:
             raise ValueError('there is one part at least')
         if _library.HAS_PARTS:
             with waiting('optimal_alpha'):
-                sixteenths = _library.least_alpha(self.grid, int(parts))
+                sixteenths = _library.least_alpha(self.grid, parts)
         else:
             sixteenths = _parts.least_alpha(self, parts)
         return math.inf if sixteenths is None else _parts.radius_of(sixteenths, self._square)
 
     def solid_parts(self, radius: float) -> SolidParts:
         """The solid parts of the alpha complex at a radius, in the unit of the points. Proved, but for the indices and
-        the unit. Where the library is one without this call it is as Shape.parts.
+        the unit. Where the library is one without this call, or the radius more than 32,768 steps of the grid, it is as
+        Shape.parts.
 
         Raises:
             ValueError: the radius is negative or not a number.
             WantOfMemory: there was no memory for the faces.
         """
-        if not _library.HAS_PARTS:
-            shape = self.alpha(radius)
+        length = self._checked_radius(radius)
+        sixteenths = self._sixteenths(length)
+        if not _library.HAS_PARTS or sixteenths >= BEYOND:
+            shape = self.alpha(length)
             numbers = shape.parts()
             order = np.argsort(numbers, kind='stable')
             return SolidParts(shape.tetrahedra[order], numbers[order])
-        sixteenths = self._checked_sixteenths(radius)
         with waiting('solid_parts'):
             rows, counts = _library.part_rows(self.grid, sixteenths, len(self._rows.cells))
         return SolidParts(self._given[rows], np.repeat(np.arange(len(counts)), counts))

@@ -10,6 +10,7 @@ from . import _adapters
 from ._graphs import joined
 from ._grid import OTHERS, cross, dot, outwards, volumes
 from ._kinds import Bools, Floats, Ints, Numbers, Rows
+from ._library import BEYOND
 
 if TYPE_CHECKING:
     from ._arrays import Arrays
@@ -18,8 +19,8 @@ if TYPE_CHECKING:
 class Filtration(NamedTuple):
     """The faces of a mesh, with the least alphas at which they are admitted, regular and interior.
 
-    An alpha is a squared radius in the unit of the points; infinity where there is none. Rows are indices of the given
-    points; each face stands once. Faces are in the order of the grid's points, not of the indices.
+    An alpha is a squared radius in the unit of the points; infinity where there is none, as of a face of the hull, which
+    never is interior. Rows are indices of the given points; each face stands once. Faces are in the order of the grid's points, not of the indices.
     """
     points: Rows  #: (m,) indices
     point_alphas: Floats  #: (m, 3) floats
@@ -54,7 +55,7 @@ class Shape:
 
     Attributes:
         mesh: the mesh.
-        sixteenths: the alpha on the grid, in sixteenths.
+        sixteenths: the alpha on the grid, in sixteenths; 2^34 where it is beyond all that the library counts.
         points: (m,) indices of points; all are admitted.
         point_kinds: (m,) SINGULAR, REGULAR or INTERIOR.
         edges, edge_kinds: (e, 2) indices of points, (e,) kinds.
@@ -62,8 +63,9 @@ class Shape:
         tetrahedra: (c, 4) indices of points.
     """
 
-    def __init__(self, mesh: Arrays, sixteenths: int) -> None:
-        self.mesh, self.sixteenths = mesh, sixteenths
+    def __init__(self, mesh: Arrays, sixteenths: int, square: float = math.inf) -> None:
+        """Of a mesh at so many sixteenths; where they are beyond the library's count, at the square of a radius."""
+        self.mesh, self.sixteenths = mesh, min(sixteenths, BEYOND)
         # What it was made of: an edit of the mesh later on changes none of it.
         self._faces, self._given, self._all = mesh.filtration(), mesh._given, mesh.cells
         self._grid, self._across = mesh.grid, mesh.across
@@ -71,7 +73,7 @@ class Shape:
         self._points: Numbers = mesh.points
         faces = self._faces
         # In the unit of the points, as alphas are: by one factor for all, so that none changes its place among them.
-        self._level = sixteenths * mesh._square
+        self._level = sixteenths * mesh._square if sixteenths < BEYOND else square
         self._within: Bools = faces.tetrahedron_alphas <= self._level
         self.points, self.point_kinds = self._given, self._kinds(faces.point_alphas)
         self.edges, self.edge_kinds = self._of(faces.edges, faces.edge_alphas)
@@ -79,13 +81,13 @@ class Shape:
         self.tetrahedra = self._given[self._all[self._within]]
 
     def __repr__(self) -> str:
-        radius = math.sqrt(self.sixteenths) / 4 * self._unit
+        radius = math.sqrt(self._level)
         return (f'<hanskup.Shape: radius {radius:.3g}, {len(self.edges)} edges, {len(self.triangles)} triangles, '
                 f'{len(self.tetrahedra)} tetrahedra>')
 
     def _kinds(self, alphas: Floats) -> Ints:
-        # An interior face is regular too.
-        interior = alphas[:, 2] <= self._level
+        # An interior face is regular too. A face of the hull never is, at infinity neither.
+        interior = (alphas[:, 2] <= self._level) & (alphas[:, 2] < math.inf)
         return np.where(interior, 2, (alphas[:, 1] <= self._level).astype(np.int64))
 
     def _of(self, faces: Rows, alphas: Floats) -> tuple[Rows, Ints]:

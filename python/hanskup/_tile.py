@@ -114,7 +114,8 @@ def find(folder: str, tile: int) -> None:
         kept_at(found_path(folder, tile), np.empty((0, 4), plan.kind))
         return
     spheres = Spheres(places, rows.cells)
-    found = spheres.inside(*plan.boxes[tile], np.arange(len(rows.cells)))
+    low, high = plan.boxes[tile]
+    found = spheres.inside(low, high, np.arange(len(rows.cells)))
     first, times = _also(spheres, found, plan, tile)
     kept_at(left_path(folder, tile), *_left(places, numbers, rows, found, times, own, plan, tile))
     kept_at(found_path(folder, tile), turned_cells(numbers, rows.cells[first], spheres.turned[first], plan.kind))

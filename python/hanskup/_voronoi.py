@@ -66,7 +66,7 @@ class Voronoi:
     @property
     def ridge_dict(self) -> dict[tuple[int, int], list[int]]:
         """The vertices of each ridge, by its pair of points."""
-        return dict(zip(map(tuple, self.ridge_points.tolist()), self.ridge_vertices))
+        return {(one, other): corners for (one, other), corners in zip(self.ridge_points.tolist(), self.ridge_vertices)}
 
     @kept
     def regions(self) -> list[list[int]]:

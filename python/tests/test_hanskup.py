@@ -194,10 +194,7 @@ class Others(unittest.TestCase):
             for face, alpha in zip(np.sort(faces).tolist(), alphas.tolist()):
                 if tuple(face) in theirs:  # ties are broken otherwise there
                     value = theirs[tuple(face)]
-                    if value > _library.BEYOND / 16:
-                        self.assertEqual(alpha, np.inf)
-                    else:
-                        self.assertTrue(-1e-6 * value <= alpha - value <= 1 / 16 + 1e-6 * value, (face, alpha, value))
+                    self.assertTrue(-1e-6 * value <= alpha - value <= 1 / 16 + 1e-6 * value, (face, alpha, value))
                     shared += 1
         self.assertGreater(shared, 5000)
 

@@ -109,5 +109,90 @@ class AsScipyReads(Real):
         self.assertRaises(ValueError, ours, (line, line))
 
 
+class Numbers(Real):
+    def test_a_radius_of_a_small_type(self):
+        mesh = hanskup.delaunay(np.random.default_rng(1).integers(0, 400, (60, 3)))
+        for radius in (np.uint8(20), np.int8(100), np.int16(200), np.uint16(300), np.float16(300), np.float32(363.67172),
+                       np.uint64(300), np.array(200), 200, True, np.bool_(True)):
+            shape, other = mesh.alpha(radius), mesh.alpha(float(radius))
+            self.assertEqual(shape.sixteenths, int(16 * float(radius) ** 2))
+            np.testing.assert_array_equal(shape.tetrahedra, other.tetrahedra)
+            np.testing.assert_array_equal(mesh.solid_parts(radius).tetrahedra, mesh.solid_parts(float(radius)).tetrahedra)
+            self.assertEqual(hanskup.alpha_shape(mesh.points, radius).sixteenths, shape.sixteenths)
+
+    def test_what_is_no_radius(self):
+        mesh = hanskup.delaunay(np.random.default_rng(1).integers(0, 400, (60, 3)))
+        for radius in ('3', b'3', 3j, None, [], np.nan, -1, np.float16(-0.5), -np.inf, object()):
+            self.assertRaises(ValueError, mesh.alpha, radius)
+            self.assertRaises(ValueError, mesh.solid_parts, radius)
+        with self.assertRaisesRegex(ValueError, 'weights'):
+            mesh.alpha(np.ones(60))
+        with self.assertRaisesRegex(ValueError, 'weights'):
+            hanskup.alpha_shape(mesh.points, np.ones(60))
+        for parts in (0, -1, 1.5, 'a', np.nan):
+            self.assertRaises(ValueError, mesh.optimal_alpha, parts)
+        self.assertEqual(mesh.optimal_alpha(np.inf), mesh.optimal_alpha(10 ** 30))
+        self.assertEqual(mesh.optimal_alpha(np.uint8(2)), mesh.optimal_alpha(2.0))
+        for unit in (0, -1, np.nan, np.inf, '1', [1.0]):
+            self.assertRaises(ValueError, hanskup.delaunay, np.eye(4, 3), unit)
+        self.assertEqual(hanskup.delaunay(np.eye(4, 3), np.uint8(1)).placing.unit, 1.0)
+
+    def test_objects_are_the_numbers_that_they_are(self):
+        points = np.random.default_rng(2).integers(0, 6, (60, 3))
+        mesh = hanskup.delaunay(points.astype(object))
+        self.assertIsNone(mesh.placing)
+        np.testing.assert_array_equal(mesh.simplices, hanskup.delaunay(points).simplices)
+        self.assertEqual(mesh.add(np.array([[7, 8, 9]], object)).tolist(), ['inserted'])
+        floats = np.random.default_rng(3).random((60, 3))
+        np.testing.assert_array_equal(hanskup.delaunay(floats.astype(object)).simplices,
+                                      hanskup.delaunay(floats).simplices)
+        for wrong in ('a', None, 1j):
+            self.assertRaises(ValueError, hanskup.delaunay, np.array([[wrong, 0, 0]] * 5, object))
+        self.assertRaises(hanskup.OutOfRange, hanskup.delaunay, np.array([[2 ** 40, 0, 0]] * 5, object))
+
+
+class AllRadii(Real):
+    def test_infinity_admits_everything(self):
+        for name, points, _ in each(700):
+            with self.subTest(name):
+                mesh = hanskup.delaunay(points)
+                shape, told = mesh.alpha(np.inf), mesh.filtration()
+                self.assertEqual(len(shape.tetrahedra), mesh.nsimplex)
+                self.assertEqual(shape.volume(), mesh.volume())
+                self.assertAlmostEqual(shape.area() / mesh.area(), 1, 12)
+                np.testing.assert_array_equal(np.unique(np.sort(shape.boundary(), axis=1), axis=0),
+                                              np.unique(np.sort(mesh.convex_hull, axis=1), axis=0))
+                for alphas in (told.point_alphas, told.edge_alphas, told.triangle_alphas):
+                    self.assertTrue(np.isfinite(alphas[:, :2]).all())
+                    self.assertTrue((np.diff(alphas[:, :2], axis=1) >= 0).all())
+                self.assertEqual(np.isinf(told.triangle_alphas[:, 2]).sum(), len(mesh.hull))
+                self.assertEqual((shape.triangle_kinds == hanskup.REGULAR).sum(), len(mesh.hull))
+                self.assertEqual((shape.edge_kinds == hanskup.REGULAR).sum(), len(mesh.hull) * 3 // 2)
+                self.assertEqual((shape.point_kinds == hanskup.REGULAR).sum(), len(mesh.hull) // 2 + 2)
+                if has('scipy'):
+                    self.assertEqual(len(mesh.solid_parts(np.inf).tetrahedra), mesh.nsimplex)
+                # and above the library's count by the radius itself
+                for radius in np.sqrt(np.quantile(told.tetrahedron_alphas, (0.5, 0.9, 0.99, 0.999))) * 1.001:
+                    self.assertEqual(len(mesh.alpha(radius).tetrahedra), (told.tetrahedron_alphas <= radius ** 2).sum())
+
+    @unittest.skipUnless(has('gudhi'), 'gudhi is not installed')
+    def test_as_gudhi_beyond_the_count_too(self):
+        import gudhi
+        beyond = 0
+        for name, points, _ in each(400):
+            with self.subTest(name):
+                mesh = hanskup.delaunay(points)
+                told, step = mesh.filtration(), mesh.placing.unit ** 2 / 16
+                complex_ = gudhi.AlphaComplex(points=mesh.placing.to_user(mesh.grid), precision='exact')
+                theirs = {tuple(sorted(face)): value for face, value in complex_.create_simplex_tree().get_filtration()}
+                for faces, alphas in ((told.edges, told.edge_alphas[:, 0]),
+                                      (told.triangles, told.triangle_alphas[:, 0]),
+                                      (told.tetrahedra, told.tetrahedron_alphas)):
+                    values = np.array([theirs[tuple(face)] for face in np.sort(mesh._inverse[faces], axis=1).tolist()])
+                    self.assertTrue((np.abs(alphas - values) <= step + 1e-6 * values).all())
+                    beyond += int((values > 2 ** 34 * step).sum())
+        self.assertGreater(beyond, 500)
+
+
 if __name__ == '__main__':
     unittest.main()
