@@ -9,10 +9,11 @@ from typing import Any, NamedTuple
 import numpy as np
 import numpy.typing as npt
 
-from ._errors import GREATEST, Flat, OutOfRange
-from ._grid import Placing, placed
+from ._errors import BEYOND_GRID, GREATEST, Flat, OutOfRange
+from ._grid import Placing
 from ._kinds import ArrayLike, Bools, Ints, Numbers
 from ._numbers import numbers_of, real, whole
+from ._placing import placed
 
 _PIECE = 1 << 20  # points at a time
 _SAMPLE = 200_000  # points by which the cuts are laid
@@ -67,11 +68,11 @@ def _checked(points: ArrayLike, unit: float | None) -> tuple[Numbers, Placing | 
         if unit is not None:
             raise ValueError('whole numbers are taken as they are: no unit')
         if ends.min() < 0 or ends.max() > GREATEST:
-            raise OutOfRange(f'a coordinate is not 0 to {GREATEST}')
+            raise OutOfRange(BEYOND_GRID)
         return array, None
     if not np.isfinite(ends).all():
         raise ValueError('a point is not finite')
-    return array, placed(ends.astype(float), unit)
+    return array, placed(array, unit)
 
 
 def _on_grid(points: Numbers, placing: Placing | None) -> Ints:

@@ -45,21 +45,28 @@ class Edits(Arrays):
         array = np.atleast_2d(numbers_of(points))
         if array.ndim != 2 or array.shape[1] != 3:
             raise ValueError(f'points are an array of shape (k, 3), and not {array.shape}')
-        if self.placing is None and array.dtype.kind == 'f':
-            raise ValueError('the mesh has whole coordinates')
         if not np.isfinite(array).all():
-            raise ValueError('a coordinate is not finite')
+            raise ValueError(f'place {np.flatnonzero(~np.isfinite(array).all(axis=1))[0]} is not finite')
+        if self.placing is None and array.dtype.kind == 'f':
+            if (array != np.rint(array)).any():
+                raise ValueError('the mesh has whole coordinates, as it was made of whole numbers: of floats, as '
+                                 'points.astype(float), it takes any')
+            if (np.abs(array) < 2.0 ** 62).all():
+                array = array.astype(np.int64)
         return array
 
     def _to_places(self, points: ArrayLike) -> tuple[Numbers, Ints]:
         """Points as this mesh has them, (k, 3), and their places. Raises ValueError and OutOfRange."""
         array = self._checked(points)
         steps = np.rint(self.placing.on_grid(array)) if self.placing else array
-        least, greatest = (steps.min(), steps.max()) if len(steps) else (0, 0)
-        if least < 0 or greatest > GREATEST:
-            beyond = float(max(-float(least), float(greatest) - GREATEST))
+        outside = np.flatnonzero(((steps < 0) | (steps > GREATEST)).any(axis=1))
+        if len(outside):
+            worst = steps[outside[0]].astype(float)
+            beyond = float(np.maximum(-worst, worst - GREATEST).max())
             told = f'{beyond * self.placing.unit:g}, {beyond:.0f} steps' if self.placing else f'{beyond:.0f}'
-            raise OutOfRange(f'a point lies outside of the grid, 0 to {GREATEST}, by {told}')
+            way = ': delaunay(points, box=(low, high)) or margin=0.5 makes room for it' if self.placing else ''
+            raise OutOfRange(f'place {outside[0]} of {len(array)} lies outside of the grid, 0 to {GREATEST}, by '
+                             f'{told}{way}')
         return array.astype(float if self.placing else np.int64), steps.astype(np.int64)
 
     def _indices(self, indices: ArrayLike) -> Ints:

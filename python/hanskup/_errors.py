@@ -5,6 +5,9 @@ from ._kinds import Words
 
 GREATEST = 16383  #: the greatest coordinate
 
+BEYOND_GRID = (f'a coordinate is not 0 to {GREATEST}: whole numbers are places of the grid, and taken as they are; '
+               'points.astype(float) is placed on it')
+
 
 class HanskupError(Exception):
     """The library refused. Each kind of refusal has a class of its own.

@@ -6,9 +6,9 @@ from dataclasses import dataclass
 import numpy as np
 import numpy.typing as npt
 
-from ._errors import GREATEST, OutOfRange
+from ._errors import GREATEST
 from ._kinds import Floats, Ints, Numbers, Rows
-from ._numbers import real
+from ._numbers import numbers_of, real
 
 # The three other corners of each corner of a tetrahedron.
 OTHERS = np.array([[1, 2, 3], [0, 2, 3], [0, 1, 3], [0, 1, 2]])
@@ -19,9 +19,27 @@ EDGES = np.array([[0, 1, 2, 3], [0, 2, 1, 3], [0, 3, 1, 2], [1, 2, 0, 3], [1, 3,
 
 @dataclass(frozen=True)
 class Placing:
-    """How real points lie on the grid: grid = round((point - origin) / unit), with one unit for all axes."""
+    """How real points lie on the grid: grid = round((point - origin) / unit), with one unit for all axes. Places of the
+    grid are 0 to 16383 along each.
+
+    >>> placing = Placing(np.array([-1.0, -1.0, -1.0]), 0.001)
+    >>> placing.to_grid(np.array([[0.0, 0.5, 1.0]]))
+    array([[1000, 1500, 2000]])
+    >>> placing.to_user(np.array([[1000, 1500, 2000]]))
+    array([[0. , 0.5, 1. ]])
+    """
     origin: Floats  #: (3,) the point at the grid's (0, 0, 0)
     unit: float  #: the length of a step of the grid, in the unit of the points
+
+    def __post_init__(self) -> None:
+        origin, unit = numbers_of(self.origin).astype(float), real(self.unit, 'a unit')
+        if origin.shape != (3,) or not np.isfinite(origin).all() or not 0 < unit < np.inf:
+            raise ValueError('a placing has three finite numbers as its origin, and a finite unit above 0')
+        object.__setattr__(self, 'origin', origin)
+        object.__setattr__(self, 'unit', unit)
+
+    def __repr__(self) -> str:
+        return f'<hanskup.Placing: from {tuple(self.origin.tolist())} in steps of {self.unit:g}>'
 
     def on_grid(self, points: Numbers) -> Floats:
         """Where points, (n, 3), lie in steps of the grid: (n, 3) floats."""
@@ -36,24 +54,6 @@ class Placing:
         """Where places of the grid lie, (n, 3) floats."""
         points: Floats = grid * self.unit + self.origin
         return points
-
-
-def placed(points: Floats, unit: float | None) -> Placing:
-    """The given unit, or the least that fits all points onto the grid, from their least coordinates on."""
-    low, high = points.min(axis=0), points.max(axis=0)
-    with np.errstate(over='ignore'):
-        extent = float((high - low).max())
-    if not np.isfinite(extent):
-        raise OutOfRange('the points lie too far apart for floats')
-    if unit is not None:
-        unit = real(unit, 'a unit')
-        if not 0 < unit < np.inf:
-            raise ValueError(f'a unit is more than 0 and finite, and not {unit:g}')
-    if unit is None:
-        unit = max(extent / GREATEST, float(np.finfo(float).tiny)) if extent > 0 else 1.0
-    elif not extent < (GREATEST + 0.5) * unit:
-        raise OutOfRange(f'the points reach over {extent}, but the grid over {GREATEST} steps of {unit}')
-    return Placing(low, unit)
 
 
 def keys(places: Ints) -> Ints:

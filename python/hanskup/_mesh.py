@@ -8,14 +8,15 @@ from typing import Any
 import numpy as np
 
 from . import _adapters, _library, _parts
-from ._errors import GREATEST, Flat, OutOfRange
-from ._grid import Placing, placed, volumes
+from ._errors import BEYOND_GRID, GREATEST, Flat, OutOfRange
+from ._grid import Placing, volumes
 from ._kept import sealed
 from ._kinds import ArrayLike, Ints, Numbers, Rows
 from ._library import BEYOND, filtered_rows, mesh_rows
 from ._lifts import Lifts
 from ._looks import Looks
-from ._numbers import numbers_of, real, whole
+from ._numbers import numbers_of, whole
+from ._placing import placed
 from ._progress import waiting
 from ._shape import Shape, SolidParts, area_of
 from ._voronoi import Voronoi
@@ -159,22 +160,54 @@ def _warn(mesh: Mesh) -> None:
         warnings.warn(text, RoundingWarning, stacklevel=3)
 
 
-def delaunay(points: ArrayLike, unit: float | None = None, progress: bool = True, faces: bool = False) -> Mesh:
+def _of_whole(array: Numbers, given: dict[str, Any], progress: bool, faces: bool) -> Mesh:
+    # Of whole numbers, which are places of the grid.
+    told = [name for name, value in given.items() if value is not None and not (name == 'margin' and value == 0)]
+    if told:
+        raise ValueError(f'whole numbers are taken as they are: no {told[0]}; points.astype(float) is placed')
+    if len(array) and (array.min() < 0 or array.max() > GREATEST):
+        raise OutOfRange(BEYOND_GRID)
+    places = array.astype(np.int64)
+    return Mesh(places, places, None, progress, faces)
+
+
+def _placing_of(array: Numbers, given: dict[str, Any]) -> Placing:
+    # Of floats how they are placed.
+    placing = given.pop('placing')
+    if placing is None:
+        return placed(array, **given)
+    if not isinstance(placing, Placing) or given['unit'] is not None or given['box'] is not None or given['margin']:
+        raise ValueError('a placing is a hanskup.Placing, and comes without unit, box and margin')
+    steps = np.rint(placing.on_grid(array.astype(float)))
+    beyond = np.flatnonzero(((steps < 0) | (steps > GREATEST)).any(axis=1))
+    if len(beyond):
+        raise OutOfRange(f'point {beyond[0]} lies outside of the grid of the placing')
+    return placing
+
+
+def delaunay(points: ArrayLike, unit: float | None = None, progress: bool = True, faces: bool = False,
+             box: ArrayLike | None = None, margin: float = 0.0, placing: Placing | None = None) -> Mesh:
     """The Delaunay triangulation of points.
 
     Args:
         points: (n, 3). Whole numbers 0 to 16383 are taken as they are. Floats are placed on the grid: by the unit, or
-            by the least one that fits them all.
-        unit: the length of a step of the grid, in the unit of the points; for floats alone.
-        progress: with a line of the time that it takes, where tqdm is installed, a terminal is there and it takes more
-            than a second.
+            by the data's own step where the grid has room for it, so that nothing is rounded, as of coordinates with
+            few decimals; or by the least unit that fits them all.
+        unit: the length of a step of the grid, in the unit of the points; for floats alone, as are those below.
+        progress: with a line of the time that it takes, where a terminal is there and it takes more than a second.
         faces: with the faces and their alphas, by one triangulation for all. Else `filtration` and `alpha` make them
             when they are first asked for, by a second one.
+        box: ((x, y, z), (x, y, z)) the least and the greatest corner of the room in which points come and move later
+            on. All points lie in it.
+        margin: so much room around the points, or the box, as a part of its greatest extent: 0.1 is a tenth on each
+            side.
+        placing: how they are placed, as of another mesh; in place of unit, box and margin.
 
     Raises:
-        ValueError: the shape is not (n, 3), a coordinate is not finite, not real or masked, or a unit is given with
-            whole numbers.
-        OutOfRange: a whole coordinate is not 0 to 16383, or the points take more steps of the unit than the grid has.
+        ValueError: the shape is not (n, 3), a coordinate is not finite, not real or masked, or a unit, a box, a margin
+            or a placing is given with whole numbers or is none.
+        OutOfRange: a whole coordinate is not 0 to 16383, the points take more steps of the unit than the grid has, or
+            one lies outside of the box or the placing's grid.
         Flat: all points lie in one plane, or there are fewer than four.
         WantOfMemory, Full: there was no memory for the mesh, or 32 bits do not number it.
     Warns:
@@ -182,22 +215,18 @@ def delaunay(points: ArrayLike, unit: float | None = None, progress: bool = True
     """
     array = numbers_of(points)
     if array.ndim != 2 or array.shape[1] != 3:
-        raise ValueError(f'points are an array of shape (n, 3), and not {array.shape}')
+        raise ValueError(f'points are an array of shape (n, 3): this is for points in space, and not for {array.shape}')
+    given = {'unit': unit, 'box': box, 'margin': margin, 'placing': placing}
     if array.dtype.kind != 'f':
-        if unit is not None:
-            raise ValueError('whole numbers are taken as they are: no unit')
-        if len(array) and (array.min() < 0 or array.max() > GREATEST):
-            raise OutOfRange(f'a coordinate is not 0 to {GREATEST}')
-        places = array.astype(np.int64)
-        return Mesh(places, places, None, progress, faces)
-    array = array.astype(float)
+        return _of_whole(array, given, progress, faces)
     if not len(array):
         raise Flat('there are no points')
     bad = np.flatnonzero(~np.isfinite(array).all(axis=1))
     if len(bad):
         raise ValueError(f'point {bad[0]} is not finite')
-    placing = placed(array, unit)
-    mesh = Mesh(array, placing.to_grid(array), placing, progress, faces)
+    where = _placing_of(array, given)
+    array = array.astype(float)
+    mesh = Mesh(array, where.to_grid(array), where, progress, faces)
     _warn(mesh)
     return mesh
 

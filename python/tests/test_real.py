@@ -194,5 +194,93 @@ class AllRadii(Real):
         self.assertGreater(beyond, 500)
 
 
+class Placed(Real):
+    def test_what_is_exact_stays_exact(self):
+        random = np.random.default_rng(1)
+        thousandths = random.uniform(0, 10, (1000, 3)).round(3)  # as a PDB has them
+        for points, unit in ((thousandths, 0.001), (thousandths + [5e5, 4e6, -100], 0.001),
+                             ((thousandths * 0.3).round(3), 0.00025),
+                             (random.integers(0, 11, (300, 3)).astype(float), 2.0 ** -10),
+                             (random.integers(0, 11, (300, 3)) / 10, 1e-4), (random.integers(0, 16384, (99, 3)) / 7, None),
+                             (random.integers(0, 5000, (200, 3)) * 2.0 ** -20, 2.0 ** -21),
+                             (random.integers(-3000, 3000, (200, 3)) * 0.005, 0.0025),
+                             (random.integers(0, 16384, (300, 3)) * 0.01, 0.01),
+                             (random.integers(0, 16383, (300, 3)).astype(np.float32) / 100, 0.01)):
+            mesh = hanskup.delaunay(points)
+            if unit is None:
+                self.assertGreater(mesh.rounding, 0.01 * mesh.placing.unit)
+                continue
+            self.assertAlmostEqual(mesh.placing.unit / unit, 1, 12)
+            self.assertLess(mesh.rounding, unit * (1e-4 if points.dtype == np.float32 else 1e-5))
+            steps = (points.astype(float) - points.min(axis=0)) / mesh.placing.unit
+            self.assertLess(np.abs(steps - np.rint(steps)).max(), 1e-3)
+
+    def test_what_is_not_takes_the_whole_grid(self):
+        for name, points, _ in each(300):
+            with self.subTest(name):
+                extent = np.ptp(points, axis=0).max()
+                self.assertAlmostEqual(hanskup.delaunay(points).placing.unit / (extent / 16383), 1, 12)
+        tenths = np.random.default_rng(2).integers(0, 10 ** 6, (300, 3)) / 10  # the grid has not enough of them
+        self.assertAlmostEqual(hanskup.delaunay(tenths).placing.unit / (np.ptp(tenths, axis=0).max() / 16383), 1, 12)
+
+    @unittest.skipUnless(has('scipy'), 'scipy is not installed')
+    def test_a_lattice_of_floats_has_regions_of_1(self):
+        lattice = np.indices((6, 6, 6)).reshape(3, -1).T.astype(float)
+        told = hanskup.delaunay(lattice).voronoi().volumes
+        np.testing.assert_allclose(told[np.isfinite(told)], 1, rtol=1e-9)
+        self.assertEqual(np.isfinite(told).sum(), 64)
+
+    def test_a_simulation_with_a_margin(self):
+        random = np.random.default_rng(3)
+        points = random.uniform(size=(300, 3))
+        for words in ({'margin': 0.2}, {'box': ((-0.3, -0.3, -0.3), (1.3, 1.3, 1.3))}, {'unit': 1e-4, 'margin': 0.2},
+                      {'placing': hanskup.Placing([-0.3] * 3, 1e-4)}):
+            mesh, places = hanskup.delaunay(points, **words), points.copy()
+            for _ in range(5):
+                places += random.normal(size=places.shape) * 1e-2
+                self.assertEqual(set(mesh.move(np.arange(300), places).tolist()), {'moved'})
+            np.testing.assert_array_equal(mesh.points, places)
+            self.assertTrue(((places < points.min(axis=0)) | (places > points.max(axis=0))).any())
+            other = hanskup.delaunay(places, placing=mesh.placing)
+            np.testing.assert_array_equal(mesh.simplices, other.simplices)
+
+    def test_boxes(self):
+        random = np.random.default_rng(4)
+        for decimals in (2, 16):
+            points = random.uniform(size=(50, 3)).round(decimals)
+            for low, high in (((-1, -1, -1), (2, 3, 2)), ((0, 0, 0), (1, 1, 1)), ((-7.3, -0.1, 0), (1, 1.01, 1))):
+                mesh = hanskup.delaunay(points, box=(low, high))
+                corners = np.array(np.meshgrid(*zip(low, high))).reshape(3, -1).T
+                self.assertFalse(set(mesh.add(corners).tolist()) - {'inserted', 'duplicate'})
+                self.assertTrue(decimals != 2 or hanskup.delaunay(points, box=(low, high)).rounding < 1e-12)
+        with self.assertRaisesRegex(hanskup.OutOfRange, r'place 1 of 2 lies outside .* box=.*margin='):
+            hanskup.delaunay(points).move([0, 1], [[0.5, 0.5, 0.5], [3, 0, 0]])
+
+    def test_refusals_of_boxes(self):
+        points = np.random.default_rng(5).uniform(size=(50, 3))
+        for words in ({'margin': -1}, {'margin': np.nan}, {'margin': np.inf}, {'box': 1}, {'box': ((0, 0), (1, 1))},
+                      {'box': ((1, 1, 1), (0, 0, 0))}, {'box': ((0, 0, 0), (1, 1, np.inf))}, {'placing': 3},
+                      {'placing': hanskup.Placing([0, 0, 0], 1), 'unit': 1}):
+            self.assertRaises(ValueError, hanskup.delaunay, points, **words)
+        self.assertRaises(hanskup.OutOfRange, hanskup.delaunay, points, box=((0, 0, 0), (1, 1, 0.5)))
+        self.assertRaises(hanskup.OutOfRange, hanskup.delaunay, points, placing=hanskup.Placing([0.5] * 3, 1e-4))
+        self.assertRaises(hanskup.OutOfRange, hanskup.delaunay, points, margin=0.5, unit=1 / 16383)
+        for words in ({'margin': 1}, {'box': ((0, 0, 0), (9, 9, 9))}, {'placing': hanskup.Placing([0, 0, 0], 1)}):
+            with self.assertRaisesRegex(ValueError, 'astype'):
+                hanskup.delaunay(np.eye(4, 3, dtype=int), **words)
+        for origin, unit in (([0, 0], 1), ([0, 0, np.nan], 1), ([0, 0, 0], 0), ([0, 0, 0], np.inf)):
+            self.assertRaises(ValueError, hanskup.Placing, origin, unit)
+
+    def test_whole_numbers_are_told_the_way_out(self):
+        for points in ([[-5, 0, 0]] * 5, [[20000, 0, 0]] * 5):
+            with self.assertRaisesRegex(hanskup.OutOfRange, r'astype\(float\)'):
+                hanskup.delaunay(np.array(points))
+        mesh = hanskup.delaunay(np.random.default_rng(6).integers(0, 99, (50, 3)))
+        self.assertEqual(mesh.add([[1.0, 2.0, 300.0]]).tolist(), ['inserted'])
+        self.assertEqual(mesh.points.dtype, np.int64)
+        with self.assertRaisesRegex(ValueError, r'astype\(float\)'):
+            mesh.add([[1.5, 2.0, 3.0]])
+
+
 if __name__ == '__main__':
     unittest.main()
