@@ -14,6 +14,7 @@ from ._kinds import Bools, Floats, Ints, Numbers, Rows
 from ._library import BEYOND, NONE
 from ._numbers import real
 from ._progress import waiting
+from ._rounding import Rounding, spacing_of, turned_over
 from ._shape import Filtration, Shape
 from ._walk import Walk
 
@@ -99,8 +100,27 @@ class Arrays:
         return _signed(self._rows.neighbours, len(self._rows.cells))
 
     @kept
-    def rounding(self) -> float:
-        """The greatest difference of a coordinate and its place on the grid, in the unit of the points."""
+    def rounding(self) -> Rounding:
+        """How the points were rounded: as a number the greatest difference of a coordinate and its place on the grid, in
+        the unit of the points. Its `spacing` is the median distance of a point to its nearest neighbour, `turned` how
+        many simplices turn over in the given coordinates, `together` how many points fell together with others.
+
+        >>> import hanskup
+        >>> mesh = hanskup.delaunay([[0., 0., 0.], [1, 0, 0], [0, 1, 0], [0, 0, 1], [.3, .3, .4], [1, 0, 0]], unit=0.01)
+        >>> mesh.rounding < 1e-12, mesh.rounding.together, mesh.rounding.turned, round(mesh.rounding.spacing, 3)
+        (True, 1, 0, 0.583)
+        """
+        together, count = int(self.living.sum()) - len(self.grid), len(self.cells)
+        turned = turned_over(self) if self._shift else 0
+        return Rounding(self._shift, self._spacing, turned, together, count)
+
+    @kept
+    def _spacing(self) -> float:
+        return spacing_of(self)
+
+    @kept
+    def _shift(self) -> float:
+        # The greatest difference of a coordinate and its place on the grid.
         if not self.placing:
             return 0.0
         here = self.living
@@ -156,7 +176,8 @@ class Arrays:
 
     @kept
     def simplices(self) -> Rows:
-        """(c, 4) int32, the tetrahedra, by indices of points, turned positively."""
+        """(c, 4) int32, the tetrahedra, by indices of points, turned positively on the grid. In the coordinates that were
+        given some may be turned over, or flat, as `rounding.turned` counts."""
         return self._given[self._turn(self.cells)]
 
     @kept

@@ -32,13 +32,13 @@ class OutOfRange(HanskupError, ValueError):
 
 
 class Flat(HanskupError, ValueError):
-    """No four of the points are independent: all lie in one plane."""
+    """No four of the points are independent: on the grid all lie in one plane, or there are fewer than four."""
 
 
 _REFUSALS: dict[int, tuple[type[HanskupError], str]] = {
     1: (WantOfMemory, 'want of memory'),
     2: (OutOfRange, f'a coordinate is not 0 to {GREATEST}'),
-    3: (Flat, 'no four of the points are independent: all lie in one plane'),
+    3: (Flat, 'no four of the points are independent: on the grid all lie in one plane'),
     6: (Full, 'more points, cells or edits than 32 bits count'),
 }
 

@@ -97,7 +97,7 @@ class Looks(Edits):
     @kept
     def _ground(self) -> Ground:
         here = self.living
-        return Ground(self._walk, self.placing, self.rounding, self._inverse[here], self.points[here])
+        return Ground(self._walk, self.placing, self._shift, self._inverse[here], self.points[here])
 
     def find_simplex(self, points: ArrayLike, progress: bool = True) -> Ints:
         """(k,) the simplex that has each place, -1 outside of the hull, as scipy's find_simplex. Where several have it,

@@ -18,12 +18,14 @@ from ._looks import Looks
 from ._numbers import numbers_of, whole
 from ._placing import placed
 from ._progress import waiting
+from ._rounding import warnings_of, why_flat
 from ._shape import Shape, SolidParts, area_of
 from ._voronoi import Voronoi
 
 
 class RoundingWarning(UserWarning):
-    """Points fell together on the grid, or were moved by more than a thousandth of an axis' extent."""
+    """Points fell together on the grid, were moved by more than a fiftieth of the median distance of a point to its nearest
+    neighbour, or more than a hundredth of the simplices turn over in the given coordinates."""
 
 
 class Mesh(Looks, Lifts):
@@ -135,29 +137,35 @@ class Mesh(Looks, Lifts):
         """
         return Voronoi(self)
 
-    def to_meshio(self) -> Any:
-        """A meshio.Mesh of the points and the simplices. It needs meshio."""
-        return _adapters.to_meshio(self.points, tetra=self.simplices)
+    def _points_of(self, on_grid: bool) -> Numbers:
+        # The points as they were given, or where the grid has them.
+        if not (on_grid and self.placing):
+            return self.points
+        return np.where(self.living[:, None], self.placing.to_user(self._places), self.points)
 
-    def to_pyvista(self) -> Any:
-        """A pyvista.UnstructuredGrid of the points and the simplices. It needs pyvista."""
-        return _adapters.solid_to_pyvista(self.points, self.simplices)
+    def to_meshio(self, on_grid: bool = False) -> Any:
+        """A meshio.Mesh of the points and the simplices. It needs meshio.
 
-    def to_open3d(self) -> Any:
+        Args:
+            on_grid: with the points where the grid has them, moved by `rounding` at most: so all cells have positive
+                volumes, as a solver wants them. In the coordinates that were given `rounding.turned` of them have not.
+        """
+        return _adapters.to_meshio(self._points_of(on_grid), tetra=self.simplices)
+
+    def to_pyvista(self, on_grid: bool = False) -> Any:
+        """A pyvista.UnstructuredGrid of the points and the simplices; on_grid as of to_meshio. It needs pyvista."""
+        return _adapters.solid_to_pyvista(self._points_of(on_grid), self.simplices)
+
+    def to_open3d(self, on_grid: bool = False) -> Any:
         """An open3d.geometry.TetraMesh of the points and the simplices, which
-        TriangleMesh.create_from_point_cloud_alpha_shape takes in place of one of its own. It needs open3d."""
-        return _adapters.solid_to_open3d(self.points, self.simplices)
+        TriangleMesh.create_from_point_cloud_alpha_shape takes in place of one of its own; on_grid as of to_meshio. It
+        needs open3d."""
+        return _adapters.solid_to_open3d(self._points_of(on_grid), self.simplices)
 
 
 def _warn(mesh: Mesh) -> None:
-    together = len(mesh.points) - len(mesh.grid)
-    if together:
-        warnings.warn(f'{together} points fell together with others', RoundingWarning, stacklevel=3)
-    extents = mesh.points.max(axis=0) - mesh.points.min(axis=0)
-    least = extents[extents > 0].min()
-    if mesh.rounding > least / 1000:
-        text = f'coordinates were moved by up to {mesh.rounding:g}, more than a thousandth of the extent {least:g}'
-        warnings.warn(text, RoundingWarning, stacklevel=3)
+    for words in warnings_of(mesh):
+        warnings.warn(words, RoundingWarning, stacklevel=3)
 
 
 def _of_whole(array: Numbers, given: dict[str, Any], progress: bool, faces: bool) -> Mesh:
@@ -168,6 +176,8 @@ def _of_whole(array: Numbers, given: dict[str, Any], progress: bool, faces: bool
     if len(array) and (array.min() < 0 or array.max() > GREATEST):
         raise OutOfRange(BEYOND_GRID)
     places = array.astype(np.int64)
+    if len(places) < 4:
+        raise Flat(f'fewer than four points: {len(places)}')
     return Mesh(places, places, None, progress, faces)
 
 
@@ -211,7 +221,9 @@ def delaunay(points: ArrayLike, unit: float | None = None, progress: bool = True
         Flat: all points lie in one plane, or there are fewer than four.
         WantOfMemory, Full: there was no memory for the mesh, or 32 bits do not number it.
     Warns:
-        RoundingWarning: floats fell together on the grid, or were moved by more than a thousandth of an axis' extent.
+        RoundingWarning: floats fell together on the grid, were moved by more than a fiftieth of the median distance of a
+            point to its nearest neighbour, or more than a hundredth of the simplices turn over in the given
+            coordinates. `rounding` of the mesh has all these numbers.
     """
     array = numbers_of(points)
     if array.ndim != 2 or array.shape[1] != 3:
@@ -220,13 +232,17 @@ def delaunay(points: ArrayLike, unit: float | None = None, progress: bool = True
     if array.dtype.kind != 'f':
         return _of_whole(array, given, progress, faces)
     if not len(array):
-        raise Flat('there are no points')
+        raise Flat('fewer than four points: there are none')
     bad = np.flatnonzero(~np.isfinite(array).all(axis=1))
     if len(bad):
         raise ValueError(f'point {bad[0]} is not finite')
     where = _placing_of(array, given)
     array = array.astype(float)
-    mesh = Mesh(array, where.to_grid(array), where, progress, faces)
+    places = where.to_grid(array)
+    try:
+        mesh = Mesh(array, places, where, progress, faces)
+    except Flat:
+        raise Flat(why_flat(array, where, places)) from None
     _warn(mesh)
     return mesh
 

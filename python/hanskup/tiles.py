@@ -29,6 +29,7 @@ import numpy as np
 from . import _left, _tile
 from ._adapters import module
 from ._cuts import Plan, cut
+from ._errors import Flat
 from ._engines import Dask, Engine, LostWorkers, Processes, engine_of
 from ._kinds import ArrayLike, Rows
 from ._progress import counting
@@ -112,7 +113,11 @@ def finish(folder: str, engine: Engine | int | Any = None, progress: bool = True
     asked = [(folder, tile) for tile in range(len(plan.boxes)) if not _is_done(folder, tile)]
     for _ in counting(doers.each(_tile.find, asked), len(asked), 'tiles', progress):
         pass
-    (left, missing, hull), = doers.each(_left.complete, [(folder,)])
+    try:
+        (left, missing, hull), = doers.each(_left.complete, [(folder,)])
+    except Flat:
+        step = f', whose step is {plan.placing.unit:.3g},' if plan.placing else ''
+        raise Flat(f'on the grid{step} all {plan.points} points lie in one plane, or fewer than four differ') from None
     made = Tiles(folder)
     found = sum(len(cells) for cells in made.parts()) - missing
     return Tiles(folder, Counts(_tile.seen(folder, plan), found, left, missing, hull))

@@ -194,6 +194,85 @@ class AllRadii(Real):
         self.assertGreater(beyond, 500)
 
 
+class Told(unittest.TestCase):
+    def turned(self, points, simplices):
+        a, b, c, d = (points[simplices[:, k]] for k in range(4))
+        return (np.linalg.det(np.stack([b - a, c - a, d - a], axis=1)) <= 0).sum()
+
+    def warned(self, points, **words):
+        with warnings.catch_warnings(record=True) as said:
+            warnings.simplefilter('always')
+            mesh = hanskup.delaunay(points, **words)
+        self.assertTrue(all(one.category is hanskup.RoundingWarning and one.filename == __file__ for one in said))
+        return mesh, [str(one.message) for one in said]
+
+    @unittest.skipUnless(has('scipy'), 'scipy is not installed')
+    def test_numbers(self):
+        from scipy.spatial import cKDTree
+        for name, points, _ in each(2000):
+            with self.subTest(name):
+                mesh, _ = self.warned(points)
+                told, places = mesh.rounding, np.unique(mesh._places, axis=0)
+                self.assertEqual(told, np.abs(mesh.placing.to_user(mesh._places) - points).max())
+                self.assertEqual(told.together, len(points) - len(places))
+                self.assertLessEqual(abs(told.turned - self.turned(points, mesh.simplices)), 3)  # flat but for rounding
+                self.assertEqual(told.simplices, len(mesh.simplices))
+                spacing = np.median(cKDTree(points).query(points, 2)[0][:, 1])
+                self.assertTrue(0.85 < told.spacing / spacing < 1.2, (told.spacing, spacing))
+
+    def test_warned_by_what_it_does(self):
+        said = {name.split()[0]: ' '.join(self.warned(points)[1]) for name, points, _ in each(5000)}
+        self.assertEqual(said['uniform'], '')
+        self.assertRegex(said['wing'], r'simplices \(1?\d%\) turn over .*on_grid=True')
+        self.assertRegex(said['clusters'], 'moved by up to .* nearest neighbour')
+        self.assertRegex(said['tails'], 'fell together .* nearest neighbour')
+        mesh, told = self.warned(uniform(60_000, np.random.default_rng(1)))  # by a part of the simplices
+        self.assertEqual((told, mesh.rounding.words), ([], []))
+        exact, told = self.warned(np.random.default_rng(2).integers(0, 9000, (3000, 3)) / 1000)
+        self.assertEqual((told, exact.rounding.turned, exact.rounding.words), ([], 0, []))
+
+    def test_of_whole_numbers(self):
+        mesh, told = self.warned(np.random.default_rng(2).integers(0, 9, (300, 3)))
+        self.assertEqual((float(mesh.rounding), mesh.rounding.turned, told), (0.0, 0, []))
+        self.assertEqual(mesh.rounding.together, 300 - len(mesh.grid))
+        self.assertEqual(repr(mesh.rounding), f'<hanskup.Rounding: 0, 0 of the median distance to the nearest neighbour 1; '
+                         f'0 of {mesh.nsimplex} simplices turn over, {300 - len(mesh.grid)} points fell together>')
+
+    def test_after_edits_copies_and_pickles(self):
+        import copy
+        import pickle
+        mesh = hanskup.delaunay(uniform(100, np.random.default_rng(3)), margin=0.1)
+        before = mesh.rounding
+        self.assertEqual(vars(pickle.loads(pickle.dumps(before))), vars(copy.deepcopy(before)))
+        mesh.add(mesh.points[:3])
+        self.assertEqual((before.together, mesh.rounding.together), (0, 3))
+
+    def test_where_the_grid_has_the_points_all_cells_are_positive(self):
+        made = hanskup._adapters.to_meshio if has('meshio') else None
+        for name, points, _ in each(2000):
+            with self.subTest(name):
+                mesh, _ = self.warned(points)
+                places = mesh._points_of(True)
+                self.assertEqual(self.turned(places, mesh.simplices), 0)
+                self.assertLessEqual(np.abs(places - points).max(), float(mesh.rounding))
+                if made:
+                    written = mesh.to_meshio(on_grid=True)
+                    np.testing.assert_array_equal(written.points, places)
+                    np.testing.assert_array_equal(mesh.to_meshio().points, points)
+
+    def test_flat(self):
+        random = np.random.default_rng(1)
+        for points, words in ((np.concatenate([uniform(200, random), [[1e6, 0, 0]]]), 'step is 61.* fell together.*1e\\+06'),
+                              (uniform(200, random) * [1, 1, 1e-5], 'though as given they do not'),
+                              (uniform(200, random) * [1, 1, 0], 'all 200 points lie in one plane'),
+                              (np.eye(3), 'fewer than four points: 3'), (np.eye(3, dtype=int), 'fewer than four points: 3'),
+                              (np.zeros((0, 3)), 'fewer than four points'),
+                              (np.repeat(np.eye(3), 3, axis=0), 'fewer than four different points: 3 of 9'),
+                              (np.array([[1, 2, 3]] * 5 + [[1, 2, 4]] * 9), 'on the grid all lie in one plane')):
+            with self.assertRaisesRegex(hanskup.Flat, words):
+                hanskup.delaunay(points)
+
+
 class Placed(Real):
     def test_what_is_exact_stays_exact(self):
         random = np.random.default_rng(1)
@@ -211,7 +290,7 @@ class Placed(Real):
                 self.assertGreater(mesh.rounding, 0.01 * mesh.placing.unit)
                 continue
             self.assertAlmostEqual(mesh.placing.unit / unit, 1, 12)
-            self.assertLess(mesh.rounding, unit * (1e-4 if points.dtype == np.float32 else 1e-5))
+            self.assertLess(mesh.rounding, unit * (1e-3 if points.dtype == np.float32 else 1e-5))
             steps = (points.astype(float) - points.min(axis=0)) / mesh.placing.unit
             self.assertLess(np.abs(steps - np.rint(steps)).max(), 1e-3)
 
