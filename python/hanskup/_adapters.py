@@ -2,6 +2,7 @@
 from __future__ import annotations
 
 import importlib
+import importlib.util
 from typing import TYPE_CHECKING, Any
 
 import numpy as np
@@ -17,6 +18,11 @@ _TETRAHEDRON = 10  # the number of this kind of cell in VTK
 def module(name: str) -> Any:
     """A package that is imported when it is asked for. Raises ImportError."""
     return importlib.import_module(name)
+
+
+def has_scipy() -> bool:
+    """Whether scipy is there."""
+    return importlib.util.find_spec('scipy') is not None
 
 
 def to_meshio(points: Numbers, **cells: Rows) -> Any:

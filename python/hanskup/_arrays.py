@@ -2,6 +2,7 @@
 from __future__ import annotations
 
 import math
+from typing import Any
 
 import numpy as np
 import numpy.typing as npt
@@ -68,6 +69,11 @@ class Arrays:
     def _forget(self) -> None:
         forget(self)
 
+    @property
+    def _kind(self) -> Any:
+        # The type of indices of points.
+        return np.int32 if len(self.points) < _SMALL else np.int64
+
     # ---- what the grid has
 
     @property
@@ -131,7 +137,7 @@ class Arrays:
         # (m,) the first living point of each point of the grid.
         here = np.flatnonzero(self.living)
         numbers = self._inverse[here]
-        first = np.zeros(len(self.grid), np.int32 if len(self.points) < _SMALL else np.int64)
+        first = np.zeros(len(self.grid), self._kind)
         first[numbers[::-1]] = here[::-1]
         return first
 
@@ -157,7 +163,12 @@ class Arrays:
     @property
     def nsimplex(self) -> int:
         """The number of simplices."""
-        return len(self._rows.cells)
+        return self._counts[1]
+
+    @property
+    def _counts(self) -> tuple[int, int, int]:
+        # How many points of the grid, simplices and triangles of the hull there are.
+        return len(self._rows.points), len(self._rows.cells), len(self._rows.hull)
 
     @property
     def ndim(self) -> int:

@@ -1,30 +1,34 @@
 """Edits of a mesh by the indices of its points. What they come to on the grid is proved; the indices are Python."""
 from __future__ import annotations
 
-from collections import Counter
+import itertools
+
 import numpy as np
 
 from ._arrays import Arrays
 from ._edited import ADD, MOVE, TAKE, Edited
 from ._errors import GREATEST, HanskupError, OutOfRange, check
-from ._grid import keys
+from ._grid import cross, dot, keys, volumes
+from ._held import Held
 from ._kept import kept, sealed
 from ._kinds import ArrayLike, Ints, Numbers, Words
-from ._library import MeshRows
+from ._library import MeshRows, mesh_rows
 from ._numbers import numbers_of
 from ._progress import pieces
 
 _PIECE = 1024  # so many edits are made before an interrupt is heard
+_ANEW = 3  # where more than one point in so many moves, a mesh of the new places is made sooner than the moves
+_FEW = 256  # of so many moves it does not matter
 
 
 class Edits(Arrays):
     """Points that come, go and move."""
     _edited: Edited | None
-    _shared: Counter[int] | None
+    _known: Held | None
 
     @kept
     def _rows(self) -> MeshRows:
-        return self._handle.rows()
+        return self._edited.rows() if self._edited else mesh_rows(self._places[self.living])
 
     @property
     def _handle(self) -> Edited:
@@ -33,12 +37,32 @@ class Edits(Arrays):
             self._edited = Edited(self._places[self.living])
         return self._edited
 
-    def _together(self) -> Counter[int]:
-        # How many points are at each place that has several, by keys.
-        if self._shared is None:
-            found, counts = np.unique(keys(self._places[self.living]), return_counts=True)
-            self._shared = Counter(dict(zip(found[counts > 1].tolist(), counts[counts > 1].tolist())))
-        return self._shared
+    @property
+    def _counts(self) -> tuple[int, int, int]:
+        # By the library's mesh where there are no rows, so that none are made for it.
+        if '_rows' in self.__dict__ or self._edited is None:
+            return super()._counts
+        return self._edited.counts()
+
+    @property
+    def _held(self) -> Held:
+        # Made for the first edit or look, and kept by edits.
+        if self._known is None or self._known.is_long:
+            here = np.flatnonzero(self.living)
+            self._known = Held(self._places[here], here)
+        return self._known
+
+    def _grown(self, name: str, more: Numbers) -> Numbers:
+        """What an array has and more behind it, in a room that has some to spare: so of many points that come one by
+        one each is copied a few times. Nobody who has the array as it was sees this."""
+        rooms: dict[str, Numbers] = self.__dict__.setdefault('_rooms', {})
+        array, length = getattr(self, name), len(getattr(self, name)) + len(more)
+        room = rooms.get(name)
+        if room is None or array.base is not room or len(room) < length:
+            room = rooms[name] = np.empty((length + length // 4 + 16, *array.shape[1:]), array.dtype)
+            room[:len(array)] = array
+        room[len(array):length] = more
+        return room[:length]
 
     def _checked(self, points: ArrayLike) -> Numbers:
         """Points as this mesh has them, (k, 3). Raises ValueError."""
@@ -83,9 +107,9 @@ class Edits(Arrays):
         Until all is told the mesh has no part of the library's: where an interrupt comes, at whatever time, it is made
         anew of the points that are told by then.
         """
-        edits.handle, edits.shared = self._handle, self._together()
+        edits.handle, edits.held = self._handle, self._held
         self._forget()
-        self._edited = self._shared = None
+        self._edited = self._known = None
         status = 0
         try:
             for piece in pieces(count, _PIECE, 'edit', progress):
@@ -95,7 +119,7 @@ class Edits(Arrays):
         finally:
             replies = np.array(edits.replies, '<U9')
             self.__dict__.update({name: sealed(array) for name, array in edits.told(replies).items()})
-        self._edited, self._shared = edits.handle, edits.shared
+        self._edited, self._known = edits.handle, edits.held
         try:
             check(status)
         except HanskupError as refused:
@@ -160,13 +184,60 @@ class Edits(Arrays):
         numbers, places = self._to_places(points)
         if len(at) != len(numbers):
             raise ValueError(f'{len(at)} points go to {len(numbers)} places')
+        if len(at) > max(_FEW, int(self.living.sum()) // _ANEW):
+            told = self._moved_anew(at, numbers, places)
+            if told is not None:
+                return told
         return self._made(_Moves(self, at, numbers, places), len(at), progress)
+
+    def _moved_anew(self, at: Ints, numbers: Numbers, places: Ints) -> Words | None:
+        """The replies of moves that are made all at once, by a mesh of the new places when one is wanted; None where it
+        is not plain what they are one after another."""
+        old, new, held = keys(self._places[at]), keys(places), self._held
+        if held.several or not self.living[at].all() or len(np.unique(at)) < len(at) or len(np.unique(new)) < len(new):
+            return None
+        replies = np.full(len(at), 'moved', '<U9')
+        if (held.first(new) >= 0).any():
+            there = set(keys(self._places[self.living]).tolist())
+            for k, (here, to) in enumerate(zip(old.tolist(), new.tolist())):
+                if to in there:
+                    replies[k] = 'occupied'
+                else:
+                    there.remove(here)
+                    there.add(to)
+        after = self._places.copy()
+        moved = np.flatnonzero(replies == 'moved')
+        after[at[moved]] = places[moved]
+        if not _never_flat(self._places[self.living], after[self.living]):
+            return None
+        points = self.points.copy()
+        points[at[moved]] = numbers[moved]
+        self._forget()
+        self._edited = self._known = None
+        self.__dict__.update({'points': sealed(points), '_places': sealed(after)})
+        return replies
+
+
+def _never_flat(before: Ints, after: Ints) -> bool:
+    """Whether four of the points are independent, wherever each of them is of its two places: then all are never in one
+    plane, in whatever order they go."""
+    chosen = [0]
+    for _ in range(3):  # the farthest from the first, from the line of two, from the plane of three
+        away = (before - before[chosen[0]]).astype(float)
+        if len(chosen) == 2:
+            away = cross(away, np.broadcast_to(away[chosen[1]], away.shape))
+        if len(chosen) == 3:
+            away = dot(away, np.broadcast_to(np.cross(away[chosen[1]], away[chosen[2]]), away.shape))[:, None]
+        chosen.append(int(dot(away, away).argmax()))
+    corners = np.stack([before[chosen], after[chosen]])
+    each = np.array([[corners[side, k] for k, side in enumerate(sides)] for sides in itertools.product((0, 1), repeat=4)])
+    return bool((volumes(each.reshape(-1, 3), np.arange(64).reshape(16, 4)) != 0).all())
 
 
 class _Adds:
     """Points that come."""
     handle: Edited
-    shared: Counter[int]
+    held: Held
 
     def __init__(self, mesh: Edits, points: Numbers, places: Ints) -> None:
         self.mesh, self.points, self.places = mesh, points, places
@@ -175,24 +246,30 @@ class _Adds:
     def make(self, piece: slice) -> int:
         """Makes a piece of the edits, as far as none is refused: the status of the library."""
         replies, status = self.handle.edit(ADD, self.places[piece])
-        again = np.flatnonzero(np.array(replies, '<U9') == 'duplicate')
-        for key in keys(self.places[piece][again]).tolist():
-            self.shared[key] = max(self.shared[key], 1) + 1
+        where, first = keys(self.places[piece][:len(replies)]).tolist(), len(self.mesh.points) + piece.start
+        if 'duplicate' in replies:
+            for k, reply in enumerate(replies):
+                if reply == 'duplicate':
+                    self.held.joins(where[k], first + k)
+                else:
+                    self.held.come(where[k:k + 1], (first + k,))
+        else:
+            self.held.come(where, range(first, first + len(where)))
         self.replies.extend(replies)
         return status
 
     def told(self, replies: Words) -> dict[str, Numbers]:
         """What the mesh has after edits with these replies."""
         mesh, count = self.mesh, len(replies)
-        return {'points': np.concatenate([mesh.points, self.points[:count]]),
-                '_places': np.concatenate([mesh._places, self.places[:count]]),
-                'living': np.concatenate([mesh.living, np.ones(count, bool)])}
+        return {'points': mesh._grown('points', self.points[:count]),
+                '_places': mesh._grown('_places', self.places[:count]),
+                'living': mesh._grown('living', np.ones(count, bool))}
 
 
 class _Takes:
     """Points that go."""
     handle: Edited
-    shared: Counter[int]
+    held: Held
 
     def __init__(self, mesh: Edits, indices: Ints) -> None:
         self.mesh, self.indices = mesh, indices
@@ -202,36 +279,43 @@ class _Takes:
     def make(self, piece: slice) -> int:
         """Makes a piece of the edits, as far as none is refused: the status of the library."""
         indices = self.indices[piece]
-        plain = self.living[indices].all() and len(np.unique(indices)) == len(indices)
-        if plain and not (self.shared and any(self.shared[key] > 1 for key in keys(self.at[indices]).tolist())):
-            replies, status = self.many(piece)
-            self.replies.extend(replies)
+        there = piece.start + np.flatnonzero(self.living[indices])  # those that went before never come again
+        alive, several = self.indices[there], self.held.several
+        plain = len(np.unique(alive)) == len(alive)
+        if plain and not (several and any(key in several for key in keys(self.at[alive]).tolist())):
+            told, status = self.many(there)
+            count = len(indices) if not status else int(there[len(told)]) - piece.start
+            replies = np.full(count, 'missing', '<U9')
+            replies[there[:len(told)] - piece.start] = told
+            self.replies.extend(replies.tolist())
             return status
         for k in range(piece.start, piece.stop):
             i = self.indices[k]
             key = int(keys(self.at[i:i + 1])[0])
             if not self.living[i]:
-                replies, status = ['missing'], 0
-            elif self.shared[key] > 1:
-                replies, status = self.one_of_several(k, key)
+                one, status = ['missing'], 0
+            elif key in several:
+                one, status = self.one_of_several(k, key)
             else:
-                replies, status = self.many(slice(k, k + 1))
-            self.replies.extend(replies)
+                one, status = self.many(np.array([k]))
+            self.replies.extend(one)
             if status:
                 return status
         return 0
 
-    def many(self, piece: slice) -> tuple[list[str], int]:
-        """Points that stand alone at their places, each of them once."""
-        indices = self.indices[piece]
+    def many(self, chosen: Ints) -> tuple[list[str], int]:
+        """Edits, by their numbers, of points that stand alone at their places, each of them once."""
+        indices = self.indices[chosen]
         replies, status = self.handle.edit(TAKE, self.at[indices])
-        self.living[indices[:len(replies)][np.array(replies, '<U9') == 'removed']] = False
+        gone = indices[:len(replies)][np.array(replies, '<U9') == 'removed']
+        self.living[gone] = False
+        self.held.go(keys(self.at[gone]).tolist())
         return replies, status
 
     def one_of_several(self, k: int, key: int) -> tuple[list[str], int]:
         """A point beside which others stand at its place."""
         self.living[self.indices[k]] = False
-        self.shared[key] -= 1
+        self.held.leaves(key, int(self.indices[k]))
         return ['removed'], 0
 
     def told(self, replies: Words) -> dict[str, Numbers]:
@@ -248,11 +332,15 @@ class _Moves(_Takes):
         super().__init__(mesh, indices)
         self.at, self.points, self.places = mesh._places.copy(), points, places
 
-    def many(self, piece: slice) -> tuple[list[str], int]:
-        """Points that stand alone at their places, each of them once."""
-        indices, places = self.indices[piece], self.places[piece]
+    def many(self, chosen: Ints) -> tuple[list[str], int]:
+        """Edits, by their numbers, of points that stand alone at their places, each of them once."""
+        indices, places = self.indices[chosen], self.places[chosen]
         replies, status = self.handle.edit(MOVE, self.at[indices], places)
         moved = np.flatnonzero(np.array(replies, '<U9') == 'moved')
+        from_, to = keys(self.at[indices[moved]]).tolist(), keys(places[moved]).tolist()
+        for old, new, index in zip(from_, to, indices[moved].tolist()):  # one may come to where another was
+            self.held.go((old,))
+            self.held.come((new,), (index,))
         self.at[indices[moved]] = places[moved]
         return replies, status
 
@@ -260,8 +348,10 @@ class _Moves(_Takes):
         """A point beside which others stand at its place: the mesh keeps that one, and the new one comes."""
         replies, status = self.handle.edit(ADD, self.places[k:k + 1])
         if replies == ['inserted']:
-            self.at[self.indices[k]] = self.places[k]
-            self.shared[key] -= 1
+            index = int(self.indices[k])
+            self.at[index] = self.places[k]
+            self.held.leaves(key, index)
+            self.held.come(keys(self.places[k:k + 1]).tolist(), (index,))
         return [{'inserted': 'moved', 'duplicate': 'occupied'}[reply] for reply in replies], status
 
     def told(self, replies: Words) -> dict[str, Numbers]:

@@ -2,17 +2,20 @@
 from __future__ import annotations
 
 import math
-from typing import NamedTuple
+from typing import Iterable, NamedTuple, Sequence, overload
 
 import numpy as np
 
+from ._adapters import has_scipy
 from ._edits import Edits
+from ._errors import GREATEST
 from ._grid import cubes_of, dot, keys
 from ._ground import Ground
 from ._interpolate import Interpolator, Linear, Natural
 from ._kept import kept
-from ._kinds import ArrayLike, Ints, Numbers, Rows
-from ._numbers import numbers_of
+from ._kinds import ArrayLike, Floats, Ints, Numbers, Rows
+from ._nearest import Tree, by_definition
+from ._numbers import floats_of, numbers_of, places_of, real, whole
 from ._progress import pieces
 
 _PIECE = 16384
@@ -42,9 +45,8 @@ class Looks(Edits):
     """What a mesh tells of places."""
 
     def _index_at(self, places: Ints) -> Rows:
-        """The index of the first point at each place of the grid, (k, 3); of a place that has none any."""
-        at = np.searchsorted(self._keys, keys(places))
-        found: Rows = self._given[np.minimum(at, len(self.grid) - 1)]
+        """The index of the first point at each place of the grid, (k, 3); of a place that has none -1."""
+        found: Rows = self._held.first(keys(places)).astype(self._kind)
         return found
 
     def locate(self, points: ArrayLike, progress: bool = True) -> Located:
@@ -57,7 +59,7 @@ class Looks(Edits):
             ValueError, OutOfRange: as of add.
         """
         _, places = self._to_places(points)
-        kinds, corners = np.zeros(len(places), np.int64), np.full((len(places), 4), -1, self._given.dtype)
+        kinds, corners = np.zeros(len(places), np.int64), np.full((len(places), 4), -1, self._kind)
         order = _in_order(places)
         for piece in pieces(len(places), _PIECE, 'place', progress):
             at = order[piece]
@@ -66,19 +68,112 @@ class Looks(Edits):
             corners[at] = np.where(np.arange(4) < _CORNERS[kinds[at], None], told, -1)
         return Located(kinds, corners)
 
-    def nearest(self, points: ArrayLike, progress: bool = True) -> Rows:
-        """(k,) the index of the point that is nearest to each place, on the grid: of those as near the first by x, then
-        y, then z. Proved, but for the indices; but where the library has no part of the mesh yet and the places are 64
-        at most, it is Python over the proved rows, by the definition, and tested.
+    @overload
+    def nearest(self, points: ArrayLike, k: None = None, distance_upper_bound: None = None,
+                progress: bool = True) -> Rows: ...
+
+    @overload
+    def nearest(self, points: ArrayLike, k: int | Sequence[int], distance_upper_bound: float | None = None,
+                progress: bool = True) -> tuple[Floats, Ints]: ...
+
+    @overload
+    def nearest(self, points: ArrayLike, k: None = None, *, distance_upper_bound: float,
+                progress: bool = True) -> tuple[Floats, Ints]: ...
+
+    def nearest(self, points: ArrayLike, k: int | Sequence[int] | None = None,
+                distance_upper_bound: float | None = None, progress: bool = True) -> Rows | tuple[Floats, Ints]:
+        """(q,) the index of the point that is nearest to each place. With `k` or `distance_upper_bound` the distances
+        and the indices, as `query` has them.
+
+        Of floats it is the nearest by the given coordinates: by scipy's cKDTree, which is made for the first of these
+        looks and kept, also through a few edits; where scipy is missing, on the grid. Of a mesh of whole numbers it is
+        proved, but for the indices: of those as near the first by x, then y, then z; but where the library has no part
+        of the mesh yet and the places are 64 at most, it is Python over the proved rows, and tested; so are places
+        outside of the grid.
 
         Args:
-            points: (k, 3), or (3,) for one; whole numbers or floats, as the mesh was made of, in their unit.
+            points: (q, 3), or (3,) for one, anywhere, in the unit of the points.
+            k, distance_upper_bound: as of query.
             progress: as of add.
         Raises:
-            ValueError, OutOfRange: as of add.
+            ValueError: as of add, or of query.
+
+        >>> import hanskup
+        >>> mesh = hanskup.delaunay([[0., 0., 0.], [1, 0, 0], [0, 1, 0], [0, 0, 1]])
+        >>> mesh.nearest([[.9, .2, 0], [-3, 0, 2]])
+        array([1, 3], dtype=int32)
+        >>> mesh.nearest([.9, 0, 0], k=2)
+        (array([0.1, 0.9]), array([1, 0]))
         """
-        _, places = self._to_places(points)
-        near = np.empty(len(places), self._given.dtype)
+        if k is not None or distance_upper_bound is not None:
+            bound = np.inf if distance_upper_bound is None else distance_upper_bound
+            return self.query(points, 1 if k is None else k, bound, progress)
+        array = self._checked(points)
+        if self.placing is None:
+            within = ((array >= 0) & (array <= GREATEST)).all(axis=1)
+            if not within.all():
+                near = np.empty(len(array), self._kind)
+                near[within] = self._nearest_on_grid(array[within].astype(np.int64), progress)
+                near[~within] = by_definition(self, array[~within].astype(float))
+                return near
+            return self._nearest_on_grid(array.astype(np.int64), progress)
+        places = array.astype(float)
+        tree = self._tree_of(len(places))
+        if tree is not None:
+            return tree.query(places, 1, np.inf, progress)[1][:, 0].astype(self._kind)
+        if len(places) <= _FEW:
+            return by_definition(self, places).astype(self._kind)
+        steps = np.clip(np.rint(self.placing.on_grid(places)), 0, GREATEST).astype(np.int64)
+        return self._nearest_on_grid(steps, progress)
+
+    def query(self, x: ArrayLike, k: int | Sequence[int] = 1, distance_upper_bound: float = math.inf,
+              progress: bool = True) -> tuple[Floats, Ints]:
+        """The distances of the nearest points and their indices, as scipy's cKDTree.query of the points that are there.
+        It needs scipy, by which it is made.
+
+        Args:
+            x: (..., 3) places, anywhere, in the unit of the points.
+            k: how many, or which ones, from 1; of 1 the answers have no axis for it.
+            distance_upper_bound: just those that are nearer than this, which makes it quicker.
+            progress: as of add.
+        Returns:
+            (...) or (..., k) floats and int64: where there are fewer points infinity, and `npoints`.
+        Raises:
+            ValueError: the shape is another, a place is not finite, or k is no number from 1 on.
+
+        >>> import hanskup
+        >>> mesh = hanskup.delaunay([[0., 0., 0.], [1, 0, 0], [0, 1, 0], [0, 0, 1]])
+        >>> mesh.query([[.9, 0, 0]], k=2, distance_upper_bound=.5)
+        (array([[0.1, inf]]), array([[1, 4]]))
+        """
+        places = places_of(x)
+        if not np.isfinite(places).all():
+            raise ValueError('a place is not finite')
+        ranks = np.array([whole(one, 'k') for one in k]) if isinstance(k, Iterable) else np.arange(1, whole(k, 'k') + 1)
+        if not len(ranks) or ranks.min() < 1:
+            raise ValueError('k counts from 1')
+        most = int(ranks.max())
+        tree = self._tree_of(None)
+        assert tree
+        far, near = tree.query(floats_of(places), most, real(distance_upper_bound, 'a bound'), progress)
+        shape = places.shape[:-1] + ((len(ranks),) if np.ndim(k) or most > 1 else ())
+        return far[:, ranks - 1].reshape(shape), near[:, ranks - 1].reshape(shape)
+
+    def _tree_of(self, count: int | None) -> Tree | None:
+        """The tree of the points as they are; None where so few places are looked for, or there is no scipy. Raises
+        ImportError where it is wanted all the same."""
+        tree: Tree | None = self.__dict__.get('_tree')
+        if tree is not None and tree.is_of(self):
+            return tree
+        self._asked = self.__dict__.get('_asked', 0) + (count or _FEW + 1)
+        if count is not None and (self._asked <= _FEW or not has_scipy()):
+            return None
+        self._asked = 0
+        made = self.__dict__['_tree'] = Tree(self)
+        return made
+
+    def _nearest_on_grid(self, places: Ints, progress: bool) -> Rows:
+        near = np.empty(len(places), self._kind)
         look = self._nearest_of_all if self._edited is None and len(places) <= _FEW else self._nearest_by_walks
         order = _in_order(places)
         for piece in pieces(len(places), _PIECE, 'place', progress):

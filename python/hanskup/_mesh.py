@@ -48,7 +48,7 @@ class Mesh(Looks, Lifts):
                  faces: bool = False) -> None:
         self.points, self.placing, self._places = sealed(points), placing, sealed(places)
         self.living = sealed(np.ones(len(points), bool))
-        self._edited = self._shared = None
+        self._edited = self._known = None
         with waiting('delaunay', progress):
             if faces:
                 self.__dict__['_rows'], self.__dict__['_faces'] = filtered_rows(places)
@@ -63,7 +63,7 @@ class Mesh(Looks, Lifts):
         # A copy and a pickle have no part of the library's mesh: that is made anew when it is wanted.
         names = ('points', 'living', 'placing', '_places', '_rows', '_inverse', '_given')
         state = {name: getattr(self, name) for name in names}
-        return {**state, '_edited': None, '_shared': None}
+        return {**state, '_edited': None, '_known': None}
 
     def __setstate__(self, state: dict[str, Any]) -> None:
         self.__dict__.update({name: sealed(value) for name, value in state.items()})
@@ -74,7 +74,7 @@ class Mesh(Looks, Lifts):
 
     def counts(self) -> tuple[int, int, int]:
         """How many points of the grid, simplices and triangles of the hull there are."""
-        return len(self.grid), len(self._rows.cells), len(self._rows.hull)
+        return self._counts
 
     def volume(self) -> float:
         """The volume of the convex hull, in the cube of the unit of the points, of the places on the grid; exact up to
