@@ -1,5 +1,5 @@
-"""Who does tasks: processes of this machine, or the workers of dask.distributed. A task is a function of a module and
-what it is called with; it can be done again, so that one whose worker is lost is done by another."""
+"""Who does tasks: processes or threads of this machine, or the workers of dask.distributed. A task is a function of a
+module and what it is called with; it can be done again, so that one whose worker is lost is done by another."""
 from __future__ import annotations
 
 import contextlib
@@ -11,8 +11,11 @@ import weakref
 from concurrent.futures import ThreadPoolExecutor, as_completed
 from typing import Any, Callable, Iterator, Protocol, Sequence
 
+import numpy as np
+
 from ._adapters import module
 from ._errors import HanskupError
+from ._numbers import whole
 
 TRIES = 4  #: so often a task is begun whose worker is lost each time
 
@@ -85,6 +88,23 @@ class Processes:
         return _Process()
 
 
+class Threads:
+    """Threads of this process, so many side by side. Nothing is begun and nothing is sent: the library and most of numpy
+    let go of the interpreter's lock while they work. A task that a signal ends takes the whole program with it."""
+
+    def __init__(self, workers: int | None = None) -> None:
+        self.workers = workers or os.cpu_count() or 1
+
+    def each(self, task: Task, asked: Asked) -> Iterator[Any]:
+        """The answers of a task to each that is asked, as they come. Raises what a task raised."""
+        pool = ThreadPoolExecutor(self.workers)
+        try:
+            for future in as_completed([pool.submit(task, *words) for words in asked]):
+                yield future.result()
+        finally:
+            pool.shutdown(cancel_futures=True)
+
+
 class Dask:
     """The workers of a dask.distributed.Client. They must find this package, and the folder of the tiles by its path.
 
@@ -103,8 +123,8 @@ class Dask:
 
 def engine_of(given: Any) -> Engine:
     """The engine that is meant: an engine, a number of processes or None for one a processor, or a client of dask."""
-    if given is None or isinstance(given, int):
-        return Processes(given)
+    if given is None or isinstance(given, (int, np.integer)):
+        return Processes(None if given is None else whole(given, 'the number of workers'))
     made: Engine = given if hasattr(given, 'each') else Dask(given)
     return made
 

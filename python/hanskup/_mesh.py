@@ -2,6 +2,7 @@
 from __future__ import annotations
 
 import math
+import os
 import warnings
 from typing import Any
 
@@ -21,6 +22,7 @@ from ._progress import waiting
 from ._rounding import warnings_of, why_flat
 from ._shape import Shape, SolidParts, area_of
 from ._voronoi import Voronoi
+from ._woven import rows_by_threads
 
 
 class RoundingWarning(UserWarning):
@@ -45,7 +47,7 @@ class Mesh(Looks, Lifts):
     """
 
     def __init__(self, points: Numbers, places: Ints, placing: Placing | None, progress: bool = True,
-                 faces: bool = False) -> None:
+                 faces: bool = False, workers: int = 1) -> None:
         self.points, self.placing, self._places = sealed(points), placing, sealed(places)
         self.living = sealed(np.ones(len(points), bool))
         self._edited = self._known = None
@@ -53,7 +55,7 @@ class Mesh(Looks, Lifts):
             if faces:
                 self.__dict__['_rows'], self.__dict__['_faces'] = filtered_rows(places)
             else:
-                self.__dict__['_rows'] = mesh_rows(places)
+                self.__dict__['_rows'] = rows_by_threads(places, workers, progress) if workers > 1 else mesh_rows(places)
 
     def __repr__(self) -> str:
         unit = f', unit {self.placing.unit:.3g}' if self.placing else ''
@@ -168,7 +170,7 @@ def _warn(mesh: Mesh) -> None:
         warnings.warn(words, RoundingWarning, stacklevel=3)
 
 
-def _of_whole(array: Numbers, given: dict[str, Any], progress: bool, faces: bool) -> Mesh:
+def _of_whole(array: Numbers, given: dict[str, Any], *words: Any) -> Mesh:
     # Of whole numbers, which are places of the grid.
     told = [name for name, value in given.items() if value is not None and not (name == 'margin' and value == 0)]
     if told:
@@ -178,7 +180,7 @@ def _of_whole(array: Numbers, given: dict[str, Any], progress: bool, faces: bool
     places = array.astype(np.int64)
     if len(places) < 4:
         raise Flat(f'fewer than four points: {len(places)}')
-    return Mesh(places, places, None, progress, faces)
+    return Mesh(places, places, None, *words)
 
 
 def _placing_of(array: Numbers, given: dict[str, Any]) -> Placing:
@@ -196,7 +198,8 @@ def _placing_of(array: Numbers, given: dict[str, Any]) -> Placing:
 
 
 def delaunay(points: ArrayLike, unit: float | None = None, progress: bool = True, faces: bool = False,
-             box: ArrayLike | None = None, margin: float = 0.0, placing: Placing | None = None) -> Mesh:
+             box: ArrayLike | None = None, margin: float = 0.0, placing: Placing | None = None,
+             workers: int | None = 1) -> Mesh:
     """The Delaunay triangulation of points.
 
     Args:
@@ -212,6 +215,9 @@ def delaunay(points: ArrayLike, unit: float | None = None, progress: bool = True
         margin: so much room around the points, or the box, as a part of its greatest extent: 0.1 is a tenth on each
             side.
         placing: how they are placed, as of another mesh; in place of unit, box and margin.
+        workers: so many threads make the mesh, in as many tiles, where there are 20,000 points or more; None is one a
+            processor. The mesh is the same. Its `neighbors` are made when they are asked for, and so are its faces, by
+            one thread. The library's own threads are those of the command `delaunay --workers`.
 
     Raises:
         ValueError: the shape is not (n, 3), a coordinate is not finite, not real or masked, or a unit, a box, a margin
@@ -228,9 +234,12 @@ def delaunay(points: ArrayLike, unit: float | None = None, progress: bool = True
     array = numbers_of(points)
     if array.ndim != 2 or array.shape[1] != 3:
         raise ValueError(f'points are an array of shape (n, 3): this is for points in space, and not for {array.shape}')
+    threads = (os.cpu_count() or 1) if workers is None else whole(workers, 'the number of workers')
+    if threads < 1:
+        raise ValueError('there is one worker at least')
     given = {'unit': unit, 'box': box, 'margin': margin, 'placing': placing}
     if array.dtype.kind != 'f':
-        return _of_whole(array, given, progress, faces)
+        return _of_whole(array, given, progress, faces, threads)
     if not len(array):
         raise Flat('fewer than four points: there are none')
     bad = np.flatnonzero(~np.isfinite(array).all(axis=1))
@@ -240,7 +249,7 @@ def delaunay(points: ArrayLike, unit: float | None = None, progress: bool = True
     array = array.astype(float)
     places = where.to_grid(array)
     try:
-        mesh = Mesh(array, places, where, progress, faces)
+        mesh = Mesh(array, places, where, progress, faces, threads)
     except Flat:
         raise Flat(why_flat(array, where, places)) from None
     _warn(mesh)
