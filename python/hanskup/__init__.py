@@ -21,6 +21,7 @@ are placed on that grid, and what this package computes from the answer (turns o
 regions, interpolation), is Python over the proved rows: it is tested, and not proved. The docstrings tell which.
 """
 from ._errors import Flat, Full, HanskupError, OutOfRange, WantOfMemory
+from ._files import read_points
 from ._grid import Placing
 from ._interpolate import Interpolator
 from ._kinds import BEYOND_HULL, CELL, INTERIOR, POINT, REGULAR, SINGULAR
@@ -31,6 +32,6 @@ from ._shape import Filtration, Shape, SolidParts, Voids
 from ._version import __version__ as __version__
 from ._voronoi import Voronoi
 
-__all__ = ['delaunay', 'alpha_shape', 'Mesh', 'Shape', 'SolidParts', 'Voids', 'Filtration', 'Located', 'Voronoi',
+__all__ = ['delaunay', 'alpha_shape', 'read_points', 'Mesh', 'Shape', 'SolidParts', 'Voids', 'Filtration', 'Located', 'Voronoi',
            'Interpolator', 'Placing', 'Rounding', 'RoundingWarning', 'HanskupError', 'Flat', 'Full', 'OutOfRange', 'WantOfMemory',
            'SINGULAR', 'REGULAR', 'INTERIOR', 'POINT', 'CELL', 'BEYOND_HULL']

@@ -1,12 +1,13 @@
 """The Delaunay triangulation of a cloud in tiles: each by a process of its own, on one machine or on many.
 
     from hanskup import tiles
-    made = tiles.delaunay(points, folder, count=8)                    # by processes of this machine
+    made = tiles.delaunay(points, folder, count=8, workers=4)         # by processes of this machine
+    made = tiles.delaunay(points, folder, count=4, engine=tiles.Threads(4))   # by threads: delaunay(workers=4) in files
     made = tiles.delaunay(points, folder, count=512, engine=client)   # of a dask.distributed.Client
     for cells in made.parts(): ...                                    # (c, 4), by indices of points
     made.simplices(), made.convex_hull(), made.to_parquet(folder)
 
-    python3 -m hanskup.tiles scan.npy OUT --count 8 --workers 4       # --scheduler ADDRESS: dask's; --parquet
+    python3 -m hanskup.tiles scan.las OUT --count 8 --workers 4       # --threads; --scheduler ADDRESS: dask's; --parquet
 
 The cells are those of `hanskup.delaunay(points)`, each once, in files. A tile is a box of the grid with its points; it
 sees the points of a halo around it too. Its own complex, by the proved library, has cells whose circumscribing spheres
@@ -29,12 +30,15 @@ import numpy as np
 from . import _left, _tile
 from ._adapters import module
 from ._cuts import Plan, cut
-from ._errors import Flat
-from ._engines import Dask, Engine, LostWorkers, Processes, engine_of
+from ._engines import Dask, Engine, LostWorkers, Processes, Threads, engine_of
+from ._errors import Flat, HanskupError
+from ._files import read_points
 from ._kinds import ArrayLike, Rows
+from ._numbers import whole
 from ._progress import counting
 
-__all__ = ['delaunay', 'cut', 'finish', 'Tiles', 'Counts', 'Plan', 'Engine', 'Processes', 'Dask', 'LostWorkers']
+__all__ = ['delaunay', 'cut', 'finish', 'Tiles', 'Counts', 'Plan', 'Engine', 'Processes', 'Threads', 'Dask',
+           'LostWorkers']
 
 
 class Counts(NamedTuple):
@@ -95,13 +99,24 @@ class Tiles:
         return written
 
 
-def finish(folder: str, engine: Engine | int | Any = None, progress: bool = True) -> Tiles:
+def _doers(engine: Any, workers: int | None) -> Engine:
+    if workers is not None:
+        if engine is not None:
+            raise ValueError('workers are processes of this machine: they come without an engine')
+        workers = whole(workers, 'the number of workers')
+        if workers < 1:
+            raise ValueError('there is one worker at least')
+    return engine_of(engine if workers is None else workers)
+
+
+def finish(folder: str, engine: Engine | int | Any = None, progress: bool = True, workers: int | None = None) -> Tiles:
     """Does what is not done of a cloud that was cut into a folder: the tiles without files, and then the last step.
 
     Args:
         folder: where `cut` put the points; each worker finds it by this path.
-        engine: a number of processes, or None for one a processor; a dask.distributed.Client; or whatever has `each`.
-        progress: with a bar, where tqdm is installed and a terminal is there.
+        engine: tiles.Threads(4), a dask.distributed.Client, or whatever has `each`; None for processes.
+        progress: with a bar, where a terminal is there.
+        workers: how many processes, in place of an engine; None for one a processor.
 
     Raises:
         FileNotFoundError: no cloud was cut into the folder.
@@ -109,7 +124,7 @@ def finish(folder: str, engine: Engine | int | Any = None, progress: bool = True
         Flat, WantOfMemory, Full: as hanskup.delaunay, of the whole or of a tile.
     """
     folder = os.path.abspath(folder)
-    plan, doers = Plan.load(folder), engine_of(engine)
+    plan, doers = Plan.load(folder), _doers(engine, workers)
     asked = [(folder, tile) for tile in range(len(plan.boxes)) if not _is_done(folder, tile)]
     for _ in counting(doers.each(_tile.find, asked), len(asked), 'tiles', progress):
         pass
@@ -129,42 +144,73 @@ def _is_done(folder: str, tile: int) -> bool:
 
 
 def delaunay(points: ArrayLike, folder: str, count: int = 8, halo: float = 1.0, unit: float | None = None,
-             engine: Engine | int | Any = None, progress: bool = True) -> Tiles:
-    """The Delaunay triangulation of a cloud in tiles: `cut`, then `finish`. Its arguments and errors are theirs."""
-    doers = engine_of(engine)
+             engine: Engine | int | Any = None, progress: bool = True, workers: int | None = None) -> Tiles:
+    """The Delaunay triangulation of a cloud in tiles: `cut`, then `finish`. Its arguments and errors are theirs.
+
+    >>> import tempfile, hanskup
+    >>> points = np.random.default_rng(1).random((500, 3))
+    >>> with tempfile.TemporaryDirectory() as folder:
+    ...     made = delaunay(points, folder, count=2, engine=Threads(2))
+    ...     len(made.simplices()) == len(hanskup.delaunay(points).simplices)
+    True
+    """
+    doers = _doers(engine, workers)
     if isinstance(doers, Processes):
         doers.begin(count)  # so that they are ready once the points are cut
     cut(points, folder, count, halo, unit)
     return finish(folder, doers, progress)
 
 
+_LEGEND = """\
+points   that were given
+seen     by all tiles, with those of their halos: one in several tiles counts for each
+left     to the last step, as tiles alone do not tell their cells
+cells    of the whole, in the files *.cells.npy
+missing  of these, which the last step found
+hull     triangles of the hull, in left.hull.npy"""
+
+
 def main(words: list[str] | None = None) -> None:
     """The command: cuts the points of a file into a folder, does all tiles, and tells what came of it."""
     parser = argparse.ArgumentParser(prog='python3 -m hanskup.tiles', description='The Delaunay cells of a cloud in '
-                                     'tiles, as files of numpy or Parquet in a folder.')
-    parser.add_argument('points', help='a file of numpy.save, (n, 3); - to go on with what was cut into the folder')
-    parser.add_argument('folder', help='for the files of the run and the cells')
+                                     'tiles, as files of numpy or Parquet in a folder.', epilog='The last line has:\n'
+                                     + _LEGEND, formatter_class=argparse.RawDescriptionHelpFormatter)
+    parser.add_argument('points', help='.npy, .xyz, .csv, .las, .ply, or what meshio reads; - to go on with what was cut '
+                        'into the folder')
+    parser.add_argument('folder', help='for the files of the run and the cells: new, empty, or of an earlier run')
     parser.add_argument('--count', type=int, default=8, help='how many tiles (8)')
     parser.add_argument('--halo', type=float, default=1.0, help='how far each sees beyond its box, in spacings (1)')
     parser.add_argument('--unit', type=float, help='a step of the grid, for floats; else the least that fits')
     parser.add_argument('--workers', type=int, help='processes side by side; else one a processor')
+    parser.add_argument('--threads', type=int, help='threads of this process in place of processes')
     parser.add_argument('--scheduler', help="the address of dask's scheduler, whose workers do the tiles")
     parser.add_argument('--parquet', action='store_true', help='write the cells as Parquet too (pyarrow)')
     given = parser.parse_args(words)
-    engine: Any = given.workers
+    try:
+        made = _made(given)
+    except (OSError, ValueError, HanskupError, ImportError) as refused:
+        sys.exit(f'hanskup.tiles: {refused}')
+    counts: Any = made.counts
+    print(_LEGEND, file=sys.stderr)
+    print(f'points {made.plan.points} seen {counts.seen} left {counts.left} cells {counts.found + counts.missing} '
+          f'missing {counts.missing} hull {counts.hull}')
+
+
+def _made(given: argparse.Namespace) -> Tiles:
+    # What the command is asked for.
+    engine: Any = Threads(given.threads) if given.threads else None
     if given.scheduler:
         engine = module('distributed').Client(given.scheduler)
         print(f'progress: {engine.dashboard_link}', file=sys.stderr)
+    workers = None if engine else given.workers
     if given.points == '-':
-        made = finish(given.folder, engine)
+        made = finish(given.folder, engine, workers=workers)
     else:
-        points = np.load(given.points, mmap_mode='r')
-        made = delaunay(points, given.folder, given.count, given.halo, given.unit, engine)
+        points = read_points(given.points)
+        made = delaunay(points, given.folder, given.count, given.halo, given.unit, engine, workers=workers)
     if given.parquet:
         made.to_parquet(given.folder)
-    counts: Any = made.counts
-    print(f'points {made.plan.points} seen {counts.seen} left {counts.left} cells {counts.found + counts.missing} '
-          f'missing {counts.missing} hull {counts.hull}')
+    return made
 
 
 if __name__ == '__main__':

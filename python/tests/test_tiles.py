@@ -234,6 +234,21 @@ class Whole(Tiled):
         with self.assertRaises(tiles.LostWorkers):
             list(tiles.Processes(1).each(os._exit, [(1,)]))
 
+    def test_threads(self):
+        points = drawn(5000, seed=10)
+        made = self.run_of(points, count=4, engine=tiles.Threads(3))
+        self.assertEqual(len(made.plan.boxes), 4)
+        with self.assertRaises(ValueError):
+            list(tiles.Threads(2).each(int, [('1',), ('x',)]))
+
+    def test_workers(self):
+        points = drawn(600, seed=11)
+        made = tiles.delaunay(points, self.folder, 2, workers=2, progress=False)
+        self.judge(points, made)
+        self.assertEqual(tiles.finish(self.folder, workers=np.int64(1)).counts, made.counts)
+        for words in ({'workers': 0}, {'workers': 1.5}, {'workers': 2, 'engine': Here()}):
+            self.assertRaises(ValueError, tiles.finish, self.folder, **words)
+
     def test_processes_that_wait_are_killed(self):
         others, engine = set(Lost.children(self)), tiles.Processes(2)
         engine.begin(2)
@@ -272,14 +287,102 @@ class Whole(Tiled):
         self.assertEqual(len(kept), 3)
 
     def test_command(self):
-        path, said = self.folder + '.npy', io.StringIO()
+        path, said, legend = self.folder + '.npy', io.StringIO(), io.StringIO()
         np.save(path, drawn(400, seed=3))
-        with contextlib.redirect_stdout(said):
+        with contextlib.redirect_stdout(said), contextlib.redirect_stderr(legend):
             tiles.main([path, self.folder, '--count', '3', '--workers', '2'])
-            tiles.main(['-', self.folder])
+            tiles.main(['-', self.folder, '--threads', '1'])
         first, second = said.getvalue().splitlines()
         self.assertEqual(first, second)
         self.assertRegex(first, f'^points 400 seen .* cells {len(hanskup.delaunay(np.load(path)).simplices)} ')
+        self.assertEqual([line.split()[0] for line in legend.getvalue().splitlines()], first.split()[::2] * 2)
+
+    def test_command_that_is_refused(self):
+        path = self.folder + '.xyz'
+        for text, words in ((None, 'no such file'), ('nothing\n', 'no line with three numbers'),
+                            ('1 2 3\n4 5 6\n', 'lie in one plane, or fewer than four')):
+            if text is not None:
+                pathlib.Path(path).write_text(text, encoding='utf8')
+            with self.assertRaisesRegex(SystemExit, words):
+                tiles.main([path, self.folder, '--threads', '1'])
+
+    def test_files(self):
+        points = np.random.default_rng(4).uniform(-5, 5, (300, 3)).round(3)
+        rows = [' '.join(map(str, point)) for point in points.tolist()]
+        texts = {'plain.xyz': rows, 'header.csv': ['x,y,z,i', *(row.replace(' ', ',') + ',7' for row in rows)],
+                 'atoms.xyz': ['300', 'a shell', *('C ' + row for row in rows)], 'semicolon.txt': [
+                     row.replace(' ', ';') for row in rows], 'a.ply': [
+                     'ply', 'format ascii 1.0', 'element vertex 300', 'property double x', 'property double y',
+                     'property double z', 'property uchar red', 'element face 0', 'property list uchar int n',
+                     'end_header', *(row + ' 9' for row in rows)]}
+        os.mkdir(self.folder)
+        for name, lines in texts.items():
+            pathlib.Path(self.folder, name).write_text('\n'.join(lines) + '\n', encoding='utf8')
+        head = 'ply\nformat binary_big_endian 1.0\nelement vertex 300\nproperty float i\nproperty double x\n' \
+            'property double y\nproperty double z\nend_header\n'
+        packed = np.zeros(300, np.dtype([('i', '>f4'), ('p', '>f8', 3)]))
+        packed['p'] = points
+        pathlib.Path(self.folder, 'b.ply').write_bytes(head.encode() + packed.tobytes())
+        header = bytearray(227)
+        header[:4], header[24:26], header[96:100] = b'LASF', b'\1\2', (227).to_bytes(4, 'little')
+        header[104:111] = bytes([0]) + (20).to_bytes(2, 'little') + (300).to_bytes(4, 'little')
+        header[131:179] = np.array([0.001] * 3 + [-5.0] * 3).tobytes()
+        records = np.zeros(300, np.dtype([('p', '<i4', 3), ('rest', 'V8')]))
+        records['p'] = np.rint((points + 5) * 1000)
+        pathlib.Path(self.folder, 'c.las').write_bytes(bytes(header) + records.tobytes())
+        np.save(os.path.join(self.folder, 'd.npy'), points)
+        names = sorted(os.listdir(self.folder))
+        self.assertEqual(len(names), 8)
+        for name in names:
+            np.testing.assert_allclose(hanskup.read_points(os.path.join(self.folder, name)), points, atol=1e-12)
+        for name, kept in (('c.las', 500), ('b.ply', 300)):
+            path = pathlib.Path(self.folder, name)
+            path.write_bytes(path.read_bytes()[:kept])
+            self.assertRaisesRegex(ValueError, 'ends before', hanskup.read_points, path)
+        self.assertRaises(FileNotFoundError, hanskup.read_points, 'nowhere.xyz')
+
+
+class ByThreads(unittest.TestCase):
+    """hanskup.delaunay(workers=N): the same mesh."""
+
+    def same(self, points, workers, **words):
+        from hanskup import _woven
+        with mock.patch.object(_woven, 'FEW', 4):
+            mesh, other = hanskup.delaunay(points, workers=workers, **words), hanskup.delaunay(points, **words)
+        for name in ('grid', 'cells', 'hull', 'simplices', 'convex_hull', 'across', 'neighbors', 'coplanar'):
+            np.testing.assert_array_equal(getattr(mesh, name), getattr(other, name), name)
+        for ours, theirs in zip(mesh.vertex_neighbor_vertices, other.vertex_neighbor_vertices):
+            np.testing.assert_array_equal(ours, theirs)
+        return mesh
+
+    def test_clouds(self):
+        for points in (drawn(3000, seed=1), torus(2000, 2), terrain(2000, 3), lattice(10, 1500), clusters(2000, 4)):
+            for workers in (2, 4):
+                self.same(points, workers)
+        self.same(np.concatenate([drawn(500, seed=5)] * 2), 3)
+
+    def test_floats_edits_and_copies(self):
+        import pickle
+        mesh = self.same(np.random.default_rng(6).random((1500, 3)), 4, margin=0.1)
+        again = pickle.loads(pickle.dumps(mesh))
+        np.testing.assert_array_equal(again.neighbors, mesh.neighbors)
+        mesh.add(mesh.points[:5] + 1e-3)
+        mesh.take([7, 8])
+        np.testing.assert_array_equal(mesh.cells, hanskup.delaunay(mesh.points[mesh.living], placing=mesh.placing).cells)
+        self.assertGreater(len(mesh.alpha(0.1).tetrahedra), 0)
+
+    def test_many(self):
+        points = np.random.default_rng(7).random((25_000, 3))
+        mesh, other = hanskup.delaunay(points, workers=2), hanskup.delaunay(points)
+        np.testing.assert_array_equal(mesh.simplices, other.simplices)
+        np.testing.assert_array_equal(mesh.neighbors, other.neighbors)
+
+    def test_refusals(self):
+        from hanskup import _woven
+        for workers in (0, -1, 1.5, 'a'):
+            self.assertRaises(ValueError, hanskup.delaunay, drawn(50), workers=workers)
+        with mock.patch.object(_woven, 'FEW', 4), self.assertRaises(hanskup.Flat):
+            hanskup.delaunay(drawn(50) * [1, 1, 0], workers=2)
 
 
 class Lost(Tiled):
