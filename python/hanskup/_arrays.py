@@ -274,14 +274,14 @@ class Arrays:
         return np.column_stack([normals, -dot(normals, a)])
 
     @kept
-    def coplanar(self) -> Ints:
-        """(k, 3) the points that fell together with an earlier one: its index, a simplex that has the other, the other.
+    def coplanar(self) -> Rows:
+        """(k, 3) int32, the points that fell together with an earlier one: its index, a simplex that has the other, the other.
 
         No other points are left out, as scipy may leave out nearly coplanar ones.
         """
         stands = self._given[self._inverse]
         others = np.flatnonzero(self.living & (stands != np.arange(len(stands))))
-        return np.column_stack([others, self._some[self._inverse[others]], stands[others]])
+        return np.column_stack([others, self._some[self._inverse[others]], stands[others]]).astype(self._kind)
 
     @kept
     def _some(self) -> Ints:

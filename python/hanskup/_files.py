@@ -101,7 +101,8 @@ def _of_las(data: bytes, name: str) -> Floats:
         raise ValueError(f'{name}: {count} points of {wide} bytes were announced, and the file ends before')
     rows = np.frombuffer(data, np.dtype(('V', wide)), count, first)
     scales, offsets = np.frombuffer(data, '<f8', 6, 131).reshape(2, 3)
-    return np.ndarray((count, 3), '<i4', rows, strides=(wide, 4)) * scales + offsets
+    made: Floats = np.ndarray((count, 3), '<i4', rows, strides=(wide, 4)) * scales + offsets
+    return made
 
 
 def _of_ply(data: bytes, name: str) -> Floats:

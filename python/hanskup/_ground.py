@@ -50,11 +50,12 @@ class Ground:
             steps[snapped] = near[snapped]
         return steps, number
 
-    def find(self, places: Numbers, progress: bool = True) -> tuple[Ints, Floats, Ints]:
+    def find(self, places: Numbers, progress: bool = True, tolerance: float = 0.0) -> tuple[Ints, Floats, Ints]:
         """(k,) the simplex of each place, -1 outside; where it is taken to be, in steps; and the number of the point at
         which it is taken to be, or -1."""
         steps, number = self.steps_of(places)
-        at, there = self.walk.find(steps, self.reach, progress)
+        reach = min(max(self.reach, tolerance / (self.placing.unit if self.placing else 1.0)), 1e9)
+        at, there = self.walk.find(steps, reach, progress)
         return at, there, number
 
     def several(self, number: Ints) -> Ints:

@@ -2,7 +2,7 @@
 from __future__ import annotations
 
 import math
-from typing import Iterable, NamedTuple, Sequence, overload
+from typing import Any, Iterable, NamedTuple, Sequence, overload
 
 import numpy as np
 
@@ -194,20 +194,36 @@ class Looks(Edits):
         here = self.living
         return Ground(self._walk, self.placing, self._shift, self._inverse[here], self.points[here])
 
-    def find_simplex(self, points: ArrayLike, progress: bool = True) -> Ints:
-        """(k,) the simplex that has each place, -1 outside of the hull, as scipy's find_simplex. Where several have it,
-        in a shared side, one of them. Of places of the grid it is exact. A place that the grid cannot tell from a point
-        is taken as there, and one that lies less than a step of the grid beyond the hull as on it, as by `interpolate`.
+    def find_simplex(self, xi: ArrayLike, bruteforce: bool = False, tol: float | None = None,
+                     progress: bool = True) -> Any:
+        """(...) the simplex that has each place, -1 outside of the hull and where a coordinate is no number, as scipy's
+        find_simplex. Where several have it, in a shared side, one of them. Of places of the grid it is exact. A place
+        that the grid cannot tell from a point is taken as there, and one that lies less than a step of the grid beyond
+        the hull as on it, as by `interpolate`.
 
         It is Python over the proved rows, and tested beside scipy.
 
         Args:
-            points: (k, 3), or (3,) for one; whole numbers or floats, as the mesh was made of. They may lie anywhere.
+            xi: (..., 3) places, in the unit of the points, anywhere; of (3,) the answer is one number of numpy.
+            bruteforce: as scipy has it; the answer is the same.
+            tol: places that lie less than this beyond the hull, in the unit of the points, are taken as on it too.
             progress: as of add.
         Raises:
-            ValueError: as of add.
+            ValueError: the shape is another, they are not real numbers, or the tolerance is negative.
+
+        >>> import hanskup
+        >>> mesh = hanskup.delaunay([[0., 0., 0.], [1, 0, 0], [0, 1, 0], [0, 0, 1]])
+        >>> mesh.find_simplex([[.1, .1, .1], [1, 1, 1], [np.nan, 0, 0]])
+        array([ 0, -1, -1])
+        >>> mesh.find_simplex([.1, .1, .1]).shape, mesh.find_simplex([-.1, .2, .2], tol=.2)
+        ((), 0)
         """
-        return self._ground.find(self._checked(points).astype(float), progress)[0]
+        places = places_of(xi)
+        reach = 0.0 if tol is None else real(tol, 'a tolerance')
+        if not reach >= 0:
+            raise ValueError('a tolerance is 0 or more')
+        found = self._ground.find(floats_of(places), progress, reach)[0].reshape(places.shape[:-1])
+        return found if found.ndim else found[()]
 
     def interpolate(self, values: ArrayLike, method: str = 'linear', fill_value: complex = math.nan) -> Interpolator:
         """What interpolates values of the points, as scipy's LinearNDInterpolator: call it with places.

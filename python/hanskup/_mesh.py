@@ -256,6 +256,66 @@ def delaunay(points: ArrayLike, unit: float | None = None, progress: bool = True
     return mesh
 
 
+class Delaunay(Mesh):
+    """scipy.spatial.Delaunay's call, so that code can be swapped: `from hanskup import Delaunay`. It is a Mesh, and has
+    all that one has.
+
+    >>> points = np.array([[0., 0., 0.], [1, 0, 0], [0, 1, 0], [0, 0, 1]])
+    >>> tri = Delaunay(points, incremental=True)
+    >>> tri.add_points([[2., 2., 2.]])
+    >>> tri.nsimplex, tri.npoints, tri.find_simplex([.1, .1, .1]) >= 0
+    (2, 5, True)
+    """
+
+    def __init__(self, points: ArrayLike, furthest_site: bool = False, incremental: bool = False,
+                 qhull_options: str | None = None) -> None:
+        """The mesh of points, (n, 3), as of `delaunay`, with its errors and warnings.
+
+        Args:
+            points: as of delaunay.
+            furthest_site: that of the furthest points is not here: ValueError.
+            incremental: whether points are added later on; it makes no difference.
+            qhull_options: words for another program. They are passed over but for 'Qu', which is as furthest_site.
+        """
+        if furthest_site or 'Qu' in (qhull_options or '').split():
+            raise ValueError('the triangulation of the furthest points is not here')
+        self.__dict__.update(delaunay(points).__dict__)
+
+    def __reduce__(self) -> tuple[Any, ...]:
+        return _made_delaunay, (), self.__getstate__()
+
+    def add_points(self, points: ArrayLike, restart: bool = False) -> None:
+        """Adds points, (k, 3), behind the others; where they lie outside of the grid all are placed anew.
+
+        Args:
+            points: as of delaunay.
+            restart: with all points anew, in place of one after another.
+        Raises:
+            ValueError, OutOfRange: as of delaunay.
+        """
+        array = numbers_of(points)
+        if not restart:
+            try:
+                self.add(array)
+                return
+            except OutOfRange:
+                if self.placing is None:
+                    raise
+        both = np.concatenate([self.points, self._checked(array)])
+        if not self.living.all():
+            raise OutOfRange('points were taken, and not all can be placed anew: make a mesh of those that are there')
+        self.__dict__.clear()
+        self.__dict__.update(delaunay(both).__dict__)
+
+    def close(self) -> None:
+        """Lets go what the library keeps for edits; nothing more comes by add_points as quickly. As scipy's."""
+        self._edited = self._known = None
+
+
+def _made_delaunay() -> Delaunay:
+    return Delaunay.__new__(Delaunay)
+
+
 def alpha_shape(points: ArrayLike, radius: float, unit: float | None = None) -> Shape:
     """The alpha complex of points at a radius, in their unit: `delaunay(points, unit, faces=True).alpha(radius)`.
 

@@ -271,9 +271,10 @@ class Refused(unittest.TestCase):
         cells = mesh.cells.copy()
         for call in (mesh.add, mesh.locate, mesh.nearest, mesh.find_simplex, lambda p: mesh.move(0, p)):
             if call != mesh.find_simplex:
-                self.assertRaises(hanskup.OutOfRange, call, [0, 0, 16384])
-                self.assertRaises(hanskup.OutOfRange, call, [-1, 0, 0])
-            self.assertRaises(ValueError, call, [0.5, 0, 0])
+                if call != mesh.nearest:
+                    self.assertRaises(hanskup.OutOfRange, call, [0, 0, 16384])
+                    self.assertRaises(hanskup.OutOfRange, call, [-1, 0, 0])
+                self.assertRaises(ValueError, call, [0.5, 0, 0])
             self.assertRaises(ValueError, call, [1, 2])
         self.assertRaises(IndexError, mesh.take, 50)
         self.assertRaises(IndexError, mesh.take, -1)

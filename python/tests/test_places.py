@@ -93,7 +93,8 @@ class Found(unittest.TestCase):
         whole = hanskup.delaunay(drawn(50))
         self.assertEqual(whole.find_simplex([[16384, 0, 0], [-1, 5, 5], [2 ** 62, 0, 0]]).tolist(), [-1, -1, -1])
         self.assertEqual(whole.find_simplex(np.array([[2 ** 64 - 1, 0, 0]], np.uint64)).tolist(), [-1])
-        self.assertRaises(ValueError, mesh.find_simplex, [np.nan, 0, 0])
+        self.assertEqual(mesh.find_simplex([[np.nan, 0, 0], [0, np.inf, 0]]).tolist(), [-1, -1])
+        self.assertRaises(ValueError, mesh.find_simplex, [0, 0])
 
     def test_on_sides_and_in_lattices(self):
         mesh = hanskup.delaunay(lattice(5))

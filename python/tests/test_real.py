@@ -109,6 +109,60 @@ class AsScipyReads(Real):
         self.assertRaises(ValueError, ours, (line, line))
 
 
+    @unittest.skipUnless(has('scipy'), 'scipy is not installed')
+    def test_find_simplex_has_the_shapes_of_scipy(self):
+        from scipy.spatial import Delaunay
+        random = np.random.default_rng(7)
+        points = random.integers(0, 3000, (300, 3)) / 1000
+        ours, theirs = hanskup.Delaunay(points), Delaunay(points)
+        places = random.uniform(-0.5, 3.5, (4, 5, 3))
+        places[0, :3, 1] = np.nan, np.inf, -np.inf
+        for given in (places, places[1], places[1, 2], places[:0], places.tolist(), points[:9] * 0.5 + 0.7):
+            told, other = ours.find_simplex(given), theirs.find_simplex(given)
+            self.assertEqual(np.shape(told), np.shape(other))
+            np.testing.assert_array_equal(np.asarray(told) < 0, np.asarray(other) < 0)
+            np.testing.assert_array_equal(ours.find_simplex(given, bruteforce=True), told)
+        for wrong in ([1.0, 2.0], 3.0, ['a', 'b', 'c'], [1j, 0, 0]):
+            self.assertRaises(ValueError, ours.find_simplex, wrong)
+
+    def test_tolerance(self):
+        mesh = hanskup.delaunay(np.indices((3, 3, 3)).reshape(3, -1).T.astype(float))
+        places = np.array([[1.2, 1.1, 2 + beyond] for beyond in (0.01, 0.09, 0.11, 3)])
+        for tol, count in ((None, 0), (0, 0), (0.1, 2), (np.float16(1), 3), (9, 4)):
+            self.assertEqual((mesh.find_simplex(places, tol=tol) >= 0).sum(), count)
+        self.assertRaises(ValueError, mesh.find_simplex, places, tol=-1)
+        self.assertRaises(ValueError, mesh.find_simplex, places, tol=np.nan)
+
+    @unittest.skipUnless(has('scipy'), 'scipy is not installed')
+    def test_delaunay_of_scipy_can_be_swapped(self):
+        import copy
+        import pickle
+        from scipy.spatial import Delaunay
+        points = uniform(300, np.random.default_rng(8)).round(4)
+        more = np.random.default_rng(9).uniform(-1, 2, (40, 3)).round(4)
+        made = [kind(points, incremental=True) for kind in (hanskup.Delaunay, Delaunay)]
+        cells = lambda tri: {tuple(sorted(row)) for row in np.asarray(tri.simplices).tolist()}
+        self.assertEqual(*map(cells, made))
+        for tri in made:
+            tri.add_points(points[:5] * 0.5 + 0.2)
+            tri.add_points(more)
+            tri.add_points(more[:3] + 0.01, restart=True)
+            tri.close()
+        self.assertEqual(*(tri.npoints for tri in made))
+        self.assertGreater(len(cells(made[0]) & cells(made[1])) / len(cells(made[1])), 0.97)
+        for other in (copy.copy(made[0]), pickle.loads(pickle.dumps(made[0]))):
+            self.assertIs(type(other), hanskup.Delaunay)
+            np.testing.assert_array_equal(other.simplices, made[0].simplices)
+        self.assertIsInstance(made[0], hanskup.Mesh)
+        self.assertEqual(hanskup.Delaunay(np.concatenate([points, points[:2]])).coplanar.dtype, np.int32)
+        for words in ({'furthest_site': True}, {'qhull_options': 'Qbb Qu'}):
+            self.assertRaises(ValueError, hanskup.Delaunay, points, **words)
+        whole = hanskup.Delaunay(np.random.default_rng(1).integers(0, 99, (50, 3)), qhull_options='Qbb Qc Qz')
+        self.assertRaises(hanskup.OutOfRange, whole.add_points, [[20000, 0, 0]])
+        made[0].take([3])
+        self.assertRaises(hanskup.OutOfRange, made[0].add_points, [[9.0, 9, 9]])
+
+
 class Numbers(Real):
     def test_a_radius_of_a_small_type(self):
         mesh = hanskup.delaunay(np.random.default_rng(1).integers(0, 400, (60, 3)))
