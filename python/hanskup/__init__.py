@@ -26,12 +26,13 @@ from ._grid import Placing
 from ._interpolate import Interpolator
 from ._kinds import BEYOND_HULL, CELL, INTERIOR, POINT, REGULAR, SINGULAR
 from ._looks import Located
-from ._mesh import Mesh, RoundingWarning, alpha_shape, delaunay
+from ._mesh import Delaunay, Mesh, RoundingWarning, alpha_shape, delaunay
 from ._rounding import Rounding
 from ._shape import Filtration, Shape, SolidParts, Voids
+from ._surface import Surface
 from ._version import __version__ as __version__
 from ._voronoi import Voronoi
 
-__all__ = ['delaunay', 'alpha_shape', 'read_points', 'Mesh', 'Shape', 'SolidParts', 'Voids', 'Filtration', 'Located', 'Voronoi',
+__all__ = ['delaunay', 'Delaunay', 'alpha_shape', 'read_points', 'Mesh', 'Shape', 'Surface', 'SolidParts', 'Voids', 'Filtration', 'Located', 'Voronoi',
            'Interpolator', 'Placing', 'Rounding', 'RoundingWarning', 'HanskupError', 'Flat', 'Full', 'OutOfRange', 'WantOfMemory',
            'SINGULAR', 'REGULAR', 'INTERIOR', 'POINT', 'CELL', 'BEYOND_HULL']

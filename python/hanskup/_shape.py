@@ -6,11 +6,12 @@ from typing import TYPE_CHECKING, Any, NamedTuple
 
 import numpy as np
 
-from . import _adapters
+from . import _adapters, _manifold
 from ._graphs import joined
 from ._grid import OTHERS, cross, dot, outwards, volumes
 from ._kinds import Bools, Floats, Ints, Numbers, Rows
 from ._library import BEYOND
+from ._surface import Surface
 
 if TYPE_CHECKING:
     from ._arrays import Arrays
@@ -48,6 +49,11 @@ class Voids(NamedTuple):
     one of its triangles."""
     tetrahedra: Rows  #: (v, 4) indices of points
     numbers: Ints  #: (v,) the void that each is of, from 0
+    volumes: Floats  #: (k,) the volume of each void, in the cube of the unit of the points
+
+    def __repr__(self) -> str:
+        told = ', '.join(f'{volume:.3g}' for volume in self.volumes[:5].tolist())
+        return f'<hanskup.Voids: {len(self.volumes)}, of volumes {told}{", .." if len(self.volumes) > 5 else ""}>'
 
 
 class Shape:
@@ -71,6 +77,7 @@ class Shape:
         self._grid, self._across = mesh.grid, mesh.across
         self._unit = mesh.placing.unit if mesh.placing else 1.0
         self._points: Numbers = mesh.points
+        self._placing = mesh.placing
         faces = self._faces
         # In the unit of the points, as alphas are: by one factor for all, so that none changes its place among them.
         self._level = sixteenths * mesh._square if sixteenths < BEYOND else square
@@ -106,6 +113,41 @@ class Shape:
         """
         return self._given[self._sides()]
 
+    def surface(self, split: bool = False) -> Surface:
+        """The boundary with just its points: closed, but where parts of the solid touch in an edge or a point, so does
+        it.
+
+        Args:
+            split: made manifold: each edge has two triangles. Points at which rounds of triangles touch stand once for
+                each, moved into the solid by at most an eighth of a step of the grid; an edge that several pairs of
+                triangles share gets points in its middle. It needs scipy.
+        Returns:
+            a Surface, with `points`, `triangles`, `volume`, `area`, `is_watertight`, `is_manifold` and `save`.
+
+        >>> import hanskup
+        >>> points = np.array([[0., 0., 0.], [2, 0, 0], [0, 2, 0], [0, 0, 2], [-2, 0, 0], [0, -2, 0], [0, 0, -2]])
+        >>> hanskup.delaunay(points).alpha(3).surface(split=True).is_manifold
+        True
+        """
+        sides = self._sides()
+        used, faces = np.unique(sides, return_inverse=True)
+        faces = faces.reshape(-1, 3)
+        indices = self._given[used]
+        if split and len(sides):
+            places, faces = _manifold.split(self._grid[used], faces)
+            origin = _manifold.origins(self._grid[used], places)
+            indices = np.where(origin >= 0, indices[origin], -1)
+            exact = origin >= 0
+            exact[exact] = (places[exact] == self._grid[used][origin[exact]]).all(axis=1)
+            points = self._placed(places)
+            points[exact] = self._points[indices[exact]]
+        else:
+            points = self._points[indices].astype(float)
+        return Surface(points, faces.astype(np.int32), indices)
+
+    def _placed(self, places: Floats) -> Floats:
+        return self._placing.to_user(places) if self._placing else places.astype(float)
+
     def volume(self) -> float:
         """The volume of the tetrahedra, in the cube of the unit of the points: of the places on the grid, exact up to
         the last rounding. Python over the proved rows, and tested."""
@@ -137,7 +179,9 @@ class Shape:
         passed[i[order], k[order]] = faces.triangle_alphas[:, 0] > self._level
         group = self._joined(passed)
         held = (faces.tetrahedron_alphas > self._level) & (group[:-1] != group[-1])
-        return Voids(self._given[cells[held]], _numbers(group[:-1][held]))
+        numbers = _numbers(group[:-1][held])
+        sizes = np.bincount(numbers, np.abs(volumes(self._grid, cells[held])).astype(float)) / 6 * self._unit ** 3
+        return Voids(self._given[cells[held]], numbers, sizes)
 
     def to_meshio(self) -> Any:
         """A meshio.Mesh of the points, the tetrahedra and the triangles of the boundary. It needs meshio."""

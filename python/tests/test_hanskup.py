@@ -284,7 +284,7 @@ class Pieces(unittest.TestCase):
             passed = set(map(tuple, np.sort(told.triangles[beyond]).tolist()))
             out = [row for row, alpha in zip(told.tetrahedra.tolist(), told.tetrahedron_alphas) if alpha > radius ** 2]
             found = shape.voids()
-            self.assertEqual(grouped(*found), flooded(out, passed, passed & cells_of(mesh.convex_hull)))
+            self.assertEqual(grouped(*found[:2]), flooded(out, passed, passed & cells_of(mesh.convex_hull)))
             voids += len(found.numbers)
         self.assertGreater(voids, 0)
 
