@@ -1,7 +1,9 @@
-/* The Delaunay complex of points with whole coordinates, the least alphas of its faces, and a mesh that is edited:
- * crates/delaunay_c.
+/* The Delaunay triangulation of points with whole coordinates, the least alphas of its faces, and a mesh that is
+ * edited. hanskup.hpp wraps it for C++.
  *
- * Link libdelaunay_c.a with liblibc_c.a of the Rattle kit (its folder c), or the shared object that python/build makes.
+ * In a release, libdelaunay_c.a and libdelaunay_c.so have all that they need but the C library: link either. In the
+ * repository, where python/build makes them, the shared one does too; libdelaunay_c.a of crates/delaunay_c wants
+ * liblibc_c.a of the Rattle kit (its folder c) beside it.
  *
  * What each call answers is proved of the places that it reads and the rows that it writes; docs/BINDINGS.md says it
  * whole. What the caller owes, no one checks:
