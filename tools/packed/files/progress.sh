@@ -10,7 +10,7 @@
 # a signal that ended it ends this shell too.
 wait_for_program() { # PROGRAM WORDS
     # in the background a child wants /dev/null, and an input that can be handed on
-    if [ ! -t 2 ] || [ ! -c /dev/null ] || [ ! -e /proc/self/fd/0 ]; then
+    if [ ! -c /dev/null ] || [ ! -e /proc/self/fd/0 ]; then
         "$@"
         status=$?
         return
@@ -25,6 +25,7 @@ wait_for_program() { # PROGRAM WORDS
     trap 'hand_on QUIT TERM' QUIT
     trap 'hand_on TERM TERM' TERM
     if can_tell; then
+        find_size
         read -r begun _ </proc/uptime
         (exec </dev/null >/dev/null && tell "$running" "${2-}") & # whoever reads the output is not kept waiting
         telling=$!
@@ -55,7 +56,7 @@ hand_on() { # SIGNAL SIGNAL-TO-THE-PROGRAM
 }
 
 can_tell() {
-    [ ! -t 0 ] && [ ! -t 1 ] && [ "${TERM:-dumb}" != dumb ] && [ -r "/proc/$running/io" ] &&
+    [ -t 2 ] && [ ! -t 0 ] && [ ! -t 1 ] && [ "${TERM:-dumb}" != dumb ] && [ -r "/proc/$running/io" ] &&
         command -v sleep >/dev/null
 }
 
@@ -89,16 +90,25 @@ look_at() { # PROCESS
     [ -n "$taken" ] && [ -n "$given" ] && [ -n "$memory" ]
 }
 
-# What it does, by what it read since the look before, and wrote.
+# The size of the input in bytes where it is a file, else nothing.
+find_size() {
+    size=''
+    [ ! -f /proc/self/fd/0 ] || ! command -v wc >/dev/null || size=$(wc -c </proc/self/fd/0) 2>/dev/null
+}
+
+# Which of its three steps it does, by what it read since the look before, and wrote; and how far it is, where that is
+# known.
 say_stage() {
     if [ "$given" != 0 ]; then
-        stage="writing, $(in_megabytes "$given") so far"
+        stage="step 3 of 3: writing, $(in_megabytes "$given") so far"
     elif [ "$taken" -le 8192 ] && [ "$state" = S ]; then
-        stage='waiting for its input'
-    elif [ "$((taken - before))" -gt 8192 ]; then # threads read a little of the system's files as they begin
-        stage="reading, $(in_megabytes "$taken") so far"
+        stage='step 1 of 3: waiting for its input'
+    elif [ "$((taken - before))" -gt 8192 ] && [ -n "$size" ] && [ "$size" -gt "$taken" ]; then
+        stage="step 1 of 3: reading, $((100 * taken / size)) % of $(in_megabytes "$size")"
+    elif [ "$((taken - before))" -gt 8192 ] && [ -z "$size" ]; then # threads read a little of the system as they begin
+        stage="step 1 of 3: reading, $(in_megabytes "$taken") so far"
     else
-        stage="at work on $(in_megabytes "$taken")"
+        stage="step 2 of 3: computing, of $(in_megabytes "${size:-$taken}") of input"
     fi
 }
 

@@ -76,16 +76,19 @@ is_taken() { # OPTION NUMBER
     esac
 }
 
-# Sets $fault to what is wrong with the words, or to nothing.
+# Sets $fault to what is wrong with the words, or to nothing, and $file to a file that is named in them, which is word
+# $file_at of all.
 find_fault() { # WORDS
-    fault='' command='' given=' '
+    fault='' command='' given=' ' file='' file_at=0 at=1
     [ $# != 0 ] || { fault='a command is missing' && return; }
     find_command "$1" || { fault="$1 is no command" && return; }
     command=$1
     shift
     while [ $# != 0 ]; do
+        at=$((at + 1))
         find_fault_at "$@"
         [ -z "$fault" ] || return 0
+        at=$((at + used - 1))
         shift "$used"
     done
     for word in --count --start; do
@@ -94,12 +97,25 @@ find_fault() { # WORDS
     done
 }
 
+# Takes the name of a file, which is the program's input in place of what was given as that.
+take_file() { # NAME
+    if [ "$command" = gen ]; then
+        fault="$1 is not taken: gen reads no file"
+    elif [ -n "$file" ]; then
+        fault="$1 is not taken: the input is $file already"
+    elif [ -d "$1" ] || [ ! -r "$1" ]; then
+        fault="$1 is no file that can be read: delaunay $command FILE, or < FILE, takes one"
+    else
+        file=$1 file_at=$at
+    fi
+}
+
 # The same of an option with its number; $used is of how many words it is.
 find_fault_at() { # WORDS
     used=1 option=${1%%=*}
     case $1 in
     -*) ;;
-    *) fault="$1 is not taken: a file is read from standard input, as in delaunay $command < FILE" && return ;;
+    *) take_file "$1" && return ;;
     esac
     case " $options " in *" $option "*) ;; *) fault="$1 is not taken" && return ;; esac
     case $given in *" $option "*) fault="$option is given twice" && return ;; esac
@@ -129,18 +145,59 @@ explain() {
     fi
 }
 
-# Runs the program in place of this shell; but it is waited for where its words may not be taken, of which it reads no
-# input, and at a terminal, where somebody is told what it does, and what to do about a file that is none.
+# What is added to the program's own line on status 5: what stands in the input, where that is a file and was read from
+# its start, and what was expected.
+explain_input() {
+    if [ "$command" = check ]; then
+        echo 'expected a report, as delaunay mesh writes it; hanskup report makes one of a mesh in another format'
+    elif [ -n "$whole" ]; then
+        tell_of_edit_file </proc/self/fd/0
+    else
+        echo 'expected an edit file: mesh3 2, points, a line X Y Z for each in whole numbers 0 to 16383, edits,' \
+            'radii, end; hanskup points CLOUD makes one'
+    fi
+}
+
+# Says that an edit file has no queries, of which `near` writes nothing.
+explain_near() {
+    IFS= read -r line </proc/self/fd/0
+    case $line in
+    'mesh3 4') said=$(command -v tail >/dev/null && tail -n 2 </proc/self/fd/0) ;;
+    *) said=$(printf 'queries\nend') ;;
+    esac
+    if [ "$said" = "$(printf 'queries\nend')" ]; then
+        echo 'delaunay near: the file has no queries: they stand behind its radii, in a file that begins with mesh3 4.'
+    fi
+}
+
+# Whether standard input is a file that is read from its start, so that it can be read once more.
+is_whole_file() {
+    [ -f /proc/self/fd/0 ] && [ -r /proc/self/fdinfo/0 ] && read -r _ place </proc/self/fdinfo/0 && [ "$place" = 0 ]
+}
+
+# Runs the program and waits for it, since more is told where it refuses its words or its input, and at a terminal what
+# it does. `gen` reads nothing, and takes the place of this shell.
 run_program() { # PROGRAM WORDS
     program=$1
     shift
     find_fault "$@"
-    [ -n "$fault" ] || [ -t 2 ] || exec "$program" "$@"
-    wait_for_program "$program" "$@"
-    if [ "$status" = 2 ]; then
-        explain >&2
-    elif [ "$status" = 5 ] && [ -t 2 ]; then
-        echo 'An edit file was expected (docs/FORMATS.md): tools/points makes one of a cloud.' >&2
+    if [ -z "$fault" ] && [ -n "$file" ]; then
+        exec <"$file"
+        at=0
+        for word in "$@"; do
+            at=$((at + 1))
+            [ "$at" = "$file_at" ] || set -- "$@" "$word"
+            shift
+        done
     fi
+    [ -n "$fault" ] || [ "$command" != gen ] || [ -t 2 ] || exec "$program" "$@"
+    whole=''
+    ! is_whole_file || whole=yes
+    wait_for_program "$program" "$@"
+    case $status in
+    0) [ "$command" != near ] || [ -z "$whole" ] || explain_near >&2 ;;
+    2) explain >&2 ;;
+    5) explain_input >&2 ;;
+    esac
     exit "$status"
 }
