@@ -18,6 +18,7 @@ import numpy as np
 from mesh3 import Trouble, read_bytes, shown, tables
 
 AXES = ('x', 'y', 'z')
+POINT_ARRAYS = ('points', 'xyz', 'coords', 'positions', 'arr_0')  # what the points of an NPZ are called
 
 
 def warn(text):
@@ -44,13 +45,25 @@ def of_text(data, wanted):
 # ---- arrays of numpy
 
 
+def one_of(arrays, wanted):
+    """The array of the points among those of an NPZ: the only one, or one of their usual names."""
+    names = arrays.files
+    name = names[0] if len(names) == 1 else next((name for name in POINT_ARRAYS if name in names), None)
+    if name is None:
+        raise wanted.fault(f'several arrays, {", ".join(names)}: name that of the points {" or ".join(POINT_ARRAYS)}')
+    try:
+        return arrays[name]
+    except ValueError as error:
+        raise wanted.fault(f'{name} cannot be read: {str(error).splitlines()[0]}') from None
+
+
 def of_npy(data, wanted):
     try:
         array = np.load(io.BytesIO(data), allow_pickle=False)
     except (ValueError, OSError, EOFError) as error:
         raise wanted.fault(f'cannot be read as npy: {str(error).splitlines()[0]}') from None
     if not isinstance(array, np.ndarray):
-        raise wanted.fault('several arrays: save the points alone, by numpy.save')
+        array = one_of(array, wanted)
     if array.dtype.names:
         columns = wanted.columns or AXES
         missing = [name for name in columns if name not in array.dtype.names]
@@ -105,13 +118,50 @@ def of_las(data, wanted):
     if data[24:26] >= b'\1\4' and len(data) >= 255:
         count = struct.unpack('<Q', data[247:255])[0] or count
     if form & 0xc0:
-        raise wanted.fault('a compressed LAS (LAZ): write it as LAS, by laszip or pdal translate')
+        return of_laz(data, wanted)
     if wide < 12 or first + count * wide > len(data):
         raise wanted.fault(f'{count} points of {wide} bytes were announced, and the file ends before')
     rows = np.frombuffer(data, dtype=np.dtype(('V', wide)), count=count, offset=first)
     whole = np.ndarray((count, 3), '<i4', rows, strides=(wide, 4))
     scales, offsets = np.frombuffer(data, '<f8', 6, 131).reshape(2, 3)
     return whole * scales + offsets
+
+
+def first_line(error):
+    """What an error of somebody else says, in a line."""
+    return str(error).split('\n')[0] or type(error).__name__
+
+
+def of_laz(data, wanted):
+    """The points of a compressed LAS, by laspy, where that and what unpacks for it are installed."""
+    try:
+        import laspy
+        las = laspy.read(io.BytesIO(data))
+        return np.column_stack([np.asarray(las[axis], dtype=float) for axis in AXES])
+    except ImportError:
+        why = 'a compressed LAS (LAZ): it is read where laspy is installed (pip install "laspy[lazrs]")'
+    except Exception as error:  # laspy has no one error; without what unpacks it has one of its own
+        why = f'a compressed LAS (LAZ), which laspy does not read: {first_line(error)}'
+    raise wanted.fault(f'{why}; else write it as LAS, by laszip or pdal translate')
+
+
+def of_e57(data, wanted):
+    """The points of all scans of an E57, by pye57, where that is installed."""
+    try:
+        import pye57
+    except ImportError:
+        raise wanted.fault('E57 is read where pye57 is installed (pip install pye57); else convert it, by '
+                           '`pdal translate FILE FILE.las`') from None
+    with tempfile.NamedTemporaryFile(suffix='.e57') as file:
+        file.write(data)
+        file.flush()
+        try:
+            whole = pye57.E57(file.name)
+            scans = [whole.read_scan(i, ignore_missing_fields=True) for i in range(whole.scan_count)]
+            rows = [np.column_stack([scan[f'cartesian{axis}'] for axis in 'XYZ']) for scan in scans]
+        except Exception as error:  # pye57 has no one error
+            raise wanted.fault(f'cannot be read as e57: {first_line(error)}') from None
+    return np.concatenate(rows).astype(float) if rows else np.zeros((0, 3))
 
 
 PLY_TYPES = {'char': 'i1', 'int8': 'i1', 'uchar': 'u1', 'uint8': 'u1', 'short': 'i2', 'int16': 'i2', 'ushort': 'u2',
@@ -311,8 +361,8 @@ def by_meshio(name, data, form, wanted):
         said = ' '.join(told.getvalue().split()) or 'meshio gives no reason'
         raise wanted.fault(f'cannot be read: {said}') from None
     except Exception as error:
-        said = str(error).split('\n')[0] or type(error).__name__
-        raise wanted.fault(f'cannot be read as {form or os.path.splitext(name)[1].lstrip(".")}: {said}') from None
+        kind = form or os.path.splitext(name)[1].lstrip('.')
+        raise wanted.fault(f'cannot be read as {kind}: {first_line(error)}') from None
     if points.ndim == 2 and points.shape[1] > 3:
         points = points[:, :3]
     return points
@@ -322,8 +372,8 @@ def by_ending(name, data, form, packed, wanted):
     """The points of a file that no reader here is for: by meshio, where it knows the form or the ending."""
     ending = os.path.splitext(name)[1].lower()
     if form is None and ending not in meshio.extension_to_filetypes:
-        raise wanted.fault(f"no form is known for '{ending}': --format xyz reads lines of numbers, and --format takes "
-                           'the name of any other; else convert it, as a molecule by `obabel FILE -O FILE.xyz`')
+        raise wanted.fault(f"'{ending}' is an unknown format: --format xyz reads lines of numbers, and --format takes "
+                           'the name of any other that is known; else convert it, a scan by pdal, a molecule by obabel')
     if not packed or name == '-':
         return by_meshio(name, data, form, wanted)
     with tempfile.NamedTemporaryFile(suffix=ending) as file:
@@ -333,8 +383,8 @@ def by_ending(name, data, form, packed, wanted):
 
 
 TEXT = ('xyz', 'xyzn', 'xyzrgb', 'pwn', 'npts', 'txt', 'csv', 'tsv', 'pts', 'asc', 'dat', 'qhull', '')
-READERS = {'las': of_las, 'laz': of_las, 'npy': of_npy, 'ply': of_ply, 'pcd': of_pcd, 'obj': of_obj, 'off': of_off,
-           'node': of_node, 'pdb': of_pdb, 'ent': of_pdb, 'cif': of_cif, 'mmcif': of_cif,
+READERS = {'las': of_las, 'laz': of_las, 'e57': of_e57, 'npy': of_npy, 'npz': of_npy, 'ply': of_ply, 'pcd': of_pcd,
+           'obj': of_obj, 'off': of_off, 'node': of_node, 'pdb': of_pdb, 'ent': of_pdb, 'cif': of_cif, 'mmcif': of_cif,
            **{suffix: of_text for suffix in TEXT}}
 PACKED = ('gz', 'zip', 'bz2', 'xz', 'zst', '7z')
 

@@ -11,6 +11,8 @@ from mesh3.placing import Placing
 from mesh3.reports import Lines, Report, Steps, Surface
 
 TOOLS = os.path.dirname(os.path.dirname(os.path.realpath(__file__)))
+# Where the program is, from the tools: of the repository, of a release, of the package.
+PROGRAMS = ('../delaunay', '../../../bin/delaunay', 'bin/delaunay')
 BESIDE = ('.out', '.report', '.mesh', '.shape', '.mesh3', '.in')
 # Options of tools/points that a tool hands on, with how many words each has.
 CLOUD_OPTIONS = {'--format': 1, '--columns': 3, '--every': 1, '--box': 6, '--decimal-comma': 0, '--drop-nan': 0}
@@ -57,11 +59,11 @@ class Given:
 
 
 class Program:
-    """The program: the one that is named, ./delaunay of these tools, or `delaunay` on the path."""
+    """The program: the one that is named, the one beside these tools, or `delaunay` on the path."""
 
     def __init__(self, name=None):
-        beside = os.path.join(os.path.dirname(TOOLS), 'delaunay')
-        self.name = name or (beside if os.access(beside, os.X_OK) else shutil.which('delaunay'))
+        beside = (os.path.normpath(os.path.join(TOOLS, place)) for place in PROGRAMS)
+        self.name = name or next((place for place in beside if os.access(place, os.X_OK)), shutil.which('delaunay'))
         if self.name is None:
             raise Trouble('no delaunay is beside the tools or on the path: name one by --program')
 
@@ -79,6 +81,9 @@ class Program:
 
     def steps(self, data):
         return Steps(Lines(self.run('steps', data), 'what `delaunay steps` wrote'))
+
+    def shape(self, data):
+        return Report(Lines(self.run('shape', data), 'what `delaunay shape` wrote'))
 
     def mesh(self, data):
         return Report(Lines(self.run('mesh', data), 'what `delaunay mesh` wrote'))
@@ -102,18 +107,22 @@ def cloud_words(words):
     return handed
 
 
-def placed(name, data, words):
-    """The edit file that tools/points makes of a cloud, as bytes, and the placing; what it says is handed on."""
+def placed(name, data, words, radii=(), is_told=True):
+    """The edit file that tools/points makes of a cloud, as bytes, and the placing; what it says is handed on.
+
+    `radii` are in the units of the cloud. Where it is not told of the cloud, that was done before.
+    """
     with tempfile.TemporaryDirectory() as work:
         edits, placing = os.path.join(work, 'edits'), os.path.join(work, 'placing')
         command = [sys.executable, os.path.join(TOOLS, 'points'), name, *cloud_words(words), '--output', edits,
-                   '--placing', placing]
+                   '--placing', placing, *(word for radius in radii for word in ('--radius', radius))]
         done = subprocess.run(command, input=data if name == '-' else b'', stdout=subprocess.PIPE,
                               stderr=subprocess.PIPE, check=False)
         said = done.stderr.decode(errors='replace').strip()
         if done.returncode:
             raise Trouble(said.removeprefix('points: ') or f'{shown(name)}: tools/points refused it')
-        print(said, file=sys.stderr)
+        if is_told:
+            print(said, file=sys.stderr)
         return read_bytes(edits), Placing.read(placing)
 
 

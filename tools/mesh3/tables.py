@@ -126,13 +126,19 @@ def split(line, separator):
 # ---- columns
 
 
+# What surveyors call the axes, once units are taken off.
+OF_SURVEYS = {'easting': 'x', 'east': 'x', 'northing': 'y', 'north': 'y', 'elevation': 'z', 'elev': 'z', 'height': 'z',
+              'altitude': 'z', 'up': 'z'}
+
+
 def named(word):
-    """What a word of a header calls: 'x' for X, x_m, `x [m]`, pos_x, and Points:0 as ParaView writes it."""
+    """What a word of a header calls: 'x' for X, x_m, `x [m]`, pos_x, Easting, and Points:0 as ParaView writes it."""
     word = word.strip().lower()
     of_points = re.fullmatch(r'(?:points|coords|coordinates|position)[:_. ]?([012xyz])', word)
     if of_points:
         return dict(zip('012', AXES)).get(of_points.group(1), of_points.group(1))
-    return re.sub(UNIT, '', re.sub(r'^(pos|coord|cartn)_', '', word))
+    word = re.sub(UNIT, '', re.sub(r'^(pos|coord|cartn)_', '', word))
+    return OF_SURVEYS.get(word, word)
 
 
 def place_of(column, wanted, header, wide):

@@ -30,6 +30,8 @@ def texts():
     text('a header with an index in front', rows('{i},{},{},{}', 'id,X,Y,Z\n'))
     text('a header with units', rows('{};{};{}', 'x [m];y [m];z [m]\n'))
     text('a header of ParaView behind another column', rows('{i},{},{},{}', 'd,Points:0,Points:1,Points:2\n'))
+    text('a header of surveyors', rows('{i};{};{};{}', 'id;Easting [m];Northing [m];Elevation [m]\n'))
+    text('another of surveyors', rows('{},{},{}', 'East,North,Height_m\n'))
     text('quoted words', rows('"{}","{}","{}"', '"x","y","z"\n'))
     text('columns by number', rows('{i} {} {} {}'), '--columns', '2', '3', '4')
     text('columns by name', rows('{i},{},{},{}', 'a,b,c,d\n'), '--columns', 'b', 'c', 'd')
@@ -96,6 +98,13 @@ def by_numpy(work, np):
     named['x'], named['y'], named['z'] = np.array(POINTS).T
     np.save(os.path.join(work, 'named.npy'), named)
     taken('numpy: named columns', os.path.join(work, 'named.npy'))
+    whole = np.array(POINTS)
+    for what, arrays in (('an only array', {'cloud': whole}), ('points among others', {'time': [1], 'points': whole}),
+                         ('an array without a name', {'arr_0': whole, 'mass': [2]})):
+        np.savez(os.path.join(work, 'arrays.npz'), **arrays)
+        taken(f'npz: {what}', os.path.join(work, 'arrays.npz'))
+    np.savez_compressed(os.path.join(work, 'arrays.npz'), here=whole, there=whole)
+    refused('npz: two arrays', 'points', os.path.join(work, 'arrays.npz'), said='here, there')
     for name, array, said in (('turned', np.array(POINTS).T, 'transpose'), ('flat', np.array(POINTS)[:, :2], '(5, 2)'),
                               ('words', np.array([['a', 'b', 'c']]), 'an array of shape (n, 3)')):
         name = os.path.join(work, f'{name}.npy')

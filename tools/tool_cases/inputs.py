@@ -1,16 +1,51 @@
 """Cases of tools/points on what scanners, Qhull and TetGen write, on packed files, and on words that are no numbers."""
 import bz2
 import gzip
+import importlib.util
 import os
 import shutil
 import struct
 import subprocess
 import tarfile
+import tempfile
 
 from tool_cases import expect, refused, skip, tool
 from tool_cases.given import POINTS, grid_of, rows, taken, xyz
 
 OF_CGAL = '/usr/share/doc/libcgal-dev'  # where Debian's libcgal-demo puts the data of CGAL
+
+
+# In place of the packages that unpack LAZ and read E57, which Debian does not have: what the tool calls of them.
+LASPY = """def read(file):
+    assert file.read(4) == b'LASF'
+    return {axis: [row[i] for row in POINTS] for i, axis in enumerate('xyz')}
+"""
+PYE57 = """import numpy
+class E57:
+    def __init__(self, name):
+        assert open(name, 'rb').read() == b'ASTM-E57'
+        self.scan_count = 2
+    def read_scan(self, index, ignore_missing_fields):
+        rows = numpy.array(POINTS[2 * index:2 + 3 * index])
+        return {f'cartesian{axis}': rows[:, i] for i, axis in enumerate('XYZ')}
+"""
+
+
+def by_packages():
+    """LAZ by laspy and E57 by pye57, as stand-ins of both give them; without them one line names them."""
+    with tempfile.TemporaryDirectory() as room:
+        for name, text in (('laspy.py', LASPY), ('pye57.py', PYE57)):
+            with open(os.path.join(room, name), 'w', encoding='ascii') as file:
+                file.write(f'POINTS = {POINTS!r}\n{text}')
+        before, os.environ['PYTHONPATH'] = os.environ.get('PYTHONPATH'), room
+        taken('LAZ by laspy', '-', '--format', 'laz', given=las(form=0x80))
+        taken('E57 by pye57', '-', '--format', 'e57', given=b'ASTM-E57')
+        del os.environ['PYTHONPATH']
+        if before is not None:
+            os.environ['PYTHONPATH'] = before
+    for form, package, given in (('laz', 'laspy', las(form=0x80)), ('e57', 'pye57', b'ASTM-E57')):
+        if importlib.util.find_spec(package) is None:
+            refused(f'{form} without {package}', 'points', '--format', form, given=given, said=f'where {package} is')
 
 
 def las(version=2, form=0, wide=20, count=None, cut=0, points=POINTS):
@@ -32,11 +67,12 @@ def scanners():
     for what, words in (('LAS 1.2', {}), ('LAS 1.4', {'version': 4, 'form': 6, 'wide': 30}),
                         ('LAS with colours', {'form': 2, 'wide': 26})):
         taken(what, '-', '--format', 'las', given=las(**words))
-    for what, words, said in (('LAZ', {'form': 0x80}, 'by laszip or pdal'),
+    for what, words, said in (('LAZ that is none', {'form': 0x80}, 'by laszip or pdal'),
                               ('a LAS that is cut', {'cut': 9}, 'ends before'),
                               ('a LAS that lies about its count', {'count': 9}, '9 points of 20 bytes'),
                               ('a LAS without a point', {'points': []}, 'no points')):
         refused(what, 'points', '--format', 'las', given=las(**words), said=said)
+    by_packages()
     refused('no LAS', 'points', '--format', 'las', given=b'LASF', said='no header')
     taken('PWN: points with normals', '-', '--format', 'pwn', given=rows('{} {} {} 0 0 1').encode())
 

@@ -1,7 +1,9 @@
 """Cases of the pictures of tools/draw, by their pixels; its page has cases of its own."""
 import os
+import re
+import subprocess
 
-from tool_cases import CASES, expect, refused, tool
+from tool_cases import CASES, PROGRAM, expect, is_built, refused, tool
 
 CUBE = os.path.join(CASES, '04-cube.shape')
 # Colours of pictures whatever their shade: blue triangles, red ones.
@@ -44,5 +46,32 @@ def pictures(work):
     refused('a report that is cut', 'draw', '-', name, given=open(CUBE, 'rb').read()[:300], said='line')
 
 
+def of_clouds(work):
+    """A picture of a cloud by one command: at a radius, or at one that is found, both in the units of the cloud."""
+    if not is_built():
+        return
+    cloud = os.path.join(work, 'scan.xyz')
+    with open(cloud, 'wb') as file:
+        file.write(tool('example-surface')[1])
+    for words, radius in ((('--radius', '0.3'), '0.3'), ((), None), (('--what', 'points'), None)):
+        name = os.path.join(work, 'scan.svg')
+        status, out, err = tool('draw', cloud, name, *words)
+        text = open(name, encoding='utf-8').read() if status == 0 else ''
+        said = re.findall(r'<!-- (.*?) -->', text)[-1:]
+        expect(f'a picture of a cloud, {words}: {err}', status == 0 and out.decode().strip() == name and
+               err.count('3000 points') == 1)
+        wanted = f'radius {radius}' if radius else 'radius 0.' if not words else '3000 points'
+        expect(f'its title is in units of the cloud: {said}', said and said[0].startswith(wanted))
+    report, placing = os.path.join(work, 'scan.out'), os.path.join(work, 'scan.json')
+    edits = tool('points', cloud, '--radius', '0.3', '--radius', '0.5', '--placing', placing)[1]
+    with open(report, 'wb') as file:
+        subprocess.run([PROGRAM, 'shape'], input=edits, stdout=file, check=True)
+    status, out, err = tool('draw', report, os.path.join(work, 'scan.png'), '--placing', placing)
+    names = [os.path.basename(name) for name in out.decode().split()]
+    expect(f'pictures are named by their radii: {names}, {err}', names == ['scan-0.3.png', 'scan-0.5.png'])
+    refused('a radius that is none', 'draw', cloud, os.path.join(work, 'x.png'), '--radius', 'wide', said='wide')
+
+
 def run(work):
     pictures(work)
+    of_clouds(work)
