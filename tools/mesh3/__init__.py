@@ -14,8 +14,8 @@ try:
     import numpy as np
 except ImportError as missing:
     if os.access(SYSTEM, os.X_OK) and os.path.realpath(sys.executable) != os.path.realpath(SYSTEM):
-        os.execv(SYSTEM, [SYSTEM, *sys.argv])
-    sys.exit(f'{sys.argv[0].rsplit("/", 1)[-1]}: {sys.executable} has no {missing.name}: apt-get install '
+        os.execv(SYSTEM, [SYSTEM, *getattr(sys, 'orig_argv', [sys.executable, *sys.argv])[1:]])
+    sys.exit(f'{os.path.basename(sys.argv[0])}: {sys.executable} has no {missing.name}: apt-get install '
              f'python3-{missing.name}, or {sys.executable} -m pip install {missing.name}')
 
 GREATEST = 16383
@@ -37,17 +37,26 @@ def shown(name):
     return 'standard input' if name == '-' else name
 
 
+def called():
+    """What a tool was called as: `hanskup points` by the one command, `points` by its own file."""
+    return os.path.basename(sys.argv[0])
+
+
 def main(run):
-    """Runs a tool: what is wrong comes as one line on standard error, with status 1."""
+    """Runs a tool: what is wrong comes as one line on standard error, with status 1; a reader that ends is no fault."""
     try:
-        run()
+        try:
+            run()
+        finally:
+            sys.stdout.flush()
     except Trouble as trouble:
-        print(f'{sys.argv[0].rsplit("/", 1)[-1]}: {trouble}', file=sys.stderr)
+        print(f'{called()}: {trouble}', file=sys.stderr)
         sys.exit(1)
     except BrokenPipeError:
+        os.dup2(os.open(os.devnull, os.O_WRONLY), 1)
         sys.exit(1)
     except OSError as error:
-        print(f'{sys.argv[0].rsplit("/", 1)[-1]}: {error.filename or "output"}: {error.strerror}', file=sys.stderr)
+        print(f'{called()}: {error.filename or "output"}: {error.strerror}', file=sys.stderr)
         sys.exit(1)
 
 

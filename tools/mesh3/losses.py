@@ -2,7 +2,7 @@
 import sys
 
 import numpy as np
-from mesh3 import GREATEST
+from mesh3 import GREATEST, called
 from mesh3.clouds import warn
 
 FAR = 10.0  # a point so many times as far from the middle as half of the points are is an outlier
@@ -59,8 +59,8 @@ def warn_of_loss(points, exact, whole, scale):
     distinct, first = np.unique(points, axis=0, return_index=True)
     together = len(distinct) - len(np.unique(whole[first], axis=0))
     moved = np.abs(exact - whole).max(axis=0) / scale
-    print(f'points: {len(points)} points, {len(points) - len(distinct)} given again, {together} fell together on the '
-          f"grid; greatest rounding {moved.max():.3g} of the input's units", file=sys.stderr)
+    print(f'{called()}: {len(points)} points, {len(points) - len(distinct)} given again, {together} fell together on '
+          f"the grid; greatest rounding {moved.max():.3g} of the input's units", file=sys.stderr)
     extents = points.max(axis=0) - points.min(axis=0)
     spoilt = [(axis, move, extent) for axis, move, extent in zip('xyz', moved, extents) if move * 1000 > extent]
     remedy = remedy_for(distinct, scale) if spoilt or together * 100 > len(distinct) else ''

@@ -6,34 +6,34 @@ import sys
 import tarfile
 import tempfile
 
-from packed import TOP, Refused, run, texts
+from packed import TOP, Refused, links, read, run, texts
 from packed.sources import LIBRARY, PROGRAM, commit, faults, sum_of
 
 sys.path.insert(0, os.path.join(TOP, 'python'))
 import hanskup_wheel  # noqa: E402
 
-TOOLS = ('points', 'export', 'draw', 'betti', 'report', 'example-surface', 'mesh3')
 DOCS = ('RELEASE', 'FORMATS', 'WORDS', 'PROMISE', 'DEFINITIONS', 'BINDINGS', 'SCALE', 'TESTED')
-LINKS = {'delaunay': 'bin/delaunay', 'tools': 'share/hanskup/tools', 'SOURCES': 'share/hanskup/SOURCES',
-         'README.md': 'docs/RELEASE.md', 'lib/libdelaunay_c.so': 'libdelaunay_c.so.1'}
+LINKS = {'delaunay': 'bin/delaunay', 'hanskup': 'bin/hanskup', 'tools': 'share/hanskup/tools',
+         'SOURCES': 'share/hanskup/SOURCES', 'lib/libdelaunay_c.so': 'libdelaunay_c.so.1'}
 AS_IT_STANDS = {
     'tools/packed/files/delaunay': 'bin/delaunay', 'tools/packed/files/words.sh': 'libexec/hanskup/words.sh',
-    'tools/packed/files/progress.sh': 'libexec/hanskup/progress.sh',
-    'tools/packed/help.txt': 'share/hanskup/help.txt', 'python/c/delaunay_c.h': 'include/delaunay_c.h',
+    **{f'tools/packed/files/{name}.sh': f'libexec/hanskup/{name}.sh' for name in ('faults', 'progress')},
+    'tools/packed/help.txt': 'share/hanskup/help.txt', 'python/hanskup/__main__.py': 'bin/hanskup',
+    'python/c/delaunay_c.h': 'include/delaunay_c.h', 'python/c/hanskup.hpp': 'include/hanskup.hpp',
     'CHANGELOG.md': 'CHANGELOG.md'}
 
 
 def copies():
     """What is packed as it stands in the repository: its place there, and in the release."""
     yield from AS_IT_STANDS.items()
-    for tool in TOOLS:
+    for tool in hanskup_wheel.TOOLS:
         for name in run('git', 'ls-files', f'tools/{tool}').split():
             yield name, f'share/hanskup/{name}'
     for name in DOCS:
-        yield f'docs/{name}.md', f'docs/{name}.md'
+        yield f'docs/{name}.md', 'README.md' if name == 'RELEASE' else f'docs/{name}.md'
     for name in run('git', 'ls-files', 'examples').split():
         yield name, name
-    for name in run('git', 'ls-files', 'python/examples', 'python/c/*.c', 'python/c/put.h').split():
+    for name in run('git', 'ls-files', 'python/examples', 'python/c/*.c', 'python/c/*.cpp', 'python/c/put.h').split():
         yield name, name.replace('python/examples', 'examples/python').replace('python/c', 'examples/c')
 
 
@@ -55,16 +55,20 @@ def build(folder, version):
     run('python/build', '--link', shared)
     run('strip', '--strip-unneeded', shared)
     one_library(os.path.join(folder, 'lib/libdelaunay_c.a'))
-    hanskup_wheel.make(folder, shared, version)
+    hanskup_wheel.make(folder, shared, version, os.path.join(folder, 'libexec/hanskup/delaunay'))
 
 
 def lay_out(folder, version, is_proved):
     """The whole release, in a folder that is there and empty."""
     for name, text in texts.made(version, is_proved).items():
         put(os.path.join(folder, name), text)
-    for name, place in copies():
+    places = dict(copies())
+    for name, place in places.items():
         os.makedirs(os.path.dirname(os.path.join(folder, place)), exist_ok=True)
-        shutil.copy(os.path.join(TOP, name), os.path.join(folder, place))
+        if name.endswith('.md'):
+            put(os.path.join(folder, place), links.placed_links(read(name), name, place, places))
+        else:
+            shutil.copy(os.path.join(TOP, name), os.path.join(folder, place))
     build(folder, version)
     for name, target in LINKS.items():
         os.symlink(target, os.path.join(folder, name))

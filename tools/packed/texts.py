@@ -13,6 +13,13 @@ Version: {number}
 Cflags: -I${{prefix}}/include
 Libs: -L${{prefix}}/lib -ldelaunay_c
 """
+PKG_CONFIG_OF_WRAPPER = """prefix=${{pcfiledir}}/../..
+Name: hanskup
+Description: Delaunay triangulations of points in space and their alpha complexes, for C++17 and later
+Version: {number}
+Requires: delaunay_c = {number}
+Cflags: -I${{prefix}}/include
+"""
 CMAKE_VERSION = """set(PACKAGE_VERSION {number})
 if(PACKAGE_FIND_VERSION VERSION_GREATER PACKAGE_VERSION
         OR (PACKAGE_FIND_VERSION_COUNT GREATER 0 AND NOT PACKAGE_FIND_VERSION_MAJOR EQUAL {major})
@@ -101,12 +108,13 @@ def sources(version, is_proved):
 
 def made(version, is_proved):
     """Each text by its place in the release."""
-    with open(os.path.join(TOP, 'tools/packed/files/delaunay_cConfig.cmake'), encoding='utf-8') as file:
-        config = file.read()
     return {
         'lib/pkgconfig/delaunay_c.pc': PKG_CONFIG.format(**numbers(version)),
-        'lib/cmake/delaunay_c/delaunay_cConfig.cmake': config,
-        'lib/cmake/delaunay_c/delaunay_cConfigVersion.cmake': CMAKE_VERSION.format(**numbers(version)),
+        'lib/pkgconfig/hanskup.pc': PKG_CONFIG_OF_WRAPPER.format(**numbers(version)),
+        **{f'lib/cmake/{name}/{name}Config.cmake': read(f'tools/packed/files/{name}Config.cmake')
+           for name in ('delaunay_c', 'hanskup')},
+        **{f'lib/cmake/{name}/{name}ConfigVersion.cmake': CMAKE_VERSION.format(**numbers(version))
+           for name in ('delaunay_c', 'hanskup')},
         'share/man/man1/delaunay.1': man_page(version),
         'share/bash-completion/completions/delaunay': completion('delaunay.bash'),
         'share/zsh/site-functions/_delaunay': completion('_delaunay'),

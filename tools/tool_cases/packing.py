@@ -8,7 +8,8 @@ import tarfile
 from tool_cases import TOP, expect, skip
 
 COPIED = ('tools/packed', 'tools/release', 'tools/plain/room.sh', 'tools/points', 'tools/mesh3', 'python/c',
-          'python/hanskup', 'python/build', 'python/hanskup_wheel.py', 'docs', 'examples', 'delaunay', 'HANDLES')
+          'python/hanskup', 'python/build', 'python/hanskup_wheel.py', 'python/README.md', 'docs',
+          'hanskup', 'examples', 'delaunay', 'HANDLES')
 CRATES = 'low:\nbeside:\ndelaunay: low\ndelaunay_c staticlib: low\n'
 CHANGES = '# Changes\n\n## 0.8, not closed yet: more\n\n## 0.7: all\n\n## 0.6: some\n'
 LIBRARY = """#include <stddef.h>

@@ -11,6 +11,7 @@ import tarfile
 import time
 
 from packed import options, usage
+from packed.links import dead_links
 from tool_cases import CASES, PROGRAM, TOP, expect, is_built, skip, volume_of
 from tool_cases.wrapper import begun, read_to_end, screen
 
@@ -37,6 +38,9 @@ add_executable(by_default user.cpp)
 target_link_libraries(by_default PRIVATE delaunay_c::delaunay_c)
 add_executable(by_shared user.cpp)
 target_link_libraries(by_shared PRIVATE delaunay_c::shared)
+find_package(hanskup {number} REQUIRED)
+add_executable(by_header "{root}/examples/c/vectors.cpp")
+target_link_libraries(by_header PRIVATE hanskup::hanskup)
 foreach(other 0.1 {number}.1 99)
     find_package(delaunay_c ${{other}} QUIET)
     if(delaunay_c_FOUND)
@@ -120,7 +124,8 @@ def in_an_empty_root(root, work):
             told = call([*delaunay, command, '--workers', '2'], stdin=given)
             expect(f'{command} of {name} in an empty root: {told}', told == (0, want.read(), b''))
     told = call([*delaunay, 'mesh'], input=b'scan')
-    expect(f'a refusal there: {told}', told == (5, b'', b'delaunay: line 1: Section\n'))
+    expect(f'a refusal there: {told}', told[:2] == (5, b'') and told[2].count(b'\n') == 2 and
+           told[2].startswith(b'delaunay: line 1: Section\nexpected an edit file: '))
     told = call([*delaunay, 'mehs'])
     expect(f'a word there: {told}',
            told[:2] == (2, b'') and told[2].startswith(b'delaunay: usage\nmehs is no command\n'))
@@ -154,32 +159,42 @@ def words(root):
             ours[:2] == own[:2] and ours[2].startswith(b'delaunay: usage\n') and b'\nusage: delaunay ' in ours[2])
         expect(f'words {given}: {ours}, and of the program {own}', whole)
     for given, said in (('mehs', 'mehs is no command'), ('mesh --workers 0', '--workers 0 is not taken'),
-                        ('mesh scan.mesh3', 'delaunay mesh < FILE'), ('gen --count 3', '--start is missing'),
+                        ('mesh scan.mesh3', 'no file that can be read'), ('gen --count 3', '--start is missing'),
                         ('near --order', '--order is not taken'), ('parts --alpha', 'a number is missing')):
         told = call([wrapper, *given.split()])
         expect(f'{given}: {told}', told[0] == 2 and not told[1] and said in told[2].decode().splitlines()[1])
 
 
+def program_of(pid):
+    """The file that a process runs, or nothing where it has ended."""
+    try:
+        return os.readlink(f'/proc/{pid}/exe')
+    except OSError:
+        return ''
+
+
 def process(root, work):
-    """The program takes the wrapper's place: its signals and streams; also by a link, from elsewhere."""
-    link = os.path.join(work, 'a link')
+    """Signals reach the program, and its streams are its own; also by a link, from elsewhere."""
+    link, program = os.path.join(work, 'a link'), os.path.join(root, 'libexec/hanskup/delaunay')
     os.symlink(os.path.join(root, 'bin/delaunay'), link)
-    with subprocess.Popen([link, 'mesh'], stdin=subprocess.PIPE, stdout=subprocess.PIPE, cwd='/') as child:
-        until = time.time() + 10
-        while os.readlink(f'/proc/{child.pid}/exe') != os.path.join(root, 'libexec/hanskup/delaunay'):
-            if time.time() > until:
-                break
-            time.sleep(0.01)
-        expect('the process is the program', time.time() <= until)
-        child.send_signal(signal.SIGTERM)
-        expect('a signal ends it', child.wait(10) == -signal.SIGTERM)
+    for number in (signal.SIGTERM, signal.SIGHUP, signal.SIGINT):
+        with subprocess.Popen([link, 'mesh'], stdin=subprocess.PIPE, stdout=subprocess.PIPE, cwd='/') as child:
+            until, below = time.time() + 10, []
+            while time.time() < until and not below:
+                with open(f'/proc/{child.pid}/task/{child.pid}/children', encoding='ascii') as file:
+                    below = [pid for pid in file.read().split() if program_of(pid) == program]
+                time.sleep(0.01)
+            child.send_signal(number)
+            ended = child.wait(10)
+            expect(f'signal {number} ends the wrapper and the program: {ended}, {below}',
+                   ended == -number and below and program_of(below[0]) != program)
     child, terminal = begun(root, {**os.environ, 'TERM': 'xterm'}, 'mesh')
     time.sleep(5)
     with open(f'{TOP}/examples/cube.mesh3', 'rb') as given, open(f'{TOP}/examples/cube.txt', 'rb') as want:
         out, _ = child.communicate(given.read())
         told = read_to_end(terminal)
         expect(f'at a terminal it says that it waits: {told!r}', child.returncode == 0 and out == want.read() and
-               re.search(r'delaunay mesh: \d s, waiting for its input', told) and screen(told) == [''])
+               re.search(r'delaunay mesh: \d s, step 1 of 3: waiting for its input', told) and screen(told) == [''])
     with open(f'{TOP}/examples/cube.mesh3', 'rb') as given, open('/dev/full', 'wb') as full:
         done = subprocess.run([link, 'mesh'], stdin=given, stdout=full, stderr=subprocess.PIPE, check=False)
     expect(f'a full device: {done}', done.returncode == 4 and done.stderr == b'delaunay: write fault\n')
@@ -197,6 +212,11 @@ def from_c(root, work):
         expect(f'C by pkg-config: {told}', told[0] == 0)
         told = call([program], env={'LD_LIBRARY_PATH': f'{root}/lib'})
         expect(f'it runs: {told}', told == (0, stored, b''))
+        told = call(['pkg-config', '--cflags', '--libs', 'hanskup'], env=world)
+        words = [f'{root}/examples/c/vectors.cpp', *shlex.split(told[1].decode()), '-o', program]
+        told = call(['c++', '-std=c++17', *words])
+        expect(f'C++ by pkg-config: {told}', told[0] == 0)
+        expect('it runs', call([program, 'rest'], env={'LD_LIBRARY_PATH': f'{root}/lib'})[0] == 0)
     else:
         skip('there is no pkg-config')
     told = call(['cc', source, f'-I{root}/include', f'{root}/lib/libdelaunay_c.a', '-o', program])
@@ -216,7 +236,7 @@ def from_others(root, work):
             file.write(text)
     number = re.search(r'hanskup-(\d+\.\d+)', root)[1]
     with open(os.path.join(work, 'CMakeLists.txt'), 'w', encoding='utf-8') as file:
-        file.write(CMAKE.format(number=number))
+        file.write(CMAKE.format(number=number, root=root))
     if shutil.which('cmake') and shutil.which('c++'):
         made = f'{work}/made'
         told = call(['cmake', '-S', work, '-B', made, f'-DCMAKE_PREFIX_PATH={root}'])
@@ -226,6 +246,7 @@ def from_others(root, work):
         for name in ('by_default', 'by_shared'):
             told = call([f'{made}/{name}'])
             expect(f'C++ {name}: {told}', told == (0, FIVE, b''))
+        expect('the header for C++, by CMake', call([f'{made}/by_header', 'rest'])[0] == 0)
         linked = call(['ldd', f'{made}/by_default'])[1]
         expect('the default is the static library', b'delaunay_c' not in linked)
     else:
@@ -249,6 +270,7 @@ def from_python(root, work):
     version = os.path.basename(wheel).split('-')[1]
     told = call([f'{room}/bin/python', '-c', PYTHON], cwd=work, env={'PATH': '/usr/bin:/bin'})
     expect(f'it runs: {told}', told == (0, f'{version} 6 12\n'.encode(), b''))
+    commands(room, work)
     told = call([f'{room}/bin/pip', 'uninstall', '--yes', 'hanskup'])
     expect(f'it goes: {told}', told[0] == 0 and call([f'{room}/bin/python', '-c', PYTHON], cwd=work)[0] != 0)
     copy = os.path.join(work, 'repository')
@@ -262,6 +284,50 @@ def from_python(root, work):
     told = call([f'{room}/bin/python', '-c', PYTHON], cwd=work)
     expect(f'it runs: {told}', told[0] == 0 and told[1].endswith(b' 6 12\n'))
     return None
+
+
+METADATA = """from importlib.metadata import metadata
+told = metadata('hanskup')
+print(sorted(key for key in ('Summary', 'Keywords', 'Classifier', 'Description-Content-Type', 'Requires-Python',
+                             'Author', 'License') if told[key]), len(told.get_payload()) > 1000)
+"""
+
+
+def commands(room, work):
+    """What pip tells of the package, and its command, which brings the program along: a page from anywhere."""
+    told = call([f'{room}/bin/python', '-c', METADATA], cwd=work)
+    expect(f'what it is: {told}', told[1].decode() == "['Classifier', 'Description-Content-Type', 'Keywords', "
+           "'Requires-Python', 'Summary'] True\n")
+    hanskup, cloud = f'{room}/bin/hanskup', os.path.join(work, 'cloud.xyz')
+    status, text, err = call([hanskup, 'example'])
+    expect(f'a sample cloud: {status}, {err}', status == 0 and text.count(b'\n') == 3000)
+    with open(cloud, 'wb') as file:
+        file.write(text)
+    for words, made in (([cloud, 'of-wheel.html'], 'of-wheel.html'), ([cloud, 'of-wheel.png', '--radius', '0.3'],
+                                                                     'of-wheel.png')):
+        told = call([hanskup, 'draw', *words], cwd=work, env={'PATH': '/usr/bin:/bin'})
+        expect(f'hanskup draw {words}: {told}', told[0] == 0 and os.path.getsize(os.path.join(work, made)) > 10000)
+
+
+def door(root, work):
+    """What a newcomer finds: links that lead somewhere, a README that says what it is, one command for the tools."""
+    dead = dead_links(root)
+    expect(f'no link is dead: {dead}', dead == [])
+    with open(f'{root}/README.md', encoding='utf-8') as file:
+        text = file.read()
+    expect('the README says what it is', text.startswith('# Hanskup\n') and '3D Delaunay' in text.split('\n\n')[1] and
+           'licence' in text[:1000])
+    with open(f'{root}/include/delaunay_c.h', encoding='ascii') as file:
+        expect('the header says what is within the library', 'but the C library: link either' in file.read())
+    for tool in ('points', 'draw', 'export', 'report', 'betti', 'example'):
+        status, out, err = call([f'{root}/hanskup', tool, '--help'], cwd=work)
+        expect(f'hanskup {tool} --help: {status}, {err}', status == 0 and f'usage: hanskup {tool}'.encode() in out)
+    told = call([f'{root}/hanskup', '--version'])
+    expect(f'a version: {told}', told[0] == 0 and told[1].decode().split()[1] in root)
+    told = call([f'{root}/hanskup', 'dwar'])
+    expect(f'no tool: {told}', told[0] == 2 and b'points, draw, export' in told[2])
+    told = call(['bash', '-c', f'set -o pipefail; {root!r}/hanskup example | head -n 1'])
+    expect(f'a reader that ends: {told}', told[1].count(b'\n') == 1 and not told[2])
 
 
 def completions(root):
@@ -309,7 +375,8 @@ def first_surface(root):
     with open(f'{TOP}/README.md', encoding='utf-8') as file:
         expect('they are those of the README', set(lines) <= {line.strip() for line in file})
     made = os.path.exists(f'{root}/surface.ply') and volume_of(f'{root}/surface.ply')[0]
-    expect(f'a surface in {took:.1f} s, of volume {made}', took < 60 and len(lines) == 4 and made > 0)
+    expect(f'a surface in {took:.1f} s, of volume {made}', took < 60 and len(lines) == 5 and made > 0)
+    expect('and a page', os.path.getsize(f'{root}/page.html') > 100000)
 
 
 def run(work):
@@ -317,6 +384,7 @@ def run(work):
     root = packed(work) if is_built() else None
     if not root:
         return
+    door(root, work)
     in_an_empty_root(root, work)
     words(root)
     process(root, work)
