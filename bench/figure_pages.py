@@ -73,18 +73,17 @@ SPEED = {
         Row('a point of a cloud of 4,000 to 12,000', 'instructions', 'point'),
         Row('a face of `steps`', 'instructions', 'face')])}
 FIRST_PAGE = [
-    Row("262,144 drawn points by 4 workers, by the clock, beside CGAL's Parallel_tag by 4 threads",
-        'threads', 'spread-262144 by 4'),
-    Row("the same by one, beside CGAL's insertion of a range", 'cloud', 'spread-262144'),
-    Row('65,536 drawn edits, every fourth a take, beside CGAL edit by edit', 'mesh', 'drawn-65536'),
-    Row("least alphas of all faces after the mesh, beside CGAL's alpha spectrum", 'steps', 'double'),
-    Row("shapes of three radii after the mesh, beside CGAL's", 'shape', '3'),
-    Row("from Python, 100,000 points with neighbours, beside scipy's Delaunay (Qhull)", 'python',
+    Row("262,144 random points, 4 threads, by the clock, beside CGAL's Parallel_tag", 'threads', 'spread-262144 by 4'),
+    Row("the same with one thread, beside CGAL's insertion of a range", 'cloud', 'spread-262144'),
+    Row('65,536 random edits, a quarter of them deletions, beside CGAL edit by edit', 'mesh', 'drawn-65536'),
+    Row("the full alpha filtration, after triangulating, beside CGAL's alpha spectrum", 'steps', 'double'),
+    Row("alpha shapes at three radii, after triangulating, beside CGAL's", 'shape', '3'),
+    Row("from Python, 100,000 points with neighbors, beside scipy's Delaunay (Qhull)", 'python',
         'delaunay, simplices, neighbors'),
     Row("from Python, the filtration of 100,000 points, beside GUDHI's AlphaComplex", 'python', 'delaunay, filtration'),
 ]
 UNPROVED = 'an unproved build, some twentieth slower than a proved one'
-HEAD_OF_FIRST = '| processor time, least of {} runs, {} | here | peer | here / peer |'
+HEAD_OF_FIRST = '| task: CPU seconds, best of {}, {} | here | peer | here / peer |'
 
 
 def cell_of(table, place, cell):
@@ -212,7 +211,7 @@ def pages_of(made, words):
         text = put(text, section, table_of(head, rows) if rows else '')
     text = re.sub(r'^Made on .*?(?=\n\n)', lambda _: folded(conditions(made, words)), text, flags=re.S | re.M)
     with open(readme, encoding='utf-8') as file:
-        first = put(file.read(), 'Figures', first_page(made, words))
+        first = put(file.read(), 'Speed', first_page(made, words))
     for name, whole in ((speed, text), (readme, first)):
         with open(name, 'w', encoding='utf-8') as file:
             file.write(whole)

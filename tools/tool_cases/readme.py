@@ -65,9 +65,12 @@ def from_python(place, text):
         return
     world = {**os.environ, 'PYTHONPATH': os.path.join(TOP, 'python')}
     for code in fenced(text, 'python'):
-        words = [sys.executable, '-c', code + 'assert len(triangles) > 1000\n']
-        done = subprocess.run(words, cwd=place, env=world, capture_output=True, timeout=600, check=False)
+        done = subprocess.run([sys.executable, '-c', code], cwd=place, env=world, capture_output=True, timeout=600,
+                              check=False)
         expect(f'the lines of Python: {done.stderr.decode()}', done.returncode == 0)
+        told = re.findall(r'# -> (.*)$', code, re.M)
+        expect(f'they print what stands behind them: {done.stdout.decode()}, {told}',
+               told and done.stdout.decode().splitlines() == told)
 
 
 def slug(heading):
@@ -101,6 +104,9 @@ def run(work):
     expect(f'the README has at most 110 lines: {len(lines)}', len(lines) <= 110)
     expect('its lines have at most 120 columns', all(len(line) <= 120 for line in lines))
     helped = subprocess.run([os.path.join(TOP, 'delaunay'), '--help'], capture_output=True, check=False).stdout.decode()
+    first = '\n'.join(lines[:40])
+    for word in ('Linux', 'licence', 'floats', 'scans', 'use something else if', 'pip install', '# ->', 'build it'):
+        expect(f'the first screen tells of {word}', word.lower() in first.lower())
     for row in re.findall(r'^\| (`[a-z]+.*?) \|', text, re.M):
         for word in re.findall(r'`([a-z]+)', row):
             expect(f'{word} is in ./delaunay --help', f'\n  {word} ' in helped)
