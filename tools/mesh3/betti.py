@@ -3,8 +3,8 @@ import numpy as np
 from mesh3 import Trouble
 
 
-def forest(n, edges, weights):
-    """The weights of a least spanning forest of a graph of n nodes, ascending; weights are whole and not below 0.
+def spanning(n, edges, weights):
+    """The weights of a least spanning forest of a graph of n nodes; weights are whole and not below 0.
 
     `edges` (m, 2) has each pair of nodes at most once.
     """
@@ -14,7 +14,18 @@ def forest(n, edges, weights):
     except ImportError:
         raise Trouble('scipy is wanted: apt-get install python3-scipy') from None
     graph = coo_matrix((weights + 1.0, (edges[:, 0], edges[:, 1])), [n, n]).tocsr()
-    return np.sort(minimum_spanning_tree(graph).data.astype(np.int64) - 1)
+    return minimum_spanning_tree(graph).data.astype(np.int64) - 1
+
+
+def forest(n, edges, weights):
+    """The weights of such a forest, ascending."""
+    return np.sort(spanning(n, edges, weights))
+
+
+def tree_of(n, edges, ranks):
+    """Which edges are in such a forest, as indices; no two have one rank."""
+    order = np.argsort(ranks)
+    return order[np.searchsorted(ranks[order], spanning(n, edges, ranks))]
 
 
 def reached(stops, count):
@@ -61,15 +72,22 @@ def betti_numbers(filtration):
 
 
 def persistence_pairs(filtration):
-    """When each part, loop and void comes and goes, by GUDHI: rows (dimension, stop of birth, stop of death).
+    """When each part, loop and void comes and goes: rows (dimension, stop of birth, stop of death).
 
     What never goes has the number of stops as its death; what goes where it comes is left out. By dimension and birth.
     """
+    from mesh3.bars import all_bars
+    rows, are_all = all_bars(filtration)
+    return np.array(sorted(rows)).reshape(-1, 3) if are_all else pairs_by_gudhi(filtration)
+
+
+def pairs_by_gudhi(f):
+    """The same rows, by GUDHI, of a cloud whose loops are too much work here."""
     try:
         import gudhi
     except ImportError:
-        raise Trouble('GUDHI is wanted: apt-get install python3-gudhi') from None
-    f, tree = filtration, gudhi.SimplexTree()
+        raise Trouble('GUDHI is wanted for so large a cloud: apt-get install python3-gudhi') from None
+    tree = gudhi.SimplexTree()
     for i in range(f.n):
         tree.insert([i], 0.0)
     for faces, stops in ((f.edges, f.edge_stops), (f.triangles, f.triangle_stops), (f.cells, f.cell_stops)):

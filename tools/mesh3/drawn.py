@@ -1,7 +1,9 @@
 """What a page draws: points, triangles and loose edges with their stops, and the numbers of parts, loops and voids."""
 import numpy as np
+from mesh3.bars import longest
 from mesh3.betti import betti_numbers, reached
 
+LASTING = 1.25  # a shape that lasts over such a ratio of radii tells of the cloud; of random points none does
 MOST_TRIANGLES = 1500000  # of more a page keeps those that are seen at some radii
 
 
@@ -24,6 +26,7 @@ class Drawn:
         self.edges, self.edge_stops = np.zeros((0, 2), dtype=np.int64), np.zeros((0, 2), dtype=np.int64)
         self.changes, self.has_sides = None, True
         self.lives, self.frames, self.chosen, self.all_triangles = None, None, None, 0
+        self.bars = None  # rows (dimension, stop of birth, stop of death), the longest of each dimension first
 
     def numbers(self):
         """Parts, loops, voids and tetrahedra at each stop, shape (4, m)."""
@@ -80,6 +83,7 @@ def of_filtration(filtration):
     drawn.has_sides = f.sides is not None
     numbers = betti_numbers(f)
     if numbers is not None:
+        drawn.bars = longest(f)
         numbers = np.concatenate([numbers, [reached(f.cell_stops, f.never)]])
         drawn.changes = np.diff(numbers, axis=1, prepend=0)
     return drawn
@@ -143,12 +147,12 @@ def steady(drawn, count=4):
 
 
 def first_stop(drawn, runs):
-    """The stop that a page opens at: in the run that lasts longest, else where the points hang together, else last."""
-    if runs:
+    """The stop that a page opens at: in the run that lasts longest, where one does; else where nothing changes any more
+    and the cloud is one solid; of a few radii the last."""
+    if runs and max(run['lasts'] for run in runs) > LASTING:
         return max(runs, key=lambda run: run['lasts'])['at']
     numbers = drawn.numbers()
     if numbers is None or len(drawn.alphas) < 65:
         return len(drawn.alphas) - 1
-    together = np.flatnonzero(numbers[0] == numbers[0, -1])
-    half = np.flatnonzero(2 * numbers[3] >= numbers[3, -1])
-    return int(max(together[0], half[0]))
+    changed = np.flatnonzero((drawn.changes[:3] != 0).any(axis=0))
+    return int(max(changed[-1], np.flatnonzero(2 * numbers[3] >= numbers[3, -1])[0]))

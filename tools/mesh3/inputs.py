@@ -1,5 +1,6 @@
 """What tools are given: reports, steps, surfaces, edit files and clouds, told apart by how they begin; the program."""
 import os
+import re
 import shutil
 import subprocess
 import sys
@@ -110,7 +111,8 @@ def cloud_words(words):
 def placed(name, data, words, radii=(), is_told=True):
     """The edit file that tools/points makes of a cloud, as bytes, and the placing; what it says is handed on.
 
-    `radii` are in the units of the cloud. Where it is not told of the cloud, that was done before.
+    The greatest rounding is noted in `words`. `radii` are in the units of the cloud. Where it is not told of the cloud,
+    that was done before.
     """
     with tempfile.TemporaryDirectory() as work:
         edits, placing = os.path.join(work, 'edits'), os.path.join(work, 'placing')
@@ -121,6 +123,8 @@ def placed(name, data, words, radii=(), is_told=True):
         said = done.stderr.decode(errors='replace').strip()
         if done.returncode:
             raise Trouble(said.removeprefix('points: ') or f'{shown(name)}: tools/points refused it')
+        found = re.search(r'greatest rounding (\S+) of', said)
+        words.rounding = float(found[1]) if found else None
         if is_told:
             print(said, file=sys.stderr)
         return read_bytes(edits), Placing.read(placing)

@@ -11,14 +11,16 @@ from mesh3.drawn import extent_of, first_stop, steady
 from mesh3.packing import Pack
 
 PARTS = os.path.join(os.path.dirname(os.path.realpath(__file__)), 'page')
-SCRIPTS = ('world', 'axis', 'view', 'coarse', 'scene', 'picking', 'controls', 'page')
+SCRIPTS = ('world', 'axis', 'bars', 'view', 'coarse', 'scene', 'picking', 'controls', 'page')
 VIEW = (-1.05, 0.62)  # azimuth and elevation in radians
-LEGENDS = ('triangles at tetrahedra (regular)', 'loose faces (singular)')
+LEGENDS = ('surface of the solid', 'loose: bounds no tetrahedron')
 
 
 def part(name):
+    """A part of the page, without what is for its readers here: comments that are lines of their own, and indents."""
     with open(os.path.join(PARTS, name), encoding='utf-8') as file:
-        return file.read()
+        lines = [line.strip() for line in file]
+    return '\n'.join(line for line in lines if line and not line.startswith('// ')) + '\n'
 
 
 def put_faces(pack, name, faces, stops, lives, turned=None):
@@ -81,12 +83,13 @@ def words_of(drawn, notes):
     return ', '.join([*words, *notes])
 
 
-def page_of(drawn, title, placing=None, first=None, loose=True, notes=()):
+def page_of(drawn, title, placing=None, first=None, loose=True, notes=(), length=''):
     """The text of a page.
 
     `placing` gives lengths in the units of a scan, `first` the stop that it opens at, `loose` whether loose faces are
-    shown, and `notes` what stands behind the counts.
+    shown, `notes` what stands behind the counts, and `length` the name of the unit, as mm.
     """
+    bars = [] if drawn.bars is None else [list(map(int, bar)) for bar in drawn.bars]
     drawn.thinned()
     drawn.by_stops()
     runs = [] if drawn.frames is not None else steady(drawn)
@@ -97,7 +100,7 @@ def page_of(drawn, title, placing=None, first=None, loose=True, notes=()):
         'origin': placing.origin.tolist() if placing else [0.0, 0.0, 0.0], 'view': VIEW, 'steady': runs,
         'axis': [root / 4 * unit for root in extent_of(drawn)], 'loose': loose,
         'first': first_stop(drawn, runs) if first is None else first, 'turned': drawn.has_sides,
-        'legend': LEGENDS if len(drawn.alphas) > 1 else ('triangles that bound the part',),
+        'legend': LEGENDS if len(drawn.alphas) > 1 else ('surface of the part',), 'bars': bars, 'length': length,
         'frames': None if drawn.frames is None else frames_of(drawn),
     }
     script = "'use strict';\n" + '\n'.join(part(f'{name}.js') for name in SCRIPTS)

@@ -1,10 +1,12 @@
 """Cases of what the page of tools/draw does: numbers, keys, pointer, links, a phone, edits, and the README's ring."""
+import math
 import os
+import re
 import subprocess
 import time
 
-from tool_cases import PROGRAM, expect, is_built, library, tool
-from tool_cases.betti import by_gudhi, drawn_cloud, steps_by_gudhi, tree_of
+from tool_cases import CASES, PROGRAM, expect, is_built, library, tool
+from tool_cases.betti import by_gudhi, drawn_cloud, rows_of, steps_by_gudhi, tree_of
 from tool_cases.seen import BLUE, LINK, ORANGE, is_bare, is_of, patches, pixels_of, scene
 
 SETTLED = 'new Promise(done => setTimeout(() => done(page.view.text), 500))'
@@ -89,9 +91,118 @@ def keys(page):
     expect('z cuts', page.value('page.view.cut') == 0.5)
     page.key('z')
     expect('and cuts no more', page.value('page.view.cut') == 1)
+    zoom = page.value('page.view.zoom')
+    page.key('+')
+    larger = page.value('page.view.zoom')
+    page.key('-')
+    expect(f'plus and minus make larger and smaller: {larger}', larger > 1.1 * zoom and
+           abs(page.value('page.view.zoom') - zoom) < 1e-9)
+    stop_before = page.value(stop)
+    page.value("document.getElementById('scene').focus(), 1")
+    turned = page.value('[page.view.az, page.view.el]')
+    page.key('ArrowLeft')
+    page.key('ArrowUp')
+    now = page.value('[page.view.az, page.view.el]')
+    expect(f'arrows turn the scene where it has the focus: {turned}, {now}', page.value(stop) == stop_before and
+           abs(now[0] - turned[0]) > 0.05 and abs(now[1] - turned[1]) > 0.05)
+    page.value('document.activeElement.blur(), page.view.reset(), page.show(), 1')
+    expect('the box of edges does not move by itself', page.value("document.getElementById('lines').indeterminate"))
     page.key('?')
     expect('? tells what the page is', page.value("document.getElementById('about').open"))
+    about = page.value("document.getElementById('about').textContent.replace(/\\s+/g, ' ')")
+    expect('balls are cut back to their Voronoi cells', 'cut back to the region nearest to its own point' in about)
     page.value("document.getElementById('about').close()")
+
+
+def bars(page):
+    """The barcode: the longest bars of each kind are those of GUDHI's persistence; a bar and a curve tell of themselves
+    under the pointer."""
+    import gudhi  # is there where the page was made
+    tree = gudhi.SimplexTree()
+    with open(page.work + '/drawn.steps', encoding='ascii') as file:
+        text = file.read()
+    for i in range(300):
+        tree.insert([i], 0.0)
+    for face, alpha in rows_of(text):
+        tree.insert(face, float(alpha))
+    tree.compute_persistence(homology_coeff_field=2)
+    told, alphas = page.value('told.bars'), page.value('[...page.world.alphas]')
+    for kind in range(3):
+        ours = sorted((alphas[birth], alphas[death] if death < len(alphas) else math.inf)
+                      for of, birth, death in told if of == kind)
+        peers = [tuple(row) for row in tree.persistence_intervals_in_dimension(kind).tolist() if row[0] < row[1]]
+        peers.sort(key=lambda bar: (bar[1] / max(bar[0], 1.0), -bar[0]), reverse=True)
+        longest = sorted(peers[:len(ours)])
+        ratios = [[bar[1] / max(bar[0], 1.0) for bar in some] for some in (ours, longest)]
+        expect(f'bars of dimension {kind}: {ours[:3]}, {longest[:3]}', len(ours) == min(22, len(peers)) and
+               sorted(ratios[0]) == sorted(ratios[1]) and set(ours) <= set(peers))
+    page.key('b')
+    shown = page.value("!document.getElementById('row-bars').hidden && page.bars.rows.length")
+    expect(f'b shows them: {shown}', shown > 5)
+    box = page.value("(b => [b.left, b.top, b.width])(page.bars.canvas.getBoundingClientRect())")
+    row = page.value('page.bars.rows[page.bars.rows.length - 1]')
+    page.moved(box[0] + box[2] / 2, box[1] + row['y'] + row['high'] / 2)
+    tip = page.value("document.getElementById('tip').textContent")
+    expect(f'a bar tells of itself: {tip}', tip.startswith('void from '))
+    page.key('b')
+    box = page.value("(b => [b.left, b.top, b.width, b.height])(page.curves[1].canvas.getBoundingClientRect())")
+    page.moved(box[0] + box[2] / 2, box[1] + box[3] / 2)
+    tip = page.value("document.getElementById('tip').textContent")
+    number = page.value('page.world.numbers[1][page.axis.stopOf(0.5)]')
+    expect(f'a curve tells of itself: {tip}, {number}', re.search(rf'^radius [\d.]+: {number:,} loops?$', tip))
+    page.moved(3, 300)
+
+
+def measures(page, work):
+    """A cube of 2 steps, which are 2 mm: the bar of the scale is as long as it says, the axes are there, and so in
+    steps where little is to move; a page without WebGL2 has its words alone, and logs no fault."""
+    name, placing = os.path.join(work, 'scaled.html'), os.path.join(work, 'scaled.json')
+    with open(placing, 'w', encoding='ascii') as file:
+        file.write('{"origin": [0, 0, 0], "scale": 1.0, "radii": []}')
+    steps = os.path.join(CASES, '04-cube.steps')
+    status, _, err = tool('draw', steps, name, '--placing', placing, '--unit', 'mm')
+    page.open(name, '#v=0,0,1,0,0&s=p')
+    bar = page.value("[document.getElementById('scale').textContent.trim(), "
+                     "document.getElementById('scale').firstElementChild.getBoundingClientRect().width]")
+    across = page.value("""(() => { const [sx] = page.frameNow, {places: p} = page.world, t = page.view.turn;
+        const at = i => [0, 1, 2].map(r => t[r] * p[3 * i] + t[3 + r] * p[3 * i + 1] + t[6 + r] * p[3 * i + 2]);
+        const ends = [...Array(8).keys()].map(at).map(([x,, z]) => [x, z]);
+        return sx * innerWidth / 2 * (Math.max(...ends.map(e => e[0])) - Math.min(...ends.map(e => e[0]))); })()""")
+    length = float(bar[0].split()[0])
+    expect(f'a scale in mm: {bar}, {across}, {err}', status == 0 and bar[0].endswith(' mm') and 40 < bar[1] <= 130.5
+           and abs(bar[1] / length - across / 2) < 0.02 * across)
+    axes = page.value("document.getElementById('cross').textContent")
+    expect(f'axes: {axes}', sorted(axes) == ['x', 'y', 'z'])
+    feature = {'name': 'prefers-reduced-motion', 'value': 'reduce'}
+    page.call('Emulation.setEmulatedMedia', features=[feature])
+    expect('little is to move', page.value('isStill()'))
+    page.dark(False)
+    script = "HTMLCanvasElement.prototype.getContext = function(kind) { return null; }"
+    made = page.call('Page.addScriptToEvaluateOnNewDocument', source=script)
+    page.open(name)
+    told = page.value("[document.querySelector('.fault').textContent, document.getElementById('told').textContent, "
+                      "document.getElementById('panel').offsetParent === null && "
+                      "getComputedStyle(document.getElementById('panel')).display]")
+    expect(f'without WebGL2: {told}', 'WebGL2' in told[0] and '8 points' in told[1] and told[2] == 'none')
+    page.call('Page.removeScriptToEvaluateOnNewDocument', identifier=made['identifier'])
+
+
+def small_screens(page, work):
+    """On its side and at 320 pixels no control is cut, title and panel leave room for the shape, and what a finger
+    presses is 44 pixels wide and high."""
+    for wide, high in ((844, 390), (320, 568)):
+        page.sized(wide, high, 2, touch=True)
+        page.open(os.path.join(work, 'ring.html'))
+        free = page.value("(s => [s[1] - s[2] - s[3], s[0] - s[4]])(page.sizes)")
+        expect(f'room for the shape at {wide} by {high}: {free}', min(free) > 150)
+        small = page.value("""[...document.querySelectorAll('button, select, #options > label')]
+            .filter(e => e.offsetParent).map(e => [e.id, e.getBoundingClientRect()])
+            .filter(([id, b]) => b.height < 43.5 || b.width < 43.5).map(([id]) => id)""")
+        expect(f'at {wide} by {high} fingers have room: {small}', small == [])
+        out = page.value(f"document.body.scrollWidth <= {wide} && document.getElementById('panel')"
+                         f".getBoundingClientRect().bottom <= {high}")
+        expect(f'nothing is cut at {wide} by {high}', out)
+    page.sized(1280, 800)
 
 
 def pointer(page, work):
@@ -245,7 +356,8 @@ def ring(page, work):
     holes = [size for size, at_rim in patches(is_bare(scene(page, os.path.join(work, 'ring.png')))) if not at_rim]
     expect(f'its hole is seen at the first look: {sorted(holes)[-3:]}', max(holes, default=0) > 4000)
     shown = page.value("[...document.querySelectorAll('#steady [aria-pressed=true]')].map(b => b.textContent)")
-    expect(f'and told: {shown}', shown == ['1 part, 2 loops, 1 void'])
+    expect(f'and told, with its radii: {shown}', len(shown) == 1 and
+           re.fullmatch(r'1 part, 2 loops, 1 void 0\.\d+–0\.\d+', shown[0]))
     page.value('page.view.el = Math.PI / 2, page.view.points = false, page.show(), 1')
     pixels = scene(page, os.path.join(work, 'ring.png'))
     seen = is_of(pixels, BLUE) | is_of(pixels, ORANGE)
@@ -261,8 +373,13 @@ def run(page, work):
     if os.path.exists(os.path.join(work, 'drawn.html')):
         curves(page)
         keys(page)
+        page.work = work
+        bars(page)
     pointer(page, work)
     keeping(page, work)
     phone(page, work)
     edits(page, work)
     ring(page, work)
+    measures(page, work)
+    if os.path.exists(os.path.join(work, 'ring.html')):
+        small_screens(page, work)

@@ -56,7 +56,7 @@ def written(work):
     refused('points of another cloud', 'draw', '-', os.path.join(CASES, '01-tetrahedron.mesh'), page, given=given,
             said='not the points of the steps')
     refused('two reports', 'draw', CUBE, os.path.join(CASES, '04-cube.mesh'), page, said='a second report')
-    refused('a picture of steps', 'draw', steps, os.path.join(work, 'x.png'), said='delaunay shape')
+    refused('a picture of steps', 'draw', steps, os.path.join(work, 'x.png'), said='a cloud or of a report')
     refused('a program that is not there', 'draw', os.path.join(CASES, '04-cube.in'), page, '--program',
             os.path.join(work, 'none'), said='none')
     refused('a radius that is none', 'draw', steps, page, '--radius', 'wide', said='wide')

@@ -24,8 +24,11 @@ def is_of(pixels, colour):
 
 
 def scene(page, name):
-    """The pixels below the words at the top."""
-    return pixels_of(page, name)[120:]
+    """The pixels below the words at the top, without the scale and the axes."""
+    page.value("document.getElementById('measure').hidden = true")
+    pixels = pixels_of(page, name)[120:]
+    page.value("document.getElementById('measure').hidden = false")
+    return pixels
 
 
 def patches(is_there):

@@ -65,6 +65,9 @@ class Axis {
     return [[0, '0'], ...kept, [1, 'all']];
   }
 
+  // A radius with its unit.
+  lengthOf(stop) { return `${this.textOf(stop)}${told.length ? ` ${told.length}` : ''}`; }
+
   textOf(stop) { return stop && this.world.alphas[stop] >= 2 ** 34 ? 'all' : shortly(this.world.radii[stop]); }
 }
 
@@ -121,6 +124,20 @@ class Curve {
     pen.globalAlpha = 0.13;
     pen.fillStyle = pen.strokeStyle;
     pen.fill();
+    this.scale(pen, y, most, dense);
+  }
+
+  // A tick at 1, 10, 100 and so on up to the greatest number, which is written.
+  scale(pen, y, most, dense) {
+    pen.fillStyle = getComputedStyle(document.body).color;
+    pen.globalAlpha = 0.45;
+    for (let value = 1; value <= most; value *= 10) pen.fillRect(0, y(value) - dense / 2, 5 * dense, dense);
+    pen.font = `${10 * dense}px system-ui, sans-serif`;
+    pen.textBaseline = 'top';
+    pen.textAlign = 'right';
+    pen.globalAlpha = 0.75;
+    pen.fillText(most.toLocaleString('en'), this.kept.width - THUMB * dense, 0);
+    pen.globalAlpha = 1;
   }
 
   mark(stop) {

@@ -4,14 +4,15 @@ const NAMES = ['parts', 'loops', 'voids'];
 
 // Words of what is seen: the radius, the numbers, counts.
 function say(page) {
-  const {view, world, axis, seen} = page, {stop} = view, radius = axis.textOf(stop);
+  const {view, world, axis, seen} = page, {stop} = view, radius = axis.lengthOf(stop);
   page.curves.forEach(curve => curve.mark(stop));
   const slider = $('radius'), place = axis.placeOf(stop);
   slider.value = axis.isFew ? stop : Math.round(place * 2000);
-  $('now').textContent = radius;
+  $('now').textContent = axis.textOf(stop);
   const numbers = world.numbers ? NAMES.map((name, d) => wordOf(world.numbers[d][stop], name)) : [];
   const solid = world.cells ? `${world.cells[stop].toLocaleString('en')} tetrahedra` : '';
-  const count = `${(seen.solid + (view.loose ? seen.loose : 0)).toLocaleString('en')} triangles seen`;
+  const triangles = seen.solid + (view.loose ? seen.loose : 0);
+  const count = triangles ? `${triangles.toLocaleString('en')} triangles seen` : '';
   $('count').textContent = [solid, count].filter(Boolean).join(', ');
   slider.setAttribute('aria-valuetext', [`radius ${radius}`, ...numbers].join(', '));
   for (const button of document.querySelectorAll('#steady button')) {
@@ -20,6 +21,7 @@ function say(page) {
   for (const [id, value] of [['loose', view.loose], ['points', view.points], ['lines', page.withLines]]) {
     if ($(id)) $(id).checked = value;
   }
+  $('lines').indeterminate = view.lines === null; // until it is chosen, it does not move by itself
   $('axis-of-cut').selectedIndex = view.cutAxis;
   $('cut').value = Math.round(view.cut * 1000);
   $('cut-now').textContent = view.cut < 1 ? shortly(world.inUnits(view.cutPlace, view.cutAxis), 4) : 'off';
@@ -46,6 +48,7 @@ function legend(page) {
   const css = colour => `rgb(${colour.slice(0, 3).map(v => Math.round(255 * v)).join(' ')})`, {colours} = page.view;
   const {loose} = page.view, shown = [colours.solid, ...(loose ? [colours.loose] : [])];
   const rows = shown.map((colour, i) => [colour, told.legend[i]]).filter(row => row[1]);
+  if (page.view.points !== false) rows.push([colours.text, page.view.points ? 'points' : 'points that nothing joins']);
   if (page.view.cut < 1) rows.push([colours.cap, 'cut open']);
   if (page.world.frames) {
     rows.push([colours.gone, 'edges that the edit took away'], [colours.came, 'edges that it brought']);
@@ -79,18 +82,22 @@ function prepare(page) {
   }
   if (axis.isFew) $('radius').max = world.stops - 1;
   if (told.steady.length) {
-    $('steady').append(Object.assign(document.createElement('span'), {textContent: 'lasting longest:'}));
+    $('steady').append(Object.assign(document.createElement('span'), {textContent: 'last longest:'}));
   }
   for (const {from, to, at, numbers} of told.steady) {
     const button = document.createElement('button');
     button.textContent = numbers.map((n, d) => [n, d]).filter(([n, d]) => n || !d)
       .map(([n, d]) => wordOf(n, NAMES[d])).join(', ');
-    button.title = `radius ${shortly(world.radii[from])} to ${to < world.stops ? shortly(world.radii[to]) : 'all'}`;
+    const span = `${shortly(world.radii[from])}\u2013${to < world.stops ? shortly(world.radii[to]) : 'all'}`;
+    button.append(Object.assign(document.createElement('small'), {textContent: ` ${span}`}));
+    button.title = `radius ${span}${told.length ? ` ${told.length}` : ''}`;
     Object.assign(button.dataset, {from, to});
     button.onclick = () => page.goTo(axis.kept(at));
     $('steady').append(button);
   }
   if (world.frames) $('edits').hidden = false; else $('edits').remove();
+  if (page.bars) $('bars-asked').hidden = false;
+  document.querySelector('#panel .unit').textContent = told.length ? `radius, ${told.length}` : 'radius';
   listen(page);
   press(page);
   page.pointer = new Pointer(page);
@@ -110,6 +117,7 @@ function listen(page) {
   for (const id of ['loose', 'points', 'lines']) {
     if ($(id)) $(id).onchange = event => { view[id] = event.target.checked; page.show(); };
   }
+  $('bars').onchange = event => showBars(page, event.target.checked);
   $('cut').oninput = event => {
     view.cutAlong(view.cutAxis, event.target.value / 1000);
     page.move();
@@ -133,7 +141,59 @@ function slideOver(page, {canvas}) {
     page.goTo(page.axis.stopOf(Math.max(0, Math.min(1, place))));
   };
   canvas.onpointerdown = event => { canvas.setPointerCapture(event.pointerId); slide(event); };
-  canvas.onpointermove = event => { if (event.buttons) { page.move(); slide(event); } };
+  canvas.onpointermove = event => {
+    if (event.buttons) { page.move(); slide(event); return; }
+    const box = canvas.getBoundingClientRect(), place = (event.clientX - box.left - THUMB) / (box.width - 2 * THUMB);
+    const stop = page.axis.stopOf(Math.max(0, Math.min(1, place))), d = page.curves.findIndex(c => c.canvas === canvas);
+    tipAt(event, `radius ${page.axis.lengthOf(stop)}: ${wordOf(page.world.numbers[d][stop], NAMES[d])}`);
+  };
+  canvas.onpointerleave = () => { $('tip').hidden = true; };
+}
+
+// Shows words beside the pointer.
+function tipAt(event, text) {
+  const tip = $('tip');
+  tip.textContent = text;
+  tip.hidden = false;
+  const wide = tip.offsetWidth, isRight = event.clientX + 16 + wide > innerWidth;
+  const left = Math.max(4, isRight ? event.clientX - 12 - wide : event.clientX + 16);
+  Object.assign(tip.style, {left: `${left}px`, right: 'auto', top: `${Math.max(4, event.clientY - 20)}px`});
+}
+
+// The barcode, or not; the panel grows, and the scene makes room.
+function showBars(page, isShown) {
+  if (!page.bars) return;
+  $('row-bars').hidden = !isShown;
+  $('bars').checked = isShown;
+  page.bars.trace();
+  page.ask();
+  const {canvas} = page.bars;
+  canvas.onpointermove = event => {
+    const text = page.bars.toldAt(event.clientY - canvas.getBoundingClientRect().top);
+    if (text) tipAt(event, text); else $('tip').hidden = true;
+  };
+  canvas.onpointerleave = () => { $('tip').hidden = true; };
+}
+
+// A round length that is about 100 pixels wide at the middle of the cloud: [length, pixels].
+function scaleOf({view, world, frameNow}) {
+  const pixels = view.zoom * frameNow[0] * innerWidth / 2 / (world.half * told.unit);
+  const power = 10 ** Math.floor(Math.log10(130 / pixels));
+  const length = [5, 2, 1].map(digit => digit * power).find(size => size * pixels <= 130);
+  return [length, length * pixels];
+}
+
+// The scale bar, and the axes as they are turned: those that come to the eye are drawn last.
+function measure(page) {
+  const [length, wide] = scaleOf(page), t = page.view.turn;
+  $('scale').firstElementChild.style.width = `${wide.toFixed(1)}px`;
+  $('scale').lastElementChild.textContent = `${shortly(length)}${told.length ? ` ${told.length}` : ''}`;
+  const axes = [0, 1, 2].map(axis => [t[3 * axis + 2], 'xyz'[axis], t[3 * axis], -t[3 * axis + 1]]);
+  $('cross').innerHTML = axes.sort((a, b) => a[0] - b[0]).map(([, name, x, y]) =>
+    `<path d="M0 0L${(20 * x).toFixed(1)} ${(20 * y).toFixed(1)}" stroke="currentColor"/>` +
+    `<text x="${(27 * x).toFixed(1)}" y="${(27 * y + 4).toFixed(1)}" fill="currentColor">${name}</text>`).join('');
+  const {below, beside} = {below: page.sizes[2], beside: page.sizes[4]};
+  $('measure').style.bottom = `${beside ? 10 : below + 4}px`;
 }
 
 async function copyLink(page) {
@@ -165,6 +225,9 @@ function save(page) {
   pen.fillText(told.title, 16 * dense, 28 * dense);
   pen.font = `${14 * dense}px system-ui, sans-serif`;
   pen.fillText($('radius').getAttribute('aria-valuetext') || '', 16 * dense, 50 * dense);
+  const [, pixels] = scaleOf(page);
+  pen.fillRect(16 * dense, bottom - 16 * dense, pixels * dense, 2 * dense);
+  pen.fillText($('scale').lastElementChild.textContent, 16 * dense, bottom - 22 * dense);
   sheet.toBlob(blob => {
     const link = document.createElement('a');
     link.href = URL.createObjectURL(blob);
@@ -182,18 +245,31 @@ function press(page) {
   const step = (event, way) => {
     if (event.shiftKey || axis.isFew) page.goTo(axis.beside(view.stop, way)); else page.slide(way / 400);
   };
+  const enlarge = by => { page.pointer.enlarge(by); page.move(); page.ask(); keep(page); };
+  const turn = ({target}, dx, dy) => { // where the scene has the focus
+    if (target !== $('scene')) return false;
+    page.pointer.turn(dx / 0.008, dy / 0.008);
+    page.move();
+    page.ask();
+    keep(page);
+    return true;
+  };
   const frame = way => { if (page.world.frames) page.goToFrame(view.frame + way); };
   const cutAlong = axisOf => {
     view.cutAlong(axisOf, view.cut < 1 && axisOf === view.cutAxis ? 1 : 0.5);
     page.show();
   };
   const keys = {
-    ArrowLeft: event => step(event, -1), ArrowRight: event => step(event, 1),
-    ArrowDown: event => step(event, -1), ArrowUp: event => step(event, 1),
+    ArrowLeft: event => turn(event, 0.1, 0) || step(event, -1),
+    ArrowRight: event => turn(event, -0.1, 0) || step(event, 1),
+    ArrowDown: event => turn(event, 0, -0.1) || step(event, -1),
+    ArrowUp: event => turn(event, 0, 0.1) || step(event, 1),
+    '+': () => enlarge(1.15), '=': () => enlarge(1.15), '-': () => enlarge(1 / 1.15),
     PageDown: () => page.slide(-0.05), PageUp: () => page.slide(0.05),
     Home: () => page.goTo(axis.kept(0)), End: () => page.goTo(axis.kept(page.world.stops - 1)),
     ' ': () => page.player.toggle('radius'),
     o: () => toggle('loose'), p: () => toggle('points'), e: () => toggle('lines'),
+    b: () => showBars(page, $('row-bars').hidden),
     x: () => cutAlong(0), y: () => cutAlong(1), z: () => cutAlong(2), d: () => $('theme').click(),
     r: () => $('reset').click(), l: () => copyLink(page), s: () => save(page), '?': () => $('about').showModal(),
     ',': () => frame(-1), '.': () => frame(1),
@@ -223,6 +299,7 @@ class Pointer {
       keep(page);
     };
     canvas.onpointerleave = () => hide(page);
+    canvas.onmousedown = event => event.preventDefault(); // which would give it the focus
     canvas.oncontextmenu = event => event.preventDefault();
     canvas.addEventListener('wheel', event => {
       event.preventDefault();
@@ -236,7 +313,7 @@ class Pointer {
   down(event, canvas) {
     canvas.setPointerCapture(event.pointerId);
     this.held.set(event.pointerId, [event.clientX, event.clientY]);
-    canvas.focus({preventScroll: true});
+    document.activeElement?.blur(); // so that the arrows are the slider's; the tab key gives them to the scene
     hide(this.page);
   }
 
@@ -303,12 +380,7 @@ function hover(page, event) {
     const point = picking.point(view, frame, x, y, [innerWidth, innerHeight], 9, hit ? hit.far : 9, view.plane);
     if (point < 0 && !hit) return hide(page);
     page.hovered = point >= 0 ? {point} : {face: hit.face};
-    const tip = $('tip');
-    tip.textContent = picking.told(page.hovered);
-    tip.hidden = false;
-    const wide = tip.offsetWidth, isRight = event.clientX + 16 + wide > innerWidth;
-    const left = Math.max(4, isRight ? event.clientX - 12 - wide : event.clientX + 16);
-    Object.assign(tip.style, {left: `${left}px`, right: 'auto', top: `${Math.max(4, event.clientY - 20)}px`});
+    tipAt(event, picking.told(page.hovered));
     markHover(page);
   }, 60);
 }

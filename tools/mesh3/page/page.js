@@ -17,6 +17,7 @@ class Page {
     this.finer = isSoftware && !isSlow && devicePixelRatio < 1.5 ? 1.5 : 1; // at rest, which smooths edges
     this.most = isSlow ? 32768 : 4e6; // triangles in motion
     document.body.classList.toggle('software', isSoftware);
+    this.bars = told.bars.length ? new Bars($('row-bars'), this.axis) : null;
     this.hovered = null;
     this.player = new Player(this);
     prepare(this);
@@ -34,9 +35,13 @@ class Page {
     requestAnimationFrame(() => { this.asked = false; this.draw(); });
   }
 
+  // The screen's width and height, and what panel and title take of it: below, above and, beside a panel that stands
+  // at the side, to the right.
   get sizes() {
-    const panel = $('panel').getBoundingClientRect();
-    return [innerWidth, innerHeight, innerHeight - panel.top + 6, innerWidth < 620 ? 96 : 26];
+    const panel = $('panel').getBoundingClientRect(), isBeside = panel.left > 0.3 * innerWidth;
+    const head = innerWidth < 620 || isBeside ? document.querySelector('header').getBoundingClientRect().bottom : 26;
+    const below = isBeside ? 12 : innerHeight - panel.top + 6;
+    return [innerWidth, innerHeight, below, head, isBeside ? innerWidth - panel.left : 0];
   }
 
   get frameNow() { return this.view.frameOf(...this.sizes); }
@@ -68,6 +73,7 @@ class Page {
     scene.draw({turn: view.turn, x: view.x, y: view.y, zoom: view.zoom, frame: this.frameNow, cut: view.plane,
       colours: view.colours, coarse, alone: view.points === null,
       dots: view.points === false ? 0 : Math.max(1, few * dense * Math.sqrt(view.zoom))});
+    measure(this);
     if (isMoving) this.rest(took);
     this.frames = (this.frames || 0) + 1;
     document.body.dataset.shown = `${this.view.stop}`;
@@ -96,6 +102,7 @@ class Page {
     putTicks(this);
     this.curves.forEach((curve, d) => curve.trace(this.world.numbers[d]));
     this.curves.forEach(curve => curve.mark(this.view.stop));
+    this.bars?.trace();
   }
 
   // Shows the stop and frame of the view: faces, numbers, words.
@@ -108,7 +115,7 @@ class Page {
       this.hovered = null;
     }
     this.changed();
-    const shown = `${view.loose} ${view.cut < 1}`;
+    const shown = `${view.loose} ${view.points} ${view.cut < 1}`;
     if (this.explained !== shown) legend(this);
     this.explained = shown;
     say(this);
@@ -163,7 +170,9 @@ class Player {
     const {page} = this, passed = Math.min(200, Math.max(0, now - this.last));
     this.last = now;
     if (this.of === 'radius') {
-      this.place = Math.min(1, this.place + passed / 14000);
+      if (isStill() && now - this.stepped < 700) { requestAnimationFrame(at => this.step(at)); return; }
+      this.place = Math.min(1, this.place + (isStill() ? 0.05 : passed / 14000));
+      this.stepped = now;
       page.move();
       page.goTo(page.axis.stopOf(this.place));
       if (this.place >= 1) this.toggle('radius');
@@ -215,6 +224,9 @@ function marksOfHover({world, view, hovered}) {
   return [{ends: Float32Array.from(ends), colour: view.colours.hover, over: true}];
 }
 
+// Whether whoever looks at the page wants little to move: then it goes on in steps.
+function isStill() { return matchMedia('(prefers-reduced-motion: reduce)').matches; }
+
 async function start() {
   try {
     if (typeof DecompressionStream === 'undefined') throw new Error('it wants a browser of 2023 or later');
@@ -225,8 +237,10 @@ async function start() {
     line.className = 'fault';
     line.textContent = `This page cannot be drawn here: ${error.message}.`;
     document.body.append(line);
+    document.body.classList.add('dead');
+    $('told').textContent = told.words;
     document.body.dataset.shown = 'fault';
-    throw error;
+    console.info(error);
   }
 }
 start();

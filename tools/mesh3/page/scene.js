@@ -328,7 +328,7 @@ class Scene {
     gl.uniform1f(at.size, view.dots);
     gl.uniform1i(at.round, view.dots > 2.5 ? 1 : 0);
     gl.uniform4f(at.colour, ...view.colours.text, 1);
-    gl.uniform3f(at.alone, ...view.colours.loose);
+    gl.uniform3f(at.alone, ...view.colours.text);
     gl.uniform1i(at.others, view.alone ? 0 : 1);
     gl.bindVertexArray(this.shapes.dots.array);
     gl.drawArrays(gl.POINTS, 0, this.world.n);

@@ -74,10 +74,10 @@ class View {
   }
 
   // Scales and offsets from places to the screen: the cloud fits into what the panel leaves.
-  frameOf(wide, high, panel, head) {
+  frameOf(wide, high, panel, head, beside = 0) {
     const free = Math.max(high - panel - head, high * 0.25);
-    const size = 0.94 * Math.min(wide / this.reach[0], free / this.reach[1], 1.6 * free);
-    return [size / wide, size / high, 0, (panel - head) / high];
+    const size = 0.94 * Math.min((wide - beside) / this.reach[0], free / this.reach[1], 1.6 * free);
+    return [size / wide, size / high, -beside / wide, (panel - head) / high];
   }
 
   get text() {
