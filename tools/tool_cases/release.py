@@ -366,7 +366,7 @@ def man_page(root):
 def first_surface(root):
     """The lines of docs/RELEASE.md from the archive's folder to a surface, within a minute."""
     with open(f'{root}/README.md', encoding='utf-8') as file:
-        block = file.read().split('## A first surface\n\n')[1].split('\n\n')[0]
+        block = re.search(r'(?:^    .*\n)+', file.read().split('## A first surface\n')[1], re.M)[0]
     lines, begun = [line.strip() for line in block.splitlines()], time.time()
     for line in lines:
         told = call(['bash', '-c', f'set -o pipefail; {line}'], cwd=root)
