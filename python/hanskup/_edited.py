@@ -10,6 +10,7 @@ import numpy as np
 from ._errors import check
 from ._kinds import Ints, Numbers
 from ._library import MeshRows, MeshSizes, as_read, library, room, slices, whole, written_rows
+from ._progress import patiently
 
 REPLIES = ('inserted', 'duplicate', 'removed', 'missing', 'flat', 'moved', 'occupied')
 ADD, TAKE, MOVE = 0, 1, 2  #: kinds of edits
@@ -56,8 +57,14 @@ class Edited:
         """The mesh of places, (n, 3), in any order and with equal ones. Raises Flat and Full too."""
         self._handle, self._lock = _Handle(), threading.Lock()
         given = as_read(places)
-        check(library.delaunay_c_open(self._handle, *whole(given)))
+        # In this, so that it is there until the call ends, also where nobody waits for it.
+        check(patiently(lambda: self._opened(given), len(given)))
         self._count = len(places)  # at most so many points are there
+
+    def _opened(self, given: Ints) -> int:
+        with self._lock:
+            status: int = library.delaunay_c_open(self._handle, *whole(given))
+        return status
 
     def __del__(self) -> None:
         if getattr(self, '_handle', None) and self._handle.mesh:
@@ -86,8 +93,12 @@ class Edited:
 
     def rows(self) -> MeshRows:
         """The mesh, as mesh_rows gives it."""
+        return written_rows(self._count, self._complex)
+
+    def _complex(self, *rooms: Any) -> int:
         with self._lock:
-            return written_rows(self._count, lambda *rooms: library.delaunay_c_complex(self._handle, *rooms))
+            status: int = library.delaunay_c_complex(self._handle, *rooms)
+        return status
 
     def locate(self, places: Ints) -> tuple[Ints, Ints]:
         """Where places, (k, 3), lie: kinds, (k,), and corners, (k, 4, 3). Of kind 0 a point stands there, and the

@@ -101,8 +101,8 @@ class Threads:
         try:
             for future in as_completed([pool.submit(task, *words) for words in asked]):
                 yield future.result()
-        finally:
-            pool.shutdown(cancel_futures=True)
+        finally:  # an interrupt waits for no task
+            pool.shutdown(wait=False, cancel_futures=True)
 
 
 class Dask:

@@ -6,13 +6,14 @@ from __future__ import annotations
 
 import ctypes
 import os
-from typing import Callable, NamedTuple
+from typing import Any, Callable, NamedTuple
 
 import numpy as np
 import numpy.typing as npt
 
 from ._errors import GREATEST, Flat, Full, HanskupError, OutOfRange, WantOfMemory, check
 from ._kinds import Ints, Numbers
+from ._progress import patiently
 
 __all__ = ['GREATEST', 'NONE', 'BEYOND', 'Flat', 'Full', 'HanskupError', 'OutOfRange', 'WantOfMemory', 'MeshRows',
            'FaceRows', 'mesh_rows', 'face_rows', 'filtered_rows', 'part_rows', 'least_alpha', 'HAS_PARTS', 'library',
@@ -138,12 +139,21 @@ def _faces_of(rooms: list[Numbers], sizes: _FaceSizes) -> FaceRows:
     return FaceRows(point_alphas, edges, edge_alphas, sides, side_alphas, cell_alphas[:, 0])
 
 
+def _status_of(n: int, kept: Any, call: Callable[..., int], *words: Any) -> int:
+    """The status of a call on n points; what is kept, its rooms, stays until it ends, also where nobody waits for it."""
+    def made() -> int:
+        status = call(*words)
+        return status if kept is not None else 0
+    return patiently(made, n)
+
+
 def written_rows(n: int, call: Callable[..., int]) -> MeshRows:
     """The rows that a call writes of n points or less, in a second try into the rooms that it wants."""
     sizes = _guessed(n)
     for _ in range(2):
         rooms = _mesh_rooms(sizes)
-        status = call(*slices(*rooms), ctypes.byref(sizes))
+        words = [*slices(*rooms), ctypes.byref(sizes)]
+        status = _status_of(n, rooms, call, *words)
         if status != _ROOM:
             break
     check(status)
@@ -167,7 +177,8 @@ def face_rows(places: Numbers, cells: int, hull: int) -> FaceRows:
     given, sizes = as_read(places), _face_sizes(len(places), cells, hull)
     for _ in range(2):
         rooms = _face_rooms(sizes)
-        status = library.delaunay_c_alphas(*whole(given), *slices(*rooms), ctypes.byref(sizes))
+        words = [*whole(given), *slices(*rooms), ctypes.byref(sizes)]
+        status = _status_of(len(given), (given, rooms), library.delaunay_c_alphas, *words)
         if status != _ROOM:
             break
     check(status)
@@ -187,8 +198,8 @@ def filtered_rows(places: Numbers) -> tuple[MeshRows, FaceRows]:
     face_sizes = _face_sizes(sizes.points, sizes.cells, sizes.hull)
     for _ in range(2):
         rooms, face_rooms = _mesh_rooms(sizes), _face_rooms(face_sizes)
-        words = [*whole(given), *slices(*rooms, *face_rooms)]
-        status = library.delaunay_c_filtered(*words, ctypes.byref(sizes), ctypes.byref(face_sizes))
+        words = [*whole(given), *slices(*rooms, *face_rooms), ctypes.byref(sizes), ctypes.byref(face_sizes)]
+        status = _status_of(len(given), (given, rooms, face_rooms), library.delaunay_c_filtered, *words)
         if status != _ROOM:
             break
     check(status)
@@ -203,7 +214,8 @@ def part_rows(places: Numbers, alpha: int, cells: int) -> tuple[Unsigned, Ints]:
     """
     given, sizes = as_read(places), _PartSizes(cells, cells)
     rows, counts = room(cells, 4, np.uint32), room(cells, 1, np.uint64)
-    check(library.delaunay_c_solid_parts(*whole(given), alpha, *slices(rows, counts), ctypes.byref(sizes)))
+    words = [*whole(given), alpha, *slices(rows, counts), ctypes.byref(sizes)]
+    check(_status_of(len(given), (given, rows, counts), library.delaunay_c_solid_parts, *words))
     return rows[:sizes.cells], counts[:sizes.parts, 0].astype(np.int64)
 
 
@@ -214,5 +226,6 @@ def least_alpha(places: Numbers, parts: int) -> int | None:
     Raises as mesh_rows does.
     """
     given, least = as_read(places), ctypes.c_uint64()
-    check(library.delaunay_c_least_alpha(*whole(given), min(parts, NONE), ctypes.byref(least)))
+    words = [*whole(given), min(parts, NONE), ctypes.byref(least)]
+    check(_status_of(len(given), given, library.delaunay_c_least_alpha, *words))
     return least.value if least.value < BEYOND else None

@@ -3,6 +3,7 @@ are these is proved, as of hanskup.tiles; what weaves them is Python over the pr
 from __future__ import annotations
 
 import os
+import shutil
 import tempfile
 
 import numpy as np
@@ -70,8 +71,9 @@ def rows_by_threads(places: Ints, workers: int, progress: bool = True) -> MeshRo
     if workers == 1 or not FEW <= len(numbers) < _MOST:
         return mesh_rows(places)
     engine = Threads(workers)
-    with tempfile.TemporaryDirectory(dir='/dev/shm' if os.access('/dev/shm', os.W_OK) else None) as room:
-        folder = os.path.join(room, 'tiles')
+    room = tempfile.mkdtemp(dir='/dev/shm' if os.access('/dev/shm', os.W_OK) else None)
+    folder = os.path.join(room, 'tiles')
+    try:
         cut(places, folder, workers)
         for _ in counting(engine.each(_tile.find, [(folder, tile) for tile in range(workers)]), workers, 'tiles', progress):
             pass
@@ -79,5 +81,7 @@ def rows_by_threads(places: Ints, workers: int, progress: bool = True) -> MeshRo
         paths = [_tile.found_path(folder, tile) for tile in range(workers)] + [_left.cells_path(folder)]
         cells = np.concatenate([np.load(path) for path in paths])
         hull = np.load(_left.hull_path(folder))
+    finally:
+        shutil.rmtree(room, ignore_errors=True)
     index = inverse.reshape(-1).astype(np.int32)
     return Woven(places[first], _ascending(index[cells]), np.empty((0, 4), np.uint32), _ascending(index[hull]))

@@ -1,6 +1,8 @@
 """Tests of threads and of progress: meshes of their own side by side, the interpreter's lock, bars."""
 import io
+import os
 import pathlib
+import signal
 import sys
 import threading
 import time
@@ -168,19 +170,72 @@ class Progress(unittest.TestCase):
         self.assertEqual(self.told(), [(7, 'edit', [])])
 
     def test_time_of_one_call(self):
-        with mock.patch.object(sys, 'stderr', Terminal()):
+        with mock.patch.object(sys, 'stderr', Terminal()) as told:
             with _progress.waiting('filtration'):
                 time.sleep(2)
             with _progress.waiting('short'):
                 pass
             with _progress.waiting('unwanted', progress=False):
                 time.sleep(1.2)
-        self.assertEqual([bar.words['bar_format'] for bar in Bar.made], ['filtration: {elapsed}'])
-        self.assertTrue(Bar.made[0].closed and Bar.made[0].steps)
-        with mock.patch.object(sys, 'stderr', io.StringIO()):  # no terminal
+            lines = [line.strip() for line in told.getvalue().split('\r') if line.strip()]
+        self.assertTrue(lines)
+        for line in lines:
+            self.assertRegex(line, r'^filtration, [12] s$')
+        with mock.patch.object(sys, 'stderr', io.StringIO()) as told:  # no terminal
             with _progress.waiting('filtration'):
                 time.sleep(1.2)
-        self.assertEqual(len(Bar.made), 1)
+            self.assertEqual(told.getvalue(), '')
+
+    def test_a_line_of_its_own_with_a_fraction(self):
+        with mock.patch.dict(sys.modules, tqdm=None), mock.patch.object(_progress, '_DELAY', 0), \
+                mock.patch.object(_progress, '_EVERY', 0), mock.patch.object(sys, 'stderr', Terminal()) as told:
+            self.mesh.add(drawn(7, seed=8))
+            lines = [line.strip() for line in told.getvalue().split('\r')]
+            self.assertEqual(lines, ['', '43% of 7 edits, 0 s', '86% of 7 edits, 0 s', '100% of 7 edits, 0 s', '', ''])
+            with mock.patch.object(sys, 'stderr', io.StringIO()) as silent:
+                self.mesh.add(drawn(7, seed=9))
+            self.assertEqual(silent.getvalue(), '')
+            self.mesh.add(drawn(7, seed=10), progress=False)
+            self.assertEqual(len(told.getvalue().split('\r')), 6)
+
+
+class Interrupted(unittest.TestCase):
+    """A key is heard within a fifth of a second, whatever the library does; and no mesh is wrong after it."""
+
+    def after(self, call, seconds):
+        """How long an interrupt of a call is not heard, or None where it ended before."""
+        told = []
+
+        def ask():
+            told.append(time.monotonic())
+            os.kill(os.getpid(), signal.SIGINT)
+
+        timer = threading.Timer(seconds, ask)
+        timer.start()
+        try:
+            call()
+        except KeyboardInterrupt:
+            return time.monotonic() - told[0]
+        timer.cancel()
+        timer.join()
+        self.assertFalse(told)
+        return None
+
+    def test_calls_over_many_points(self):
+        points = np.random.default_rng(1).random((120_000, 3))
+        mesh, heard = hanskup.delaunay(points), []
+        for call in (lambda: hanskup.delaunay(points), lambda: hanskup.delaunay(points, workers=2), mesh.filtration,
+                     lambda: mesh.locate(points[:5]), lambda: mesh.optimal_alpha(1),
+                     lambda: mesh.add(points * 0.9 + 0.05), lambda: mesh.interpolate(points)(points)):
+            heard += [self.after(call, 0.15)]
+        heard = [late for late in heard if late is not None]
+        self.assertGreater(len(heard), 3)
+        self.assertLess(sorted(heard)[len(heard) // 2], 0.2)  # the machine may do other work as well
+        self.assertLess(max(heard), 2.0)
+        there = int(mesh.living.sum())
+        self.assertEqual(mesh.counts()[0], len(np.unique(mesh._places, axis=0)))
+        self.assertEqual(len(mesh.locate(mesh.points[:3]).kinds), 3)
+        self.assertEqual(there, len(mesh.points))
 
 
 if __name__ == '__main__':
