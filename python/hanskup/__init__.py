@@ -10,9 +10,11 @@
     mesh.solid_parts(0.3)                          # the tetrahedra, part by part
     mesh.filtration().to_gudhi()                   # a SimplexTree
     mesh.add(more), mesh.take(indices), mesh.move(indices, places)      # edits, each with its reply
-    mesh.locate(places), mesh.nearest(places), mesh.find_simplex(places)
+    mesh.locate(places), mesh.nearest(places, k=3), mesh.find_simplex(places)
     mesh.interpolate(values)(places)               # linear, or method='natural'
     mesh.voronoi().volumes                         # scipy's names
+    shape.surface(split=True).save('made.stl')     # manifold; .volume, .area, .is_watertight
+    mesh.rounding                                  # what the grid did: spacing, turned, together
     mesh.to_meshio(), mesh.to_pyvista(), mesh.to_open3d()
     shape.to_meshio(), shape.to_trimesh(), shape.to_pyvista(), shape.to_open3d()
 
@@ -33,6 +35,7 @@ from ._surface import Surface
 from ._version import __version__ as __version__
 from ._voronoi import Voronoi
 
-__all__ = ['delaunay', 'Delaunay', 'alpha_shape', 'read_points', 'Mesh', 'Shape', 'Surface', 'SolidParts', 'Voids', 'Filtration', 'Located', 'Voronoi',
-           'Interpolator', 'Placing', 'Rounding', 'RoundingWarning', 'HanskupError', 'Flat', 'Full', 'OutOfRange', 'WantOfMemory',
+__all__ = ['delaunay', 'Delaunay', 'alpha_shape', 'read_points', 'Mesh', 'Shape', 'Surface', 'SolidParts', 'Voids',
+           'Filtration', 'Located', 'Voronoi', 'Interpolator', 'Placing', 'Rounding', 'RoundingWarning', 'HanskupError',
+           'Flat', 'Full', 'OutOfRange', 'WantOfMemory',
            'SINGULAR', 'REGULAR', 'INTERIOR', 'POINT', 'CELL', 'BEYOND_HULL']

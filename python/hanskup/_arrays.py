@@ -107,9 +107,9 @@ class Arrays:
 
     @kept
     def rounding(self) -> Rounding:
-        """How the points were rounded: as a number the greatest difference of a coordinate and its place on the grid, in
-        the unit of the points. Its `spacing` is the median distance of a point to its nearest neighbour, `turned` how
-        many simplices turn over in the given coordinates, `together` how many points fell together with others.
+        """How the points were rounded: as a number the greatest difference of a coordinate and its place on the grid,
+        in the unit of the points. Its `spacing` is the median distance of a point to its nearest neighbour, `turned`
+        how many simplices turn over in the given coordinates, `together` how many points fell together with others.
 
         >>> import hanskup
         >>> mesh = hanskup.delaunay([[0., 0., 0.], [1, 0, 0], [0, 1, 0], [0, 0, 1], [.3, .3, .4], [1, 0, 0]], unit=0.01)
@@ -187,8 +187,8 @@ class Arrays:
 
     @kept
     def simplices(self) -> Rows:
-        """(c, 4) int32, the tetrahedra, by indices of points, turned positively on the grid. In the coordinates that were
-        given some may be turned over, or flat, as `rounding.turned` counts."""
+        """(c, 4) int32, the tetrahedra, by indices of points, turned positively on the grid. In the coordinates that
+        were given some may be turned over, or flat, as `rounding.turned` counts."""
         return self._given[self._turn(self.cells)]
 
     @kept
@@ -275,7 +275,8 @@ class Arrays:
 
     @kept
     def coplanar(self) -> Rows:
-        """(k, 3) int32, the points that fell together with an earlier one: its index, a simplex that has the other, the other.
+        """(k, 3) int32, the points that fell together with an earlier one: its index, a simplex that has the other, the
+        other.
 
         No other points are left out, as scipy may leave out nearly coplanar ones.
         """

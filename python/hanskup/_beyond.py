@@ -1,5 +1,5 @@
-"""Alphas above those that the library counts: of cells whose spheres have a radius of more than 32,768 steps of the grid,
-and of the faces around which there are such. Python over the proved rows, in floating point; tested beside GUDHI.
+"""Alphas above those that the library counts: of cells whose spheres have a radius of more than 32,768 steps of the
+grid, and of the faces around which there are such. Python over the proved rows, in floating point; tested beside GUDHI.
 
 The library tells where an alpha is beyond its count, and where it is not its number is proved. All faces of which it
 tells so are faces of these cells, or never come.
@@ -97,7 +97,8 @@ class Beyond:
         normal = cross(u, v).astype(float)
         square = dot(normal, normal)
         with np.errstate(invalid='ignore'):
-            out = (dot(u, u)[:, None] * cross(v, normal) + dot(v, v)[:, None] * cross(normal, u)) / (2 * square)[:, None]
+            out = dot(u, u)[:, None] * cross(v, normal) + dot(v, v)[:, None] * cross(normal, u)
+            out = out / (2 * square)[:, None]
         own = dot(out, out)
         free = np.ones(len(asked), bool)
         place = np.full(len(faces.triangles), -1)

@@ -19,7 +19,8 @@ _PIECE = 1 << 20  # points at a time
 _SAMPLE = 200_000  # points by which the cuts are laid
 
 MARK = 'hanskup-tiles'  #: the file by which a folder is known to be of a run in tiles
-_OF_A_RUN = re.compile(r'plan\.json(\.new)?|(\d{5}\.(places|numbers|cells\.npy|left|mesh)|left\.(cells|hull)\.npy)(\.\d+)?')
+_OF_A_RUN = re.compile(r'plan\.json(\.new)?|'
+                       r'(\d{5}\.(places|numbers|cells\.npy|left|mesh)|left\.(cells|hull)\.npy)(\.\d+)?')
 
 Columns = list[npt.NDArray[np.int16]]  # of points the coordinates along each axis
 
@@ -173,8 +174,8 @@ def points_of(folder: str, tile: int, plan: Plan) -> tuple[Ints, Ints]:
 
 
 def _cleared(folder: str) -> None:
-    """Makes a folder for the files of a run, with a mark in it; in one that has the mark it takes an earlier run's files
-    away, and nothing else. Raises FileExistsError for a folder that has files of others."""
+    """Makes a folder for the files of a run, with a mark in it; in one that has the mark it takes an earlier run's
+    files away, and nothing else. Raises FileExistsError for a folder that has files of others."""
     os.makedirs(folder, exist_ok=True)
     names, mark = os.listdir(folder), os.path.join(folder, MARK)
     if names and MARK not in names:

@@ -230,7 +230,8 @@ def _never_flat(before: Ints, after: Ints) -> bool:
             away = dot(away, np.broadcast_to(np.cross(away[chosen[1]], away[chosen[2]]), away.shape))[:, None]
         chosen.append(int(dot(away, away).argmax()))
     corners = np.stack([before[chosen], after[chosen]])
-    each = np.array([[corners[side, k] for k, side in enumerate(sides)] for sides in itertools.product((0, 1), repeat=4)])
+    each = np.array([[corners[side, k] for k, side in enumerate(sides)]
+                     for sides in itertools.product((0, 1), repeat=4)])
     return bool((volumes(each.reshape(-1, 3), np.arange(64).reshape(16, 4)) != 0).all())
 
 

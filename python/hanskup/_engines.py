@@ -89,8 +89,8 @@ class Processes:
 
 
 class Threads:
-    """Threads of this process, so many side by side. Nothing is begun and nothing is sent: the library and most of numpy
-    let go of the interpreter's lock while they work. A task that a signal ends takes the whole program with it."""
+    """Threads of this process, so many side by side. Nothing is begun and nothing is sent: the library and most of
+    numpy let go of the interpreter's lock while they work. A task that a signal ends takes the program with it."""
 
     def __init__(self, workers: int | None = None) -> None:
         self.workers = workers or os.cpu_count() or 1

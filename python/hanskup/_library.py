@@ -140,7 +140,7 @@ def _faces_of(rooms: list[Numbers], sizes: _FaceSizes) -> FaceRows:
 
 
 def _status_of(n: int, kept: Any, call: Callable[..., int], *words: Any) -> int:
-    """The status of a call on n points; what is kept, its rooms, stays until it ends, also where nobody waits for it."""
+    """The status of a call on n points; what is kept, its rooms, stays until it ends, also where nobody waits."""
     def made() -> int:
         status = call(*words)
         return status if kept is not None else 0

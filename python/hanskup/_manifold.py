@@ -153,8 +153,8 @@ def split(points: Ints, triangles: Ints) -> tuple[Floats, Ints]:
 
 
 def origins(points: Ints, places: Floats) -> Ints:
-    """(k,) the number of the point, whole, that each of the places of `split` stood at, or -1 of one in the middle of an
-    edge."""
+    """(k,) the number of the point, whole, that each of the places of `split` stood at, or -1 of one in the middle of
+    an edge."""
     near = np.rint(places)
     rows = np.concatenate([points, near.astype(np.int64)])
     _, first, which = np.unique(rows, axis=0, return_index=True, return_inverse=True)

@@ -26,8 +26,8 @@ from ._woven import rows_by_threads
 
 
 class RoundingWarning(UserWarning):
-    """Points fell together on the grid, were moved by more than a fiftieth of the median distance of a point to its nearest
-    neighbour, or more than a hundredth of the simplices turn over in the given coordinates."""
+    """Points fell together on the grid, were moved by more than a fiftieth of the median distance of a point to its
+    nearest neighbour, or more than a hundredth of the simplices turn over in the given coordinates."""
 
 
 class Mesh(Looks, Lifts):
@@ -55,7 +55,8 @@ class Mesh(Looks, Lifts):
             if faces:
                 self.__dict__['_rows'], self.__dict__['_faces'] = filtered_rows(places)
             else:
-                self.__dict__['_rows'] = rows_by_threads(places, workers, progress) if workers > 1 else mesh_rows(places)
+                many = workers > 1
+                self.__dict__['_rows'] = rows_by_threads(places, workers, progress) if many else mesh_rows(places)
 
     def __repr__(self) -> str:
         unit = f', unit {self.placing.unit:.3g}' if self.placing else ''
@@ -227,8 +228,8 @@ def delaunay(points: ArrayLike, unit: float | None = None, progress: bool = True
         Flat: all points lie in one plane, or there are fewer than four.
         WantOfMemory, Full: there was no memory for the mesh, or 32 bits do not number it.
     Warns:
-        RoundingWarning: floats fell together on the grid, were moved by more than a fiftieth of the median distance of a
-            point to its nearest neighbour, or more than a hundredth of the simplices turn over in the given
+        RoundingWarning: floats fell together on the grid, were moved by more than a fiftieth of the median distance of
+            a point to its nearest neighbour, or more than a hundredth of the simplices turn over in the given
             coordinates. `rounding` of the mesh has all these numbers.
     """
     array = numbers_of(points)

@@ -28,7 +28,8 @@ def own_unit(points: Numbers, low: Floats, extent: float) -> float | None:
     slack = 4 * float(np.finfo(points.dtype).eps) * float(np.abs([low, low + extent]).max())
     for digit in (1, 2, 5):
         step = digit * math.pow(10.0, math.ceil(math.log10(least / digit) - 1e-9))
-        if step * GREATEST >= extent and slack / step < _DOUBT and _are_multiples(points, 0.0 * low, step, slack / step):
+        could = step * GREATEST >= extent and slack / step < _DOUBT
+        if could and _are_multiples(points, 0.0 * low, step, slack / step):
             return step / (1 << math.floor(math.log2(GREATEST * step / extent)))
     return None
 

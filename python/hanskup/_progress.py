@@ -1,5 +1,5 @@
-"""Bars on long calls, on a terminal, once a call has taken more than a second: by tqdm where it is installed, else a line
-of the package's own. And calls of the library that an interrupt ends at once."""
+"""Bars on long calls, on a terminal, once a call has taken more than a second: by tqdm where it is installed, else a
+line of the package's own. And calls of the library that an interrupt ends at once."""
 from __future__ import annotations
 
 import sys
@@ -114,8 +114,8 @@ def waiting(what: str, progress: bool = True) -> Iterator[None]:
 
 
 def patiently(call: Callable[[], T], size: int) -> T:
-    """What a call gives. Of many points it runs in a thread of its own, while this one waits and hears an interrupt: then
-    the call goes on to its end, and what it gives is let go."""
+    """What a call gives. Of many points it runs in a thread of its own, while this one waits and hears an interrupt:
+    then the call goes on to its end, and what it gives is let go."""
     if size < LONG or threading.current_thread() is not threading.main_thread():
         return call()
     told: list[T] = []

@@ -55,18 +55,18 @@ class Rounding(float):
         if self.together:
             told.append(f'{self.together} points fell together with others')
         if float(self) > CLOSE * self.spacing:
-            told.append(f'coordinates were moved by up to {float(self):.3g}, where the median distance of a point to its '
-                        f'nearest neighbour is {self.spacing:.3g}')
+            told.append(f'coordinates were moved by up to {float(self):.3g}, where the median distance of a point to '
+                        f'its nearest neighbour is {self.spacing:.3g}')
         if self.turned > MANY * self.simplices:
-            told.append(f'{self.turned} of {self.simplices} simplices ({self.turned / self.simplices:.0%}) turn over or '
-                        'are flat in the given coordinates; where the grid has the points none does '
+            told.append(f'{self.turned} of {self.simplices} simplices ({self.turned / self.simplices:.0%}) turn over '
+                        'or are flat in the given coordinates; where the grid has the points none does '
                         '(to_meshio(on_grid=True))')
         return told
 
 
 def turned_over(mesh: Arrays, every: int = 1) -> int:
-    """How many of the simplices, or of every second or so, are not turned in the coordinates that were given as they are
-    on the grid."""
+    """How many of the simplices, or of every second or so, are not turned in the coordinates that were given as they
+    are on the grid."""
     count, cells, places = 0, mesh.cells[::every], mesh.points[mesh._given]
     for start in range(0, len(cells), _PIECE):
         piece = cells[start:start + _PIECE]
@@ -127,6 +127,7 @@ def why_flat(points: Numbers, placing: Placing, places: Ints) -> str:
     if sizes[2] < 1e-13 * sizes[0]:
         return f'all {count} points lie in one plane: they have no tetrahedra'
     together = distinct - len(np.unique(places, axis=0))
-    return (f'on the grid, whose step is {placing.unit:.3g}, all points come to lie in one plane, though as given they do '
-            f'not: {together} of {count} fell together with others, and the extent is {np.ptp(points, axis=0).max():.3g}. '
-            'Leave far points out, take a part, or stretch the points across that plane')
+    return (f'on the grid, whose step is {placing.unit:.3g}, all points come to lie in one plane, though as given they '
+            f'do not: {together} of {count} fell together with others, and the extent is '
+            f'{np.ptp(points, axis=0).max():.3g}. Leave far points out, take a part, or stretch them across that '
+            'plane')

@@ -20,8 +20,9 @@ if TYPE_CHECKING:
 class Filtration(NamedTuple):
     """The faces of a mesh, with the least alphas at which they are admitted, regular and interior.
 
-    An alpha is a squared radius in the unit of the points; infinity where there is none, as of a face of the hull, which
-    never is interior. Rows are indices of the given points; each face stands once. Faces are in the order of the grid's points, not of the indices.
+    An alpha is a squared radius in the unit of the points; infinity where there is none, as of a face of the hull,
+    which never is interior. Rows are indices of the given points; each face stands once. Faces are in the order of the
+    grid's points, not of the indices.
     """
     points: Rows  #: (m,) indices
     point_alphas: Floats  #: (m, 3) floats

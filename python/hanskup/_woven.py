@@ -75,7 +75,8 @@ def rows_by_threads(places: Ints, workers: int, progress: bool = True) -> MeshRo
     folder = os.path.join(room, 'tiles')
     try:
         cut(places, folder, workers)
-        for _ in counting(engine.each(_tile.find, [(folder, tile) for tile in range(workers)]), workers, 'tiles', progress):
+        asked = [(folder, tile) for tile in range(workers)]
+        for _ in counting(engine.each(_tile.find, asked), workers, 'tiles', progress):
             pass
         list(engine.each(_left.complete, [(folder,)]))
         paths = [_tile.found_path(folder, tile) for tile in range(workers)] + [_left.cells_path(folder)]

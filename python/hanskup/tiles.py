@@ -7,7 +7,7 @@
     for cells in made.parts(): ...                                    # (c, 4), by indices of points
     made.simplices(), made.convex_hull(), made.to_parquet(folder)
 
-    python3 -m hanskup.tiles scan.las OUT --count 8 --workers 4       # --threads; --scheduler ADDRESS: dask's; --parquet
+    python3 -m hanskup.tiles scan.las OUT --count 8 --workers 4     # --threads; --scheduler ADDRESS: dask's; --parquet
 
 The cells are those of `hanskup.delaunay(points)`, each once, in files. A tile is a box of the grid with its points; it
 sees the points of a halo around it too. Its own complex, by the proved library, has cells whose circumscribing spheres
@@ -175,8 +175,8 @@ def main(words: list[str] | None = None) -> None:
     parser = argparse.ArgumentParser(prog='python3 -m hanskup.tiles', description='The Delaunay cells of a cloud in '
                                      'tiles, as files of numpy or Parquet in a folder.', epilog='The last line has:\n'
                                      + _LEGEND, formatter_class=argparse.RawDescriptionHelpFormatter)
-    parser.add_argument('points', help='.npy, .xyz, .csv, .las, .ply, or what meshio reads; - to go on with what was cut '
-                        'into the folder')
+    parser.add_argument('points', help='.npy, .xyz, .csv, .las, .ply, or what meshio reads; - to go on with what was '
+                        'cut into the folder')
     parser.add_argument('folder', help='for the files of the run and the cells: new, empty, or of an earlier run')
     parser.add_argument('--count', type=int, default=8, help='how many tiles (8)')
     parser.add_argument('--halo', type=float, default=1.0, help='how far each sees beyond its box, in spacings (1)')

@@ -154,8 +154,8 @@ class AllAtOnce(unittest.TestCase):
         self.assertIsNone(self.both(mesh, np.arange(count), np.repeat(points[:1] + 50, count, axis=0)))
         flat = points.copy()
         flat[:, 2] = np.arange(count) % 2
-        self.assertIsNone(self.both(mesh, np.arange(count), np.unique(flat * [1, 1, 0] + [[k, 0, 0] for k in range(count)],
-                                                                      axis=0)[:count]))
+        line = np.unique(flat * [1, 1, 0] + [[k, 0, 0] for k in range(count)], axis=0)[:count]
+        self.assertIsNone(self.both(mesh, np.arange(count), line))
         mesh.take([3])
         self.assertIsNone(self.both(mesh, np.arange(count), points + 1))
         mesh.add(points[4:5])

@@ -323,7 +323,8 @@ class Shown(unittest.TestCase):
         self.assertEqual(repr(mesh), f'<hanskup.Mesh: 7 points, {len(mesh.simplices)} simplices>')
         self.assertEqual(repr(mesh.alpha(2)), '<hanskup.Shape: radius 2, %d edges, %d triangles, %d tetrahedra>' % (
             len(mesh.alpha(2).edges), len(mesh.alpha(2).triangles), len(mesh.alpha(2).tetrahedra)))
-        self.assertRegex(repr(hanskup.delaunay(np.eye(4, 3))), r'^<hanskup.Mesh: 4 points, 1 simplices, unit 0.000122>$')
+        self.assertRegex(repr(hanskup.delaunay(np.eye(4, 3))),
+                         r'^<hanskup.Mesh: 4 points, 1 simplices, unit 0.000122>$')
         self.assertEqual(repr(hanskup.delaunay(np.eye(4, 3, dtype=int)).voronoi()),
                          '<hanskup.Voronoi: 1 vertices, 6 ridges>')
 

@@ -166,12 +166,13 @@ class AsScipyReads(Real):
 class Numbers(Real):
     def test_a_radius_of_a_small_type(self):
         mesh = hanskup.delaunay(np.random.default_rng(1).integers(0, 400, (60, 3)))
-        for radius in (np.uint8(20), np.int8(100), np.int16(200), np.uint16(300), np.float16(300), np.float32(363.67172),
-                       np.uint64(300), np.array(200), 200, True, np.bool_(True)):
+        for radius in (np.uint8(20), np.int8(100), np.int16(200), np.uint16(300), np.float16(300),
+                       np.float32(363.67172), np.uint64(300), np.array(200), 200, True, np.bool_(True)):
             shape, other = mesh.alpha(radius), mesh.alpha(float(radius))
             self.assertEqual(shape.sixteenths, int(16 * float(radius) ** 2))
             np.testing.assert_array_equal(shape.tetrahedra, other.tetrahedra)
-            np.testing.assert_array_equal(mesh.solid_parts(radius).tetrahedra, mesh.solid_parts(float(radius)).tetrahedra)
+            parts, others = mesh.solid_parts(radius), mesh.solid_parts(float(radius))
+            np.testing.assert_array_equal(parts.tetrahedra, others.tetrahedra)
             self.assertEqual(hanskup.alpha_shape(mesh.points, radius).sixteenths, shape.sixteenths)
 
     def test_what_is_no_radius(self):
@@ -289,8 +290,9 @@ class Told(unittest.TestCase):
         mesh, told = self.warned(np.random.default_rng(2).integers(0, 9, (300, 3)))
         self.assertEqual((float(mesh.rounding), mesh.rounding.turned, told), (0.0, 0, []))
         self.assertEqual(mesh.rounding.together, 300 - len(mesh.grid))
-        self.assertEqual(repr(mesh.rounding), f'<hanskup.Rounding: 0, 0 of the median distance to the nearest neighbour 1; '
-                         f'0 of {mesh.nsimplex} simplices turn over, {300 - len(mesh.grid)} points fell together>')
+        self.assertEqual(repr(mesh.rounding), '<hanskup.Rounding: 0, 0 of the median distance to the nearest '
+                         f'neighbour 1; 0 of {mesh.nsimplex} simplices turn over, '
+                         f'{300 - len(mesh.grid)} points fell together>')
 
     def test_after_edits_copies_and_pickles(self):
         import copy
@@ -316,10 +318,12 @@ class Told(unittest.TestCase):
 
     def test_flat(self):
         random = np.random.default_rng(1)
-        for points, words in ((np.concatenate([uniform(200, random), [[1e6, 0, 0]]]), 'step is 61.* fell together.*1e\\+06'),
+        for points, words in ((np.concatenate([uniform(200, random), [[1e6, 0, 0]]]),
+                               'step is 61.* fell together.*1e\\+06'),
                               (uniform(200, random) * [1, 1, 1e-5], 'though as given they do not'),
                               (uniform(200, random) * [1, 1, 0], 'all 200 points lie in one plane'),
-                              (np.eye(3), 'fewer than four points: 3'), (np.eye(3, dtype=int), 'fewer than four points: 3'),
+                              (np.eye(3), 'fewer than four points: 3'),
+                              (np.eye(3, dtype=int), 'fewer than four points: 3'),
                               (np.zeros((0, 3)), 'fewer than four points'),
                               (np.repeat(np.eye(3), 3, axis=0), 'fewer than four different points: 3 of 9'),
                               (np.array([[1, 2, 3]] * 5 + [[1, 2, 4]] * 9), 'on the grid all lie in one plane')):
@@ -334,7 +338,8 @@ class Placed(Real):
         for points, unit in ((thousandths, 0.001), (thousandths + [5e5, 4e6, -100], 0.001),
                              ((thousandths * 0.3).round(3), 0.00025),
                              (random.integers(0, 11, (300, 3)).astype(float), 2.0 ** -10),
-                             (random.integers(0, 11, (300, 3)) / 10, 1e-4), (random.integers(0, 16384, (99, 3)) / 7, None),
+                             (random.integers(0, 11, (300, 3)) / 10, 1e-4),
+                             (random.integers(0, 16384, (99, 3)) / 7, None),
                              (random.integers(0, 5000, (200, 3)) * 2.0 ** -20, 2.0 ** -21),
                              (random.integers(-3000, 3000, (200, 3)) * 0.005, 0.0025),
                              (random.integers(0, 16384, (300, 3)) * 0.01, 0.01),

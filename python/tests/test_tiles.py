@@ -368,7 +368,8 @@ class ByThreads(unittest.TestCase):
         np.testing.assert_array_equal(again.neighbors, mesh.neighbors)
         mesh.add(mesh.points[:5] + 1e-3)
         mesh.take([7, 8])
-        np.testing.assert_array_equal(mesh.cells, hanskup.delaunay(mesh.points[mesh.living], placing=mesh.placing).cells)
+        other = hanskup.delaunay(mesh.points[mesh.living], placing=mesh.placing)
+        np.testing.assert_array_equal(mesh.cells, other.cells)
         self.assertGreater(len(mesh.alpha(0.1).tetrahedra), 0)
 
     def test_many(self):
