@@ -37,6 +37,8 @@ class Ground:
         to be, (k,), or -1."""
         steps = self.placing.on_grid(places) if self.placing else places.astype(float)
         number = np.full(len(steps), -1)
+        if self.placing is None and len(self._order) == len(self._keys):
+            return steps, number  # where nothing is rounded a place of a point is in a cell that has the point
         with np.errstate(invalid='ignore', over='ignore'):
             near = np.rint(steps)
             could = ((near >= 0) & (near <= GREATEST) & (np.abs(steps - near) <= self._snap)).all(axis=1)
