@@ -24,9 +24,9 @@ MadeSideBySide =
     (known : List ℕ) (a b : List Made) (old new old' new' : List Cell) → AreMade known a old new →
     AreMade known b old' new' → ShareNone a b → AreMade known (a ++ b) (old ++ old') (new ++ new')
 
--- The parts of several workers and a rest are the cells of a set. Where no point stands in the lines of two workers, each
--- line has the reply of the set that those before it leave, one worker's lines behind the other's, and the parts after
--- them and the rest are the cells of the set that all leave.
+-- The parts of several workers and a rest are the cells of a set. Where no point stands in the lines of two workers,
+-- each line has the reply of the set that those before it leave, one worker's lines behind the other's, and the parts
+-- after them and the rest are the cells of the set that all leave.
 abbrev pub WorkersCompose : Type 0
 WorkersCompose =
     (s : List ℕ) (works : List Work) (rest : List Cell) → AreCellsOf s (all_old works ++ rest) → AreWorks s works →
@@ -41,8 +41,8 @@ OrderedByTags =
     SharingAreInOrder made → AreInOrder made sorted → AreAnswered s made →
     AreAnswered s sorted × (set_after s sorted ≡ set_after s made)
 
--- So after a round the history may go on with the lines of all workers in the order of their tags, with the replies that
--- the workers gave, and the parts and the rest are the cells of the points that it leaves.
+-- So after a round the history may go on with the lines of all workers in the order of their tags, with the replies
+-- that the workers gave, and the parts and the rest are the cells of the points that it leaves.
 abbrev pub RoundIsLegal : Type 0
 RoundIsLegal =
     (h entries : List Entry) (works : List Work) (rest : List Cell) (four : List ℕ) → IsLegal h →
@@ -51,8 +51,8 @@ RoundIsLegal =
     AreInOrder (all_made works) (map made_of entries) → AreNumberedFrom (length h) entries →
     IsLegal (h ++ entries) × AreCellsOf (replay (h ++ entries)) (all_new works ++ rest)
 
--- Lines in the order of their tags are worked off: those that were made are in that order, and one that was set aside has
--- a greater tag than each that was made and shares a point with it. So it may be made in a later round.
+-- Lines in the order of their tags are worked off: those that were made are in that order, and one that was set aside
+-- has a greater tag than each that was made and shares a point with it. So it may be made in a later round.
 abbrev pub LeftIsLater : Type 0
 LeftIsLater =
     (lines : List Line) (answers : List (Option Reply)) → length answers ≡ length lines →

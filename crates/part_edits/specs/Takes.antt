@@ -25,8 +25,8 @@ IsComing s v star (Fresh cells) = IsRefilled s v star cells.items
 IsComing s v star Level = is_solid (without_point v s) ≡ false
 IsComing s v star Unknown = Unit {0}
 
--- where the point is taken, the rest of the set is solid, and these and the others are its cells; else the rest is flat,
--- and they are those of the set
+-- where the point is taken, the rest of the set is solid, and these and the others are its cells; else the rest is
+-- flat, and they are those of the set
 abbrev pub IsTakenBeside : List Cell → List ℕ → ℕ → Bool → List Cell → Type 0
 IsTakenBeside others s v true cells =
     (is_solid (without_point v s) ≡ true) × AreCellsOf (without_point v s) (cells ++ others)

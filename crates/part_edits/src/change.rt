@@ -97,8 +97,8 @@ pub fn try_take(
     }
 }
 
-/// Makes an edit. There is no reply where a cell that has to be known stands elsewhere, and none to a move; then nothing
-/// changed.
+/// Makes an edit. There is no reply where a cell that has to be known stands elsewhere, and none to a move; then
+/// nothing changed.
 ///
 /// # Errors
 /// Want of memory. The cells are then as before, in any order.

@@ -1,5 +1,5 @@
-//! A point is taken in a part: its star is opened, and closed with the cells that come. Where the star, or a cell behind
-//! its rim that has to be known, stands elsewhere, it is given up.
+//! A point is taken in a part: its star is opened, and closed with the cells that come. Where the star, or a cell
+//! behind its rim that has to be known, stands elsewhere, it is given up.
 
 ghost use Rattle.std.specs.Prelude.{◌≡◌, ◌++◌, IfOk, List, MatchOption, OnErr, ℕ};
 ghost use Rattle.point_order.specs.Sets.{IsIn};
@@ -51,8 +51,8 @@ fn what_comes(
     }
 }
 
-/// Takes a point of the set, where the rest is solid, and answers whether it is. Where a cell that has to be known stands
-/// elsewhere, there is no answer, and the cells stay as they are.
+/// Takes a point of the set, where the rest is solid, and answers whether it is. Where a cell that has to be known
+/// stands elsewhere, there is no answer, and the cells stay as they are.
 ///
 /// # Errors
 /// Want of memory. The cells are then as before, in any order.

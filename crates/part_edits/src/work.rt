@@ -48,7 +48,8 @@ fn remove_from(points: &mut BTreeSet<Point>, p: Point)
     points.remove(&p);
 }
 
-// Adds a point, and notes it. Where a cell that has to be known stands elsewhere, or memory is wanting, nothing changed.
+// Adds a point, and notes it. Where a cell that has to be known stands elsewhere, or memory is wanting, nothing
+// changed.
 fn add_known(
     alloc: Global,
     linked: &mut LinkedCells,
@@ -118,8 +119,8 @@ fn take_known(
     }
 }
 
-// Makes an edit, and notes it, or leaves it, and then nothing changed: where a cell that has to be known stands elsewhere,
-// where memory is wanting, and each move.
+// Makes an edit, and notes it, or leaves it, and then nothing changed: where a cell that has to be known stands
+// elsewhere, where memory is wanting, and each move.
 fn make_or_leave(
     alloc: Global,
     linked: &mut LinkedCells,
@@ -199,9 +200,9 @@ fn no_answers(alloc: Global, count: usize) -> Result<Vec<Option<Reply>>, AllocEr
     Ok(answers)
 }
 
-/// Works a list of lines off, one after another, and answers the reply to each that was made. The others were set aside:
-/// those that need a cell that stands elsewhere, or memory that is wanting, moves, and each line that shares a point with
-/// an earlier one that was set aside.
+/// Works a list of lines off, one after another, and answers the reply to each that was made. The others were set
+/// aside: those that need a cell that stands elsewhere, or memory that is wanting, moves, and each line that shares a
+/// point with an earlier one that was set aside.
 ///
 /// Of the set of all points it is known which of those of the lines it has, as long as these cells and some others are
 /// its cells; and it is known afterwards.

@@ -174,7 +174,8 @@ module _ {T : Type 0} where
         ),
       )
 
-  misses : (k : Key T) (slots id b n new : ℕ) (c : List ℕ) (me : Me (Option T) (View T)) (s : State (Option T) (View T)) →
+  misses : (k : Key T) (slots id b n new : ℕ) (c : List ℕ) (me : Me (Option T) (View T)) (s : State (Option T)
+      (View T)) →
       IsRule k s → get_elem? s.views id ≡ some me.0 → me.0.hands ≡ hand n c ∷ [] → new ≡ suc n →
       slice_index s.words b ≢ 0
       → Taken k s b id me (Told (step slots b 0 new none) me (slice_index s.words b)) (slice_index s.words b)

@@ -82,7 +82,8 @@ module _ {T : Type 0} where
       total f views ≡ 0
   none_total f g part [] e = refl
   none_total f g part (v ∷ views) e =
-      let a = none_tally f g part v.hands (omega arith) in let r = none_total f g part views (omega arith) in omega arith
+      let a = none_tally f g part v.hands (omega arith) in let r = none_total f g part views
+      (omega arith) in omega arith
 
   -- where one view counts all of a kind, it counts all of a kind that is part of it
   pub alone : (f g : Hand → ℕ) → ((h : Hand) → g h ≡ 0 → f h ≡ 0) → (views : List (View T)) (j : ℕ) (v : View T) →

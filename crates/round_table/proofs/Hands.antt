@@ -55,7 +55,8 @@ module _ {T : Type 0} where
   all_hands : (contents : List T) (claims : List (List ℕ)) (new : List (Taking T)) → length claims ≡ length new →
       ((i : ℕ) (c : List ℕ) (d : Taking T) → i < length new →
       map Some (slice_index_or new i d).hand.items ≡ map (slice_get contents) (slice_index_or claims i c))
-      → map Some (flat_map (λ (s : Taking T). s.hand.items) new) ≡ map (slice_get contents) (flat_map (λ (c : List ℕ). c) claims)
+      → map Some (flat_map (λ (s : Taking T). s.hand.items) new) ≡ map (slice_get contents) (flat_map (λ
+      (c : List ℕ). c) claims)
   all_hands contents [] [] e f = refl
   all_hands contents [] (s ∷ new) e f = absurd (omega arith)
   all_hands contents (c ∷ claims) [] e f = absurd (omega arith)
@@ -72,6 +73,8 @@ module _ {T : Type 0} where
   all_stay contents old new rest empty r =
       let n = r.count.0 in
       let m = r.count.1 in
-      stays contents (flat_map (λ (c : List ℕ). c) r.claims) (flat_map (λ (s : Taking T). s.hand.items) new) rest r.parted
+      stays contents (flat_map (λ (c : List ℕ). c) r.claims) (flat_map (λ
+      (s : Taking T). s.hand.items) new) rest r.parted
       (all_hands contents r.claims new (omega arith) (λ i c d l.
-      r.each i c d (omega arith) ∙ (λ j. map Some (empty i d (omega arith) j) ++ map (slice_get contents) (slice_index_or r.claims i c))))
+      r.each i c d (omega arith) ∙ (λ j. map Some (empty i d (omega arith) j) ++ map (slice_get contents)
+      (slice_index_or r.claims i c))))

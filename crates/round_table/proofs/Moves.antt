@@ -14,7 +14,8 @@ use Rattle.round_table.specs.Plays.{first_hand, other_hands, first_of, but_first
 use Rattle.round_table.proofs.Counted.{tally_append, total_append, total_set}
 
 -- of a view's hands, the first and the others
-first_and_others : (f : Hand → ℕ) (hands : List Hand) → tally f (other_hands hands) + tally f (first_hand hands) ≡ tally f hands
+first_and_others : (f : Hand → ℕ) (hands : List Hand) →
+    tally f (other_hands hands) + tally f (first_hand hands) ≡ tally f hands
 first_and_others f [] = refl
 first_and_others f (h ∷ hands) = omega arith
 

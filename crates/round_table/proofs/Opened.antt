@@ -81,7 +81,8 @@ module _ {T : Type 0} where
         words = ap length words_are ∙ length-replicate (length (contents_of k)) 0;
         few = few;
         low = λ b. let q = word b in omega arith;
-        home = λ b l z. ap (λ (xs : List (Option T)). get_elem? (map some xs) b) slots_are ∙ home_at (contents_of k) b l;
+        home = λ b l z. ap (λ (xs : List (Option T)). get_elem? (map some xs) b) slots_are ∙ home_at
+            (contents_of k) b l;
         once = λ b. let p = none_in (claims_in b) (λ m. refl) (range_with_len 0 k.workers) in
             let q : is_taken (slice_index words b) ≡ 0 = ap is_taken (word b) in omega arith;
         whose = λ m b. let p = none_in (claims_by m b) (λ j. none_by (m == j)) (range_with_len 0 k.workers) in

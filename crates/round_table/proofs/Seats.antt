@@ -40,7 +40,8 @@ module _ {T : Type 0} where
       let e = first_is k v number is l in
       e ∙ (λ i. record { number = number; claims = claims_of (sym e i) } ∷ [])
 
-  pub first_stands : (id : TableId) (k : Key T) (own : TableId) (v : View T) (number : ℕ) → own ≡ id → v ≡ from k number →
+  pub first_stands : (id : TableId) (k : Key T) (own : TableId) (v : View T) (number : ℕ) → own ≡ id →
+      v ≡ from k number →
       number < k.workers → standing own (first_of v) number ≡ fresh (opened_as id k) number
   first_stands id k own v number same is l =
       let e = first_is k v number is l in
@@ -66,7 +67,8 @@ module _ {T : Type 0} where
         states_are = ap (λ (l : List (Worker T _)). map (λ w. w.state) l) none;
       }
 
-  pub deals_on : {S : Type 0} (id : TableId) (k : Key T) (own own' : TableId) (v v' : View T) (workers workers' : List (Worker T S))
+  pub deals_on : {S : Type 0} (id : TableId) (k : Key T) (own own' : TableId) (v v' : View T)
+      (workers workers' : List (Worker T S))
       (states : List S) (number number' : ℕ) (w : Worker T S) → IsDealing id k own v workers states number →
       number < k.workers → own' ≡ own → v' ≡ but_first v → w.pass ≡ fresh (opened_as id k) number →
       workers' ≡ workers ++ w ∷ [] → number' ≡ number + 1
@@ -80,9 +82,11 @@ module _ {T : Type 0} where
           workers = k.workers;
           hands = other_hands (one_less k number l i);
         }) ∙ ap (from k) (sym more);
-        passes = ap (λ (l : List (Worker T S)). map (λ w. w.pass) l) pushed ∙ map-append (λ (w : Worker T S). w.pass) workers (w ∷ [])
+        passes = ap (λ (l : List (Worker T S)). map (λ w. w.pass) l) pushed ∙ map-append (λ
+            (w : Worker T S). w.pass) workers (w ∷ [])
             ∙ (λ i. d.passes i ++ pass i ∷ []) ∙ sym (mapped_more (fresh (opened_as id k)) number)
             ∙ ap (λ (n : ℕ). map (fresh (opened_as id k)) (range_with_len 0 n)) (sym more);
         states_are = ap (λ (l : List (Worker T S)). map (λ w. w.state) l) pushed
-            ∙ map-append (λ (w : Worker T S). w.state) workers (w ∷ []) ∙ ap (λ (l : List S). l ++ w.state ∷ []) d.states_are;
+            ∙ map-append (λ (w : Worker T S). w.state) workers (w ∷ []) ∙ ap (λ
+            (l : List S). l ++ w.state ∷ []) d.states_are;
       }

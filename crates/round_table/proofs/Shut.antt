@@ -94,7 +94,8 @@ range_more a (suc n) = let q : a + 1 + n ≡ a + suc n = omega arith in
 
 times_all : (b : ℕ) (hands : List Hand) → times b (claims_in_all hands) ≡ tally (claims_in b) hands
 times_all b [] = refl
-times_all b (h ∷ hands) = let a = times_append b h.claims (claims_in_all hands) in let r = times_all b hands in omega arith
+times_all b (h ∷ hands) = let a = times_append b h.claims
+    (claims_in_all hands) in let r = times_all b hands in omega arith
 
 tally_each : (hands : List Hand) → tally each hands ≡ length hands
 tally_each [] = refl
@@ -211,7 +212,8 @@ module _ {T : Type 0} where
             ap g q ∙ at_mapped g 0 n b (Some c) (ap (λ (l : List (Option T)). slice_get l b) (sym is) ∙ e));
       }
 
-  pub claims_same : {S : Type 0} (workers : List (Worker T S)) → claims_in_all (map hand_of workers) ≡ all_claims workers
+  pub claims_same : {S : Type 0} (workers : List (Worker T S)) →
+      claims_in_all (map hand_of workers) ≡ all_claims workers
   claims_same [] = refl
   claims_same (w ∷ workers) = ap (λ (l : List ℕ). w.pass.claims ++ l) (claims_same workers)
 
@@ -247,11 +249,13 @@ module _ {T : Type 0} where
   item_is (suc n) x o e = refl
 
   -- one slot more
-  pub empties_on : (k : Key T) (hands : List Hand) (words words' words'' : List ℕ) (slots slots' slots'' : List (Option T))
+  pub empties_on : (k : Key T) (hands : List Hand) (words words' words'' : List ℕ) (slots slots' slots'' : List
+      (Option T))
       (len len' len'' : ℕ) (filled filled' : List Bool) (rest rest' : List (Option T)) (b word : ℕ) (slot : Option T) →
       IsShut k hands words slots → b < length (contents_of k) → len ≡ length (contents_of k) → len' ≡ length filled →
       IsEmptying words words' slots slots' len len' filled (contents_of k) rest b
-      → get_elem? slots' b ≡ some slot → get_elem? words'' b ≡ some word → words'' ≡ words' → slots'' ≡ slots' → len'' ≡ len' →
+      → get_elem? slots' b ≡ some slot → get_elem? words'' b ≡ some word → words'' ≡ words' → slots'' ≡ slots' →
+      len'' ≡ len' →
       filled' ≡ slice_set filled b false → rest' ≡ rest ++ left_if word slot ∷ []
       → IsEmptying words words'' slots slots'' len len'' filled' (contents_of k) rest' (b + 1)
   empties_on k hands words words' words'' slots slots' slots'' len len' len'' filled filled' rest rest' b word slot
@@ -261,14 +265,16 @@ module _ {T : Type 0} where
       let word_is : slice_index words b ≡ word = ap (λ (l : List ℕ). slice_index l b) (sym (same_words ∙ i.words_are))
       ∙ at_index words'' b word read in
       let slot_is : word ≡ 0 → slot ≡ slice_get (contents_of k) b =
-      λ z. some-injective slot (slice_get (contents_of k) b) (sym got ∙ ap (λ (l : List (Option T)). get_elem? l b) i.slots_are
+      λ z. some-injective slot (slice_get (contents_of k) b) (sym got ∙ ap (λ (l : List
+      (Option T)). get_elem? l b) i.slots_are
       ∙ sh.home b inside (word_is ∙ z)) in
       record {
         words_are = same_words ∙ i.words_are;
         slots_are = same_slots ∙ i.slots_are;
         len_is = same_len ∙ i.len_is;
         taken = λ j l. ap (λ (f : List Bool). slice_index_or f j false) marked ∙ dite (ℕ_discrete j b)
-            (λ e. ap (λ (x : ℕ). slice_index_or (slice_set filled b false) x false) e ∙ get_or-set_same filled b false false in_marks)
+            (λ e. ap (λ (x : ℕ). slice_index_or
+            (slice_set filled b false) x false) e ∙ get_or-set_same filled b false false in_marks)
             (λ ne. get_or-set_other filled b j false false ne ∙ i.taken j (omega arith));
         full = λ j l h. ap (λ (f : List Bool). slice_index_or f j false) marked
             ∙ get_or-set_other filled b j false false (λ e. omega arith) ∙ i.full j (omega arith) h;
@@ -279,7 +285,8 @@ module _ {T : Type 0} where
 
   -- how many slots were taken out of
   pub emptied_count : (words words' : List ℕ) (slots slots' : List (Option T)) (len len' : ℕ) (filled : List Bool)
-      (contents : List T) (rest : List (Option T)) (b : ℕ) → IsEmptying words words' slots slots' len len' filled contents rest b →
+      (contents : List T) (rest : List (Option T)) (b : ℕ) →
+      IsEmptying words words' slots slots' len len' filled contents rest b →
       length rest ≡ b
   emptied_count words words' slots slots' len len' filled contents rest b i =
       ap length i.rest_is ∙ length-map (range_with_len 0 b) (left_at words contents) ∙ length_range 0 b

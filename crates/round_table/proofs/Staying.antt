@@ -64,6 +64,7 @@ module _ {T : Type 0} where
       let a : map g (range_with_len 0 (length contents)) ≡ map Some contents = range_from [] contents in
       let l = left_same contents 0 rest (λ b c h. let z : 0 + b ≡ b = omega arith in ap g z ∙ p.left b c h) in
       let b : map g (claims ++ buckets_left 0 rest) ≡ map Some (hands ++ held rest) =
-      map-append g claims (buckets_left 0 rest) ∙ (λ i. sym e i ++ l i) ∙ sym (map-append (λ (x : T). Some x) hands (held rest)) in
+      map-append g claims (buckets_left 0 rest) ∙ (λ i. sym e i ++ l i) ∙ sym (map-append (λ (x : T). Some x) hands
+      (held rest)) in
       unmapped contents (hands ++ held rest)
       (subst (λ (t : List (Option T) × List (Option T)). IsPermutation t.0 t.1) (λ i. (a i, b i)) q)

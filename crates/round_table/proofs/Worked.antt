@@ -65,13 +65,16 @@ module _ {T S : Type 0} where
         of_table = λ k d l. (w.each k d (omega arith)).table;
       }
 
-  claims_flat : (ws : List (Worker T S)) → flat_map (λ (c : List ℕ). c) (map (λ (w : Worker T S). w.pass.claims) ws) ≡ all_claims ws
+  claims_flat : (ws : List (Worker T S)) →
+      flat_map (λ (c : List ℕ). c) (map (λ (w : Worker T S). w.pass.claims) ws) ≡ all_claims ws
   claims_flat [] = refl
   claims_flat (w ∷ ws) = ap (λ (l : List ℕ). w.pass.claims ++ l) (claims_flat ws)
 
   -- the whole round
-  pub round_is : (makes : List T → ℕ → List ℕ → S → S → Type 0) (t : Opened T) (contents : List T) (states states' : List S)
-      (old new after : List (Worker T S)) (rest : List (Option T)) → passes_of old ≡ fresh_passes t → states_of old ≡ states →
+  pub round_is : (makes : List T → ℕ → List ℕ → S → S →
+      Type 0) (t : Opened T) (contents : List T) (states states' : List S)
+      (old new after : List (Worker T S)) (rest : List (Option T)) → passes_of old ≡ fresh_passes t →
+      states_of old ≡ states →
       t.contents ≡ contents → AreWorked makes t old new → after ≡ new → states' ≡ states_of after →
       AreParted t.contents (all_claims after) rest
       → IsRound makes contents states states' rest
@@ -91,7 +94,8 @@ module _ {T S : Type 0} where
           (let p = ap length news in let q = length-map new (λ (x : Worker T S). x.state) in omega arith),
           (let q = length-map new (λ (x : Worker T S). x.pass.claims) in omega arith),
         );
-        parted = subst (λ (p : List T × List ℕ). AreParted p.0 p.1 rest) (λ j. (same j, sym (claims_flat new) j)) parted;
+        parted = subst (λ (p : List T ×
+            List ℕ). AreParted p.0 p.1 rest) (λ j. (same j, sym (claims_flat new) j)) parted;
         each = λ i c d l.
             let dw : Worker T S = record { pass = record { table = t; number = 0; claims = c }; state = d } in
             let k = w.each i dw (omega arith) in
@@ -102,7 +106,8 @@ module _ {T S : Type 0} where
             let before : (slice_index_or old i dw).state ≡ slice_index_or states i d =
             sym (at_mapped (λ (x : Worker T S). x.state) old i dw) ∙ ap (λ (l : List S). slice_index_or l i d) olds in
             let after : (slice_index_or new i dw).state ≡ slice_index_or states' i d =
-            sym (at_mapped (λ (x : Worker T S). x.state) new i dw) ∙ ap (λ (l : List S). slice_index_or l i d) (sym news) in
+            sym (at_mapped (λ (x : Worker T S). x.state) new i dw) ∙ ap (λ (l : List S). slice_index_or l i d)
+            (sym news) in
             subst (λ (p : List T × ℕ × List ℕ × S × S). makes p.0 p.1 p.2 p.3 p.4)
             (λ j. (same j, number j, mine j, before j, after j)) k.made;
       }

@@ -32,7 +32,8 @@ abbrev pub left_at : {T : Type 0} → List ℕ → List T → ℕ → Option T
 left_at words contents b = left_if (slice_index words b) (slice_get contents b)
 
 -- The slots below b were taken out of, and what was left in them stands in the list.
-pub record IsEmptying {T : Type 0} (words words' : List ℕ) (slots slots' : List (Option T)) (len len' : ℕ) (filled : List Bool)
+pub record IsEmptying {T : Type 0} (words words' : List ℕ) (slots slots' : List (Option T)) (len len' : ℕ)
+    (filled : List Bool)
     (contents : List T) (rest : List (Option T)) (b : ℕ) : Type 0 where
   pub words_are : words' ≡ words
   pub slots_are : slots' ≡ slots
@@ -42,7 +43,8 @@ pub record IsEmptying {T : Type 0} (words words' : List ℕ) (slots slots' : Lis
   pub rest_is : rest ≡ map (left_at words contents) (range_with_len 0 b)
 
 -- Seats were dealt to the first workers; the seat that is left stands for the other passes.
-pub record IsDealing {T S : Type 0} (id : TableId) (k : Key T) (own : TableId) (v : View T) (workers : List (Worker T S))
+pub record IsDealing {T S : Type 0} (id : TableId) (k : Key T) (own : TableId) (v : View T) (workers : List
+    (Worker T S))
     (states : List S) (number : ℕ) : Type 0 where
   pub number_is : number ≡ length states
   pub table : own ≡ id

@@ -14,7 +14,8 @@ abbrev pub AreFresh : {T S : Type 0} → Opened T → List (Worker T S) → Type
 AreFresh t workers = All (λ w. w.pass ≡ fresh t w.pass.number) workers
 
 -- what a worker was made of another
-pub record IsWorked {T S : Type 0} (makes : List T → ℕ → List ℕ → S → S → Type 0) (t : Opened T) (old new : Worker T S) :
+pub record IsWorked {T S : Type 0} (makes : List T → ℕ → List ℕ → S → S →
+    Type 0) (t : Opened T) (old new : Worker T S) :
     Type 0 where
   pub table : new.pass.table ≡ t
   pub number : new.pass.number ≡ old.pass.number
@@ -24,7 +25,8 @@ pub record IsWorked {T S : Type 0} (makes : List T → ℕ → List ℕ → S �
 pub record AreWorked {T S : Type 0} (makes : List T → ℕ → List ℕ → S → S → Type 0) (t : Opened T)
     (old new : List (Worker T S)) : Type 0 where
   pub count : length new ≡ length old
-  pub each : (i : ℕ) (d : Worker T S) → i < length old → IsWorked makes t (slice_index_or old i d) (slice_index_or new i d)
+  pub each : (i : ℕ) (d : Worker T S) → i < length old →
+      IsWorked makes t (slice_index_or old i d) (slice_index_or new i d)
 
 -- A round: there are buckets for each worker, which with those that are left are all, each once; the worker with the
 -- number i made of state i what the job makes with its buckets, and what is left is as it was.

@@ -19,7 +19,8 @@ abbrev pub Told : {T : Type 0} → Step (Option T) → Me (Option T) (View T) �
 Told {T} st m found m' =
     (found ≡ 0 → (c : T) × (slice_get m.0.contents st.word ≡ Some c) × (m'.0 ≡ claims m.0 st.word)
     × (m'.1 ≡ (st.word, Some c) ∷ m.1) × (times st.word (claims_of m.0.hands) ≡ 0))
-    × (found ≢ 0 → (m' ≡ m) × (found ≤ m.0.workers) × (found < 2 ^ 32) × ((found ≡ st.second) ↔ (0 < times st.word (claims_of m.0.hands))))
+    × (found ≢ 0 → (m' ≡ m) × (found ≤ m.0.workers) × (found < 2 ^ 32) ×
+    ((found ≡ st.second) ↔ (0 < times st.word (claims_of m.0.hands))))
 
 -- the first hand of a view, and the others
 abbrev pub first_hand : List Hand → List Hand

@@ -53,7 +53,8 @@ pub(crate) fn what_is_left<T: Drop>(
     requires slots { board.shared.table_id.slots ≡ length (contents_of board.shared.key) }
     requires table { place.table_id ≡ board.shared.table_id }
     requires all { length place.me.0.hands ≡ board.shared.key.workers }
-    ensures { IfOk result (λ rest. AreParted (contents_of board.shared.key) (claims_in_all place.me.0.hands) rest.items) }
+    ensures { IfOk result (λ rest. AreParted (contents_of board.shared.key)
+        (claims_in_all place.me.0.hands) rest.items) }
 {
     let count = board.slot_count();
     let mut rest = Vec::with_capacity(alloc, count)?;

@@ -11,8 +11,8 @@ pub fn contents_stay<T>()
         IsPermutation contents (hands ++ held rest) }
 {}
 
-/// Between any two steps: where no word tells of a pass, none has claimed anything in this round, and every bucket has in
-/// its slot what the table was opened with.
+/// Between any two steps: where no word tells of a pass, none has claimed anything in this round, and every bucket has
+/// in its slot what the table was opened with.
 pub fn none_claimed<T>()
     ensures { NoneClaimed T }
 {}

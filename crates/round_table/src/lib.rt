@@ -1,10 +1,10 @@
 //! The table from which the workers of a round claim buckets by value.
 //!
 //! What there is lies in buckets, each in a slot of a table, which has a word for each bucket: 0 while the content is
-//! in its slot, else one more than the number of the pass that has it. A pass claims a bucket by one compare-exchange of
-//! its word and takes the content out by value; where the word is not 0 it is told whose it is. Nothing is put back in a
-//! round, so a bucket is claimed at most once. When all workers have ended, the table is closed with all passes: what
-//! they claimed and what is left in the slots is all that there was, each once.
+//! in its slot, else one more than the number of the pass that has it. A pass claims a bucket by one compare-exchange
+//! of its word and takes the content out by value; where the word is not 0 it is told whose it is. Nothing is put back
+//! in a round, so a bucket is claimed at most once. When all workers have ended, the table is closed with all passes:
+//! what they claimed and what is left in the slots is all that there was, each once.
 //!
 //! ```
 //! let (table, workers) = RoundTable::open(alloc, contents, states)?;   // a pass for each state, numbered from 0

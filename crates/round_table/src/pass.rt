@@ -20,7 +20,8 @@ impl<T> Model for Pass<T> {
 
     ghost view = { λ p. standing p.place.table_id p.place.me.0 p.number };
 
-    ghost invariant = { λ p. p.place.me.0.hands ≡ record { number = p.number; claims = claims_of p.place.me.0.hands } ∷ [] };
+    ghost invariant = { λ p. p.place.me.0.hands ≡ record { number = p.number; claims = claims_of p.place.me.0.hands }
+        ∷ [] };
 }
 
 impl<T> Pass<T> {

@@ -34,12 +34,13 @@ impl<T: Drop> Model for RoundTable<T> {
         } };
 
     ghost invariant = { λ t. (t.board.shared.table_id.words ≡ length (contents_of t.board.shared.key))
-        × (t.board.shared.table_id.slots ≡ length (contents_of t.board.shared.key)) × (0 < t.board.shared.table_id.words) };
+        × (t.board.shared.table_id.slots ≡ length (contents_of t.board.shared.key)) ×
+        (0 < t.board.shared.table_id.words) };
 }
 
 impl<T: Drop> RoundTable<T> {
-    /// A table of these contents, one at least, and a worker with a pass for each of these states; their numbers go from
-    /// 0 on.
+    /// A table of these contents, one at least, and a worker with a pass for each of these states; their numbers go
+    /// from 0 on.
     ///
     /// # Errors
     /// Want of memory. All is then dropped.
@@ -67,8 +68,8 @@ impl<T: Drop> RoundTable<T> {
         self.board.word_count()
     }
 
-    /// Claims a bucket for a pass, and takes its content out. The pass is to be one of this table, and the bucket one of
-    /// its buckets.
+    /// Claims a bucket for a pass, and takes its content out. The pass is to be one of this table, and the bucket one
+    /// of its buckets.
     ///
     /// # Errors
     /// The bucket was claimed before: the number of the pass that has it, which may be this one.

@@ -70,6 +70,7 @@ returns g c =
     let e = c.slot_count-count.ensures in
     let z = c.loop-b.auto.b-end in
     let b : c.loop-b.b ≡ length (contents_of k) = omega arith in
-    parted (contents_of k) (slots_items closed.words) (claims_in_all c.args.place.me.0.hands) c.loop-b.rest.items sh.wide
+    parted (contents_of k) (slots_items closed.words)
+    (claims_in_all c.args.place.me.0.hands) c.loop-b.rest.items sh.wide
     sh.taken (c.loop-b.invariant.2.rest_is
     ∙ ap (λ (n : ℕ). map (left_at (slots_items closed.words) (contents_of k)) (range_with_len 0 n)) b)

@@ -12,5 +12,6 @@ loop-preserved c =
 
 pub returns : goal.returns
 returns c =
-    let q : c.loop.counter ≡ c.args.count = let e = c.loop.auto.counter-end in let t = c.loop-test.false in omega arith in
+    let q : c.loop.counter ≡ c.args.count = let e = c.loop.auto.counter-end in let t = c.loop-test.false in omega
+    arith in
     c.loop.invariant ∙ ap (λ (n : ℕ). replicate n 0) q
